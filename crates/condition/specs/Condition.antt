@@ -1,0 +1,68 @@
+-- Conditions and the words they hold: document 01, "Events and conditions". These are regular expressions and their languages.
+use mathlib.Core.Path.{_≡_}
+use mathlib.Core.Logic.{_⊎_}
+use mathlib.Core.List.{List, [], _∷_, _++_}
+use Prim.Native.Nat.{ℕ, _-_, _^_}
+use lib.Dec.{T}
+use Rattle.bits.specs.Bits.{has}
+
+-- "A word is a finite list of events."
+abbrev pub Word : Type 0
+Word = List ℕ
+
+-- "a leaf, a 4-byte set (bit e for event e)", EMPTY, JOIN, EITHER, STAR
+pub data Condition : Type 0 where
+  leaf : ℕ → Condition
+  empty : Condition
+  join : Condition → Condition → Condition
+  either : Condition → Condition → Condition
+  star : Condition → Condition
+
+-- Kleene star: "zero or more words of its item, one after another"
+pub data Repeated (P : Word → Type 0) : Word → Type 0 where
+  never : Repeated P []
+  once-more : {u v : Word} → P u → Repeated P v → Repeated P (u ++ v)
+
+-- Membership in the language: the word w is in the language of the condition.
+abbrev pub Holds : Condition → Word → Type 0
+-- "holds the one-event words of its set; the set 0 holds no word"
+Holds (leaf s) w = (e : ℕ) × T (has s e) × (w ≡ e ∷ [])
+-- "EMPTY holds just the empty word"
+Holds empty w = w ≡ []
+-- "JOIN holds a word of the first followed by one of the second"
+Holds (join a b) w = (u : Word) × (v : Word) × (w ≡ u ++ v) × Holds a u × Holds b v
+-- "EITHER holds the words of both": the union
+Holds (either a b) w = Holds a w ⊎ Holds b w
+-- "STAR holds zero or more words of its item, one after another"
+Holds (star a) w = Repeated (λ u. Holds a u) w
+
+-- Language inclusion: ""A in B" says that every word of A is in B"
+infix 40 _⊆_
+abbrev pub _⊆_ : Condition → Condition → Type 0
+a ⊆ b = (w : Word) → Holds a w → Holds b w
+
+-- "the set 0 holds no word"
+abbrev pub noWord : Condition
+noWord = leaf 0
+
+-- the one word of one event
+abbrev pub event : ℕ → Condition
+event e = leaf (2 ^ e)
+
+-- The temporal abbreviations, over n events, for a set of events A.
+
+-- "any": every event
+abbrev pub any : ℕ → Condition
+any n = leaf (2 ^ n - 1)
+
+-- ""finally A" is (not A)* A any*"
+abbrev pub finally : ℕ → ℕ → Condition
+finally n a = join (star (leaf (2 ^ n - 1 - a))) (join (leaf a) (star (any n)))
+
+-- ""globally A" is A*"
+abbrev pub globally : ℕ → Condition
+globally a = star (leaf a)
+
+-- ""next A" is any A any*"
+abbrev pub next : ℕ → ℕ → Condition
+next n a = join (any n) (join (leaf a) (star (any n)))
