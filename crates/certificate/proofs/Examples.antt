@@ -34,7 +34,7 @@ cases =
     ∷ case (event 2) emptyOrTwoFirst (pair 0 1 ∷ pair 1 6 ∷ []) (fault 4 0 2 1)
     ∷ case (event 2) emptyOrTwoFirst (pair 0 1 ∷ pair 1 2 ∷ pair 2 2 ∷ []) (fault 2 2 0 0)
     ∷ case (event 2) emptyOrTwoFirst (pair 0 1 ∷ pair 1 2 ∷ pair 1 8 ∷ []) (fault 2 2 0 0)
-    -- event 31 is the last that is tested
+    -- the last event, 31, is tested too
     ∷ case (event 31) (any 32) (pair 0 1 ∷ []) (fault 4 0 31 1)
     -- the pair after each of the events that follow event 2 is listed, and is missing
     ∷ case twoFirst emptyOrTwoFirst (pair 0 1 ∷ pair 1 2 ∷ pair 2 4 ∷ []) fine
