@@ -1,0 +1,82 @@
+-- What the loader returns: document 01, "What the loader returns".
+use Prim.Native.Nat.{ℕ}
+use mathlib.Core.Bool.{Bool, cond}
+use mathlib.Core.Option.{Option, none, some}
+use mathlib.Core.List.{List, [], _∷_}
+use lib.ListN.{length}
+use lib.Dec.{eqb}
+use Rattle.condition.specs.Places.{nullable}
+use Rattle.certificate.specs.Certificate.{Certificate, Finding, fine, fault, unless, check}
+use Rattle.sheet.specs.Model.{Model}
+use Rattle.sheet.specs.Sheet.{Sheet}
+use Rattle.sheet.specs.Reading.{Outcome, whole, refusal, readSheet}
+use Rattle.sheet.specs.Decode.{sheetOf}
+use Rattle.runs.specs.Rules.{Claim, _isIn_, holdsEmpty, Rule, rules, total, count}
+
+pub data Report : Type 0 where
+  -- "accepted, count"
+  accepted : (count : ℕ) → Report
+  -- a refusal's number, and its place where it has one
+  refused : (number : ℕ) (at : Option ℕ) → Report
+  -- "11, rule, subject, clause, pair, event, place"
+  unproved : (rule subject clause pair event place : ℕ) → Report
+
+-- One rule's test -------------------------------------------------------------------------------------------------------
+
+-- "passes all rule tests": by its certificate, or, "Clause 5 is for rules without a certificate", by the empty word
+abbrev pub testOf : ℕ → Claim → Certificate → Finding
+testOf events (a isIn b) c = check events a b c
+testOf events (holdsEmpty a) c = unless (nullable a) (fault 5 0 0 0)
+
+-- "Rules 3, 5, 6 and 7 to 17 have a certificate each, in that order": how many certificates a claim needs
+abbrev pub needed : Claim → ℕ
+needed (a isIn b) = 1
+needed (holdsEmpty a) = 0
+
+unfoldable pub certificatesNeeded : List Rule → ℕ
+unfolding total
+certificatesNeeded xs = total (λ x. needed (x .claim)) xs
+
+-- the next certificate, and those that a claim leaves for the rules after it
+abbrev pub nextOf : List Certificate → Certificate
+nextOf [] = []
+nextOf (c ∷ cs) = c
+
+abbrev pub allButNext : List Certificate → List Certificate
+allButNext [] = []
+allButNext (c ∷ cs) = cs
+
+abbrev pub leftAfter : Claim → List Certificate → List Certificate
+leftAfter (a isIn b) cs = allButNext cs
+leftAfter (holdsEmpty a) cs = cs
+
+-- The verdict -----------------------------------------------------------------------------------------------------------
+
+-- the report of a rule's fault, and without one that of what comes after
+abbrev pub reported : Rule → Finding → Report → Report
+reported x fine after = after
+reported x (fault c i e l) after = unproved (x .number) (x .subject) c i e l
+
+-- "11, ..: well formed, and this is the first fault"; with no fault, the report `otherwise`
+unfoldable pub firstFault : ℕ → List Rule → List Certificate → Report → Report
+firstFault events [] cs otherwise = otherwise
+firstFault events (x ∷ xs) cs otherwise =
+    let after = firstFault events xs (leftAfter (x .claim) cs) otherwise in
+    reported x (testOf events (x .claim) (nextOf cs)) after
+
+-- "10, length: certificates are more or fewer than the rules need"; "accepted, count: every rule is met"
+unfoldable pub judged : Model → List ℕ → Sheet → Report
+unfolding rules count certificatesNeeded check nullable firstFault
+judged M s S =
+    let first = firstFault (M .events) (rules S) (S .certificates) (accepted (count S)) in
+    cond (eqb (length (S .certificates)) (certificatesNeeded (rules S))) first (refused 10 (some (length s)))
+
+unfoldable pub verdictAfter : Model → List ℕ → Outcome → Report
+unfolding judged sheetOf
+verdictAfter M s (refusal n at) = refused n (some at)
+verdictAfter M s (whole r) = judged M s (sheetOf M s)
+
+-- what the loader returns for the bytes s
+unfoldable pub verdictOf : Model → List ℕ → Report
+unfolding readSheet verdictAfter
+verdictOf M s = verdictAfter M s (readSheet M s)
