@@ -9,9 +9,9 @@ use Rattle.condition.specs.Condition.{Word, Holds}
 use Rattle.sheet.specs.Model.{large}
 use Rattle.sheet.specs.Sheet.{condition}
 use Rattle.sheet.specs.Decode.{sheetOf}
-use Rattle.loader.specs.Verdict.{verdictOf}
-use Rattle.loader.specs.WordTest.{tested, wordTest}
-use Rattle.loader.specs.Line.{ascii, line}
+use Rattle.verdict.specs.Verdict.{verdictOf}
+use Rattle.verdict.specs.WordTest.{tested, wordTest}
+use Rattle.verdict.specs.Line.{ascii, line}
 
 -- a sheet's bytes and the line that the loading program prints; or a sheet's bytes, the number of a condition of it, a word, and whether the
 -- condition holds it

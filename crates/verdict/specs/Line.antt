@@ -6,7 +6,7 @@ use mathlib.Core.Bool.{Bool, true, false, cond}
 use mathlib.Core.Option.{Option, none, some}
 use mathlib.Core.List.{List, [], _∷_, _++_}
 use lib.Dec.{ltb}
-use Rattle.loader.specs.Verdict.{Report, accepted, refused, unproved}
+use Rattle.verdict.specs.Verdict.{Report, accepted, refused, unproved}
 
 -- the bytes of a text in ASCII
 unfoldable pub ascii : String → List ℕ

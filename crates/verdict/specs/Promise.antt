@@ -16,8 +16,8 @@ use Rattle.sheet.specs.Reading.{Reading, whole, refusal, readSheet}
 use Rattle.sheet.specs.Decode.{sheetOf}
 use Rattle.runs.specs.Rules.{Claim, _isIn_, holdsEmpty, Rule, _of_says_, rules, AllMet, count}
 use Rattle.runs.specs.Runs.{Move, run, Safe}
-use Rattle.loader.specs.Verdict.{Report, accepted, refused, unproved, testOf, certificatesNeeded, nextOf, verdictOf}
-use Rattle.loader.specs.WordTest.{Answer, tested, untested, wordTest}
+use Rattle.verdict.specs.Verdict.{Report, accepted, refused, unproved, testOf, certificatesNeeded, nextOf, verdictOf}
+use Rattle.verdict.specs.WordTest.{Answer, tested, untested, wordTest}
 
 -- Of a sheet's bytes ----------------------------------------------------------------------------------------------------
 

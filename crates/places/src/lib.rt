@@ -1,0 +1,13 @@
+// The places of a condition, or of two joined, as tables: from the postfix records in the sheet's bytes.
+
+// A side's places besides its tables: how many leaves it has, and the set of places that end a word.
+pub struct Side {
+    pub leaves: usize,
+    pub ends: u64,
+}
+
+// A part of a side: the condition whose records stand at an offset, or one event.
+pub enum Part {
+    Condition(usize),
+    Event(usize),
+}

@@ -1,0 +1,119 @@
+-- Testing the rules in order finds nothing wrong exactly where each passes, and else the first fault; the verdict of a whole reading.
+use mathlib.Core.Path.{_≡_, refl, sym, ap, _∙_, subst}
+use mathlib.Core.Bool.{Bool, true, false, cond}
+use mathlib.Core.Logic.{_⊎_, inl, inr}
+use mathlib.Core.Option.{Option, none, some}
+use mathlib.Core.List.{List, [], _∷_, _++_, append-assoc}
+use Prim.Native.Nat.{ℕ, suc, _+_}
+use native.Mathlib.Omega.{arith}
+use lib.ListN.{length}
+use lib.Dec.{T, eqb}
+use Rattle.certificate.specs.Certificate.{Certificate, Finding, fine, fault}
+use Rattle.sheet.specs.Model.{Model}
+use Rattle.sheet.specs.Sheet.{Sheet}
+use Rattle.runs.specs.Rules.{Claim, _isIn_, holdsEmpty, Rule, _of_says_, rules, total, count}
+use Rattle.verdict.specs.Verdict.{Report, accepted, refused, unproved, testOf, needed, certificatesNeeded, nextOf, leftAfter, reported, firstFault, judged}
+use Rattle.verdict.specs.Promise.{EachCertified, done, bare, certified, Passes, FirstFault}
+
+needed-is : (x : Rule) (xs : List Rule) → certificatesNeeded (x ∷ xs) ≡ needed (x .claim) + certificatesNeeded xs
+unfolding certificatesNeeded total
+needed-is x xs = refl
+
+none-needed : certificatesNeeded [] ≡ 0
+unfolding certificatesNeeded total
+none-needed = refl
+
+module _ (events : ℕ) (otherwise : Report) where
+  -- what testing the rules with their certificates comes to
+  pub data Tried (xs : List Rule) (cs : List Certificate) (report : Report) : Type 0 where
+    all-pass : EachCertified (Passes events) xs cs → report ≡ otherwise → Tried xs cs report
+    one-fails : (r k c i e l : ℕ) → FirstFault events xs cs r k c i e l → report ≡ unproved r k c i e l → Tried xs cs report
+
+  first-is : (x : Rule) (xs : List Rule) (cs : List Certificate)
+      → firstFault events (x ∷ xs) cs otherwise
+      ≡ reported x (testOf events (x .claim) (nextOf cs)) (firstFault events xs (leftAfter (x .claim) cs) otherwise)
+  unfolding firstFault
+  first-is x xs cs = refl
+
+  -- the next rule fails
+  fails-here : (n k : ℕ) (claim : Claim) (xs : List Rule) (cs : List Certificate) (c i e l : ℕ) → testOf events claim (nextOf cs) ≡ fault c i e l
+      → FirstFault events ((n of k says claim) ∷ xs) cs n k c i e l
+  fails-here n k claim xs cs c i e l h =
+      record {
+        before = [];
+        failing = claim;
+        after = xs;
+        used = [];
+        unused = cs;
+        rules-are = refl;
+        certificates-are = refl;
+        before-pass = done;
+        fails = h;
+      }
+
+  -- the next rule passes, and takes the certificates `mine`
+  module _ (x : Rule) (mine : List Certificate)
+      (longer : (ys : List Rule) (ds : List Certificate) → EachCertified (Passes events) ys ds → EachCertified (Passes events) (x ∷ ys) (mine ++ ds)) where
+    fails-later : (xs : List Rule) (cs : List Certificate) (r k c i e l : ℕ) → FirstFault events xs cs r k c i e l
+        → FirstFault events (x ∷ xs) (mine ++ cs) r k c i e l
+    fails-later xs cs r k c i e l f =
+        record {
+          before = x ∷ f .before;
+          failing = f .failing;
+          after = f .after;
+          used = mine ++ f .used;
+          unused = f .unused;
+          rules-are = ap (λ (ys : List Rule). x ∷ ys) (f .rules-are);
+          certificates-are = ap (λ (ds : List Certificate). mine ++ ds) (f .certificates-are) ∙ sym (append-assoc mine (f .used) (f .unused));
+          before-pass = longer (f .before) (f .used) (f .before-pass);
+          fails = f .fails;
+        }
+
+    tried-more : (xs : List Rule) (cs : List Certificate) (report : Report) → Tried xs cs report → Tried (x ∷ xs) (mine ++ cs) report
+    tried-more xs cs report (all-pass p e) = all-pass (longer xs cs p) e
+    tried-more xs cs report (one-fails r k c i e l f h) = one-fails r k c i e l (fails-later xs cs r k c i e l f) h
+
+  -- one rule, by what its test finds
+  one-tried : (n k : ℕ) (claim : Claim) (mine : List Certificate) (xs : List Rule) (cs : List Certificate)
+      → ((ys : List Rule) (ds : List Certificate) → testOf events claim (nextOf (mine ++ cs)) ≡ fine → EachCertified (Passes events) ys ds
+      → EachCertified (Passes events) ((n of k says claim) ∷ ys) (mine ++ ds))
+      → (after : Report) → Tried xs cs after
+      → Tried ((n of k says claim) ∷ xs) (mine ++ cs) (reported (n of k says claim) (testOf events claim (nextOf (mine ++ cs))) after)
+  one-tried n k claim mine xs cs longer after t = go (testOf events claim (nextOf (mine ++ cs))) refl
+    where
+      go : (f : Finding) → testOf events claim (nextOf (mine ++ cs)) ≡ f
+          → Tried ((n of k says claim) ∷ xs) (mine ++ cs) (reported (n of k says claim) f after)
+      go fine h = tried-more (n of k says claim) mine (λ ys ds p. longer ys ds h p) xs cs after t
+      go (fault c i e l) h = one-fails n k c i e l (fails-here n k claim xs (mine ++ cs) c i e l h) refl
+
+  -- TRIED: with as many certificates as the rules need
+  pub tried : (xs : List Rule) (cs : List Certificate) → length cs ≡ certificatesNeeded xs → Tried xs cs (firstFault events xs cs otherwise)
+  unfolding firstFault
+  tried [] [] h = all-pass done refl
+  tried [] (c ∷ cs) h = absurd (omega (arith, none-needed, h))
+  tried (x ∷ xs) cs h = go (x .claim) cs (h ∙ needed-is x xs) (tried xs)
+    where
+      go : (claim : Claim) (cs : List Certificate) → length cs ≡ needed claim + certificatesNeeded xs
+          → ((ds : List Certificate) → length ds ≡ certificatesNeeded xs → Tried xs ds (firstFault events xs ds otherwise))
+          → Tried ((x .number of x .subject says claim) ∷ xs) cs
+          (reported (x .number of x .subject says claim) (testOf events claim (nextOf cs)) (firstFault events xs (leftAfter claim cs) otherwise))
+      go (holdsEmpty a) cs l ih =
+          one-tried (x .number) (x .subject) (holdsEmpty a) [] xs cs (λ ys ds p t. bare p t) (firstFault events xs cs otherwise) (ih cs (omega (arith, l)))
+      go (a isIn b) [] l ih = absurd (omega (arith, l))
+      go (a isIn b) (c ∷ cs) l ih =
+          one-tried (x .number) (x .subject) (a isIn b) (c ∷ []) xs cs (λ ys ds p t. certified p t) (firstFault events xs cs otherwise) (ih cs (omega (arith, l)))
+
+  -- and the other way round: where each passes, nothing is found
+  pub pass-all : {xs : List Rule} {cs : List Certificate} → EachCertified (Passes events) xs cs → firstFault events xs cs otherwise ≡ otherwise
+  unfolding firstFault
+  pass-all done = refl
+  pass-all (bare {n = n} {k = k} {a = a} {xs = xs} {cs = cs} p t) =
+      ap (λ (v : Finding). reported (n of k says holdsEmpty a) v (firstFault events xs cs otherwise)) p ∙ pass-all t
+  pass-all (certified {n = n} {k = k} {a = a} {b = b} {c = c} {xs = xs} {cs = cs} p t) =
+      ap (λ (v : Finding). reported (n of k says a isIn b) v (firstFault events xs cs otherwise)) p ∙ pass-all t
+
+-- each rule that needs a certificate has one of the list
+pub enough-certified : {P : Claim → Certificate → Type 0} {xs : List Rule} {cs : List Certificate} → EachCertified P xs cs → length cs ≡ certificatesNeeded xs
+enough-certified done = sym none-needed
+enough-certified (bare {n = n} {k = k} {a = a} {xs = xs} p t) = omega (arith, enough-certified t, needed-is (n of k says holdsEmpty a) xs)
+enough-certified (certified {n = n} {k = k} {a = a} {b = b} {xs = xs} p t) = omega (arith, enough-certified t, needed-is (n of k says a isIn b) xs)
