@@ -1,0 +1,121 @@
+-- The seventeen rules of a sheet: document 01, "Seventeen rules". Each rule is a claim about the languages of the sheet's conditions; the list
+-- has them in the order of testing, and `Met` says what a claim says.
+use Prim.Native.Nat.{ℕ, suc, _+_, _*_}
+use mathlib.Core.Option.{Option, none, some}
+use mathlib.Core.List.{List, [], _∷_, _++_}
+use Rattle.condition.specs.Condition.{Condition, join, Holds, _⊆_, event}
+use Rattle.sheet.specs.Each.{Each}
+use Rattle.sheet.specs.Sheet.{Body, Method, Step, event-step, call-step, pass-step, Sheet, past, own, due, pre, trace, future}
+
+-- ""A in B" says that every word of A is in B"; or A holds the empty word
+infix 30 _isIn_
+pub data Claim : Type 0 where
+  _isIn_ : Condition → Condition → Claim
+  holdsEmpty : Condition → Claim
+
+abbrev pub Met : Claim → Type 0
+Met (a isIn b) = a ⊆ b
+Met (holdsEmpty a) = Holds a []
+
+-- "An unproved answer names its rule, and the rule its method or step": the subject is a method, or from rule 7 on a step
+pub record Rule : Type 0 where
+  pub number : ℕ
+  pub subject : ℕ
+  pub claim : Claim
+
+infix 20 _of_says_
+abbrev pub _of_says_ : ℕ → ℕ → Claim → Rule
+n of k says c = record { number = n; subject = k; claim = c }
+
+module _ (S : Sheet) where
+  -- "1 and 2, method 0: pre, and future, hold the empty word", of the method m that runs start at
+  abbrev pub firstRules : ℕ → List Rule
+  firstRules m = (1 of m says holdsEmpty (pre S m)) ∷ (2 of m says holdsEmpty (future S m)) ∷ []
+
+  -- "For each method with body: 3 pre in past(entry); 4 own(entry) holds the empty word; 5 own(exit) in trace; 6 future in due(exit)."
+  abbrev pub methodRules : ℕ → Option Body → List Rule
+  methodRules m none = []
+  methodRules m (some b) =
+      (3 of m says pre S m isIn past S (b .entry))
+      ∷ (4 of m says holdsEmpty (own S (b .entry)))
+      ∷ (5 of m says own S (b .exit) isIn trace S m)
+      ∷ (6 of m says future S m isIn due S (b .exit))
+      ∷ []
+
+  -- "p and q are a step's from and to, T the called method's trace, a the event"; "AB is A joined with B"
+  abbrev pub stepRules : ℕ → Step → List Rule
+  -- "Event step: 7 past(p)a in past(q); 8 own(p)a in own(q); 9 a due(q) in due(p)."
+  stepRules i (event-step p q a) =
+      (7 of i says join (past S p) (event a) isIn past S q)
+      ∷ (8 of i says join (own S p) (event a) isIn own S q)
+      ∷ (9 of i says join (event a) (due S q) isIn due S p)
+      ∷ []
+  -- "Call: 10 past(p) in pre; 11 past(p)T in past(q); 12 own(p)T in own(q); 13 due(q) in future; 14 T due(q) in due(p)."
+  stepRules i (call-step p q m) =
+      (10 of i says past S p isIn pre S m)
+      ∷ (11 of i says join (past S p) (trace S m) isIn past S q)
+      ∷ (12 of i says join (own S p) (trace S m) isIn own S q)
+      ∷ (13 of i says due S q isIn future S m)
+      ∷ (14 of i says join (trace S m) (due S q) isIn due S p)
+      ∷ []
+  -- "Pass: 15 past(p) in past(q); 16 own(p) in own(q); 17 due(q) in due(p)."
+  stepRules i (pass-step p q) =
+      (15 of i says past S p isIn past S q)
+      ∷ (16 of i says own S p isIn own S q)
+      ∷ (17 of i says due S q isIn due S p)
+      ∷ []
+
+  -- "methods ascending, steps ascending, each one's rules by number", from the number k on
+  unfoldable pub methodsRules : ℕ → List Method → List Rule
+  methodsRules k [] = []
+  methodsRules k (m ∷ ms) = methodRules k (m .body) ++ methodsRules (suc k) ms
+
+  unfoldable pub stepsRules : ℕ → List Step → List Rule
+  stepsRules k [] = []
+  stepsRules k (t ∷ ts) = stepRules k t ++ stepsRules (suc k) ts
+
+-- "They are tested in this order: 1, 2, methods ascending, steps ascending", where runs start at the method m
+unfoldable pub rulesFrom : ℕ → Sheet → List Rule
+unfolding methodsRules stepsRules
+rulesFrom m S = firstRules S m ++ (methodsRules S 0 (S .methods) ++ stepsRules S 0 (S .steps))
+
+-- document 01's runs start at method 0
+unfoldable pub rules : Sheet → List Rule
+unfolding rulesFrom
+rules S = rulesFrom 0 S
+
+-- the rules are true: what each of them says holds of the conditions' languages
+abbrev pub AllMet : List Rule → Type 0
+AllMet = Each (λ x. Met (x .claim))
+
+-- The count: "2 + 4b + 3e + 5c + 3p for b methods with body, e event, c call and p pass steps" ---------------------------
+
+abbrev pub oneIfSome : Option Body → ℕ
+oneIfSome none = 0
+oneIfSome (some b) = 1
+
+abbrev pub isBodied : Method → ℕ
+isBodied m = oneIfSome (m .body)
+
+abbrev pub isEvent : Step → ℕ
+isEvent (event-step p q a) = 1
+isEvent (call-step p q m) = 0
+isEvent (pass-step p q) = 0
+
+abbrev pub isCall : Step → ℕ
+isCall (event-step p q a) = 0
+isCall (call-step p q m) = 1
+isCall (pass-step p q) = 0
+
+abbrev pub isPass : Step → ℕ
+isPass (event-step p q a) = 0
+isPass (call-step p q m) = 0
+isPass (pass-step p q) = 1
+
+unfoldable pub total : {A : Type 0} → (A → ℕ) → List A → ℕ
+total f [] = 0
+total f (x ∷ xs) = f x + total f xs
+
+unfoldable pub count : Sheet → ℕ
+unfolding total
+count S = 2 + 4 * total isBodied (S .methods) + 3 * total isEvent (S .steps) + 5 * total isCall (S .steps) + 3 * total isPass (S .steps)

@@ -1,0 +1,201 @@
+-- Runs of a sheet, and what demand 3 asks of them: document 01, "Runs".
+use mathlib.Core.Path.{_≡_}
+use Prim.Native.Nat.{ℕ, _+_}
+use mathlib.Core.Bool.{Bool, true, false, cond}
+use mathlib.Core.Option.{Option, none, some}
+use mathlib.Core.List.{List, [], _∷_, _++_, map}
+use lib.ListN.{length, getElem?, drop}
+use lib.Dec.{eqb}
+use Rattle.condition.specs.Condition.{Word, Condition, Holds}
+use Rattle.condition.specs.Places.{accepts}
+use Rattle.sheet.specs.Each.{Each}
+use Rattle.sheet.specs.Sheet.{Body, Step, event-step, call-step, pass-step, Sheet, pre, trace, future, body}
+
+-- The state of a run ----------------------------------------------------------------------------------------------------
+
+-- Which activation a call is, which document 01's promises do not read: how many calls began before it, and that number of each call that was
+-- open when it began, the caller's first.
+pub record Activation : Type 0 where
+  pub number : ℕ
+  pub callers : List ℕ
+
+-- "A call has its method, its step (the outermost has none), the history at its beginning"
+pub record Call : Type 0 where
+  pub method : ℕ
+  pub step : Option ℕ
+  pub began : Word
+  pub activation : Activation
+
+-- ".. and, once returned, the history at its return"
+pub record Returned : Type 0 where
+  pub call : Call
+  pub at : Word
+
+-- "A run has a history (the events raised so far), open calls, of which the innermost is active, returned calls, and a point where control is."
+pub record State : Type 0 where
+  pub history : Word
+  -- the innermost first
+  pub open-calls : List Call
+  -- the last to return first
+  pub returned-calls : List Returned
+  pub point : ℕ
+  pub ended : Bool
+
+-- "every call so far"
+abbrev pub calls : State → List Call
+calls s = s .open-calls ++ map (λ r. r .call) (s .returned-calls)
+
+-- What a history adds to an earlier one, which it begins with: histories only grow (proofs/Grow).
+abbrev pub since : Word → Word → Word
+since before after = drop (length before) after
+
+-- "The word it raised is what the second adds to the first."
+abbrev pub raised : Returned → Word
+raised r = since (r .call .began) (r .at)
+
+-- "It starts at the entry of method 0 with no events, method 0 its one open call": here at the method m
+abbrev pub entryOf : Option Body → ℕ
+entryOf none = 0
+entryOf (some b) = b .entry
+
+unfoldable pub start : Sheet → ℕ → State
+start S m =
+    record {
+      history = [];
+      open-calls = record { method = m; step = none; began = []; activation = record { number = 0; callers = [] } } ∷ [];
+      returned-calls = [];
+      point = entryOf (body S m);
+      ended = false;
+    }
+
+-- Moves -----------------------------------------------------------------------------------------------------------------
+
+-- "A move is a return, or names a step, with a word if the step calls a primitive." A word given with another step is not read.
+pub data Move : Type 0 where
+  return : Move
+  by-step : (step : ℕ) (word : Word) → Move
+
+-- a word is raised, and control goes to the point q
+abbrev pub raise : Word → ℕ → State → State
+raise w q s =
+    record { history = s .history ++ w; open-calls = s .open-calls; returned-calls = s .returned-calls; point = q; ended = s .ended }
+
+-- the call of the method m that step i makes in the state s
+abbrev pub newCall : State → ℕ → ℕ → Call
+newCall s i m =
+    record {
+      method = m;
+      step = some i;
+      began = s .history;
+      activation =
+          record {
+            number = length (s .open-calls) + length (s .returned-calls);
+            callers = map (λ c. c .activation .number) (s .open-calls);
+          };
+    }
+
+-- "A call of a method with body opens it and goes to its entry."
+abbrev pub openCall : Call → ℕ → State → State
+openCall c entry s =
+    record { history = s .history; open-calls = c ∷ s .open-calls; returned-calls = s .returned-calls; point = entry; ended = s .ended }
+
+-- a call that was not opened, or is open no longer, returns now
+abbrev pub returnedNow : Call → State → State
+returnedNow c s =
+    record {
+      history = s .history;
+      open-calls = s .open-calls;
+      returned-calls = record { call = c; at = s .history } ∷ s .returned-calls;
+      point = s .point;
+      ended = s .ended;
+    }
+
+-- "A call of a primitive needs a word of the primitive's trace, whichever it is; it raises that word and returns to the step's target, all in
+-- one move."
+abbrev pub makeCall : State → Call → Word → ℕ → Condition → Option Body → State
+makeCall s c w q trace none = cond (accepts trace w) (returnedNow c (raise w q s)) s
+makeCall s c w q trace (some b) = openCall c (b .entry) s
+
+-- "An event step raises its event; a pass raises none; both lead to their target."
+abbrev pub makeStep : Sheet → State → ℕ → Word → Step → State
+makeStep S s i w (event-step p q a) = raise (a ∷ []) q s
+makeStep S s i w (call-step p q m) = makeCall s (newCall s i m) w q (trace S m) (body S m)
+makeStep S s i w (pass-step p q) = raise [] q s
+
+abbrev pub fromOf : Step → ℕ
+fromOf (event-step p q a) = p
+fromOf (call-step p q m) = p
+fromOf (pass-step p q) = p
+
+abbrev pub toOf : Step → ℕ
+toOf (event-step p q a) = q
+toOf (call-step p q m) = q
+toOf (pass-step p q) = q
+
+-- "A step needs control at its from."
+abbrev pub tryStep : Sheet → State → ℕ → Word → Option Step → State
+tryStep S s i w none = s
+tryStep S s i w (some t) = cond (eqb (s .point) (fromOf t)) (makeStep S s i w t) s
+
+-- the step that made a call, if one did, and where a return from it leads: "to the target of the call's step, if it has one"
+abbrev pub stepOf : Sheet → Option ℕ → Option Step
+stepOf S none = none
+stepOf S (some i) = getElem? (S .steps) i
+
+abbrev pub targetOr : ℕ → Option Step → ℕ
+targetOr here none = here
+targetOr here (some t) = toOf t
+
+abbrev pub noneOpen : List Call → Bool
+noneOpen [] = true
+noneOpen (c ∷ cs) = false
+
+-- "it closes that call and leads to the target of the call's step, if it has one. The run ends when the outermost method 0 returns": then no
+-- call is open
+abbrev pub close : Sheet → State → Call → List Call → State
+close S s c callers =
+    record {
+      history = s .history;
+      open-calls = callers;
+      returned-calls = record { call = c; at = s .history } ∷ s .returned-calls;
+      point = targetOr (s .point) (stepOf S (c .step));
+      ended = noneOpen callers;
+    }
+
+-- "A return needs control at the active method's exit point"
+abbrev pub exitsAt : Option Body → ℕ → Bool
+exitsAt none p = false
+exitsAt (some b) p = eqb p (b .exit)
+
+abbrev pub tryReturn : Sheet → State → List Call → State
+tryReturn S s [] = s
+tryReturn S s (c ∷ callers) = cond (exitsAt (body S (c .method)) (s .point)) (close S s c callers) s
+
+abbrev pub tryMove : Sheet → State → Move → State
+tryMove S s return = tryReturn S s (s .open-calls)
+tryMove S s (by-step i w) = tryStep S s i w (getElem? (S .steps) i)
+
+-- "A move that cannot be made, and any move after the end, changes nothing."
+unfoldable pub move : Sheet → State → Move → State
+move S s m = cond (s .ended) s (tryMove S s m)
+
+-- "Each move starts from what the last one left, and nothing else changes a run or its sheet."
+unfoldable pub runOn : Sheet → State → List Move → State
+runOn S s [] = s
+runOn S s (m ∷ ms) = runOn S (move S s m) ms
+
+-- the run of a list of moves, from a fresh start of the method m
+unfoldable pub run : Sheet → ℕ → List Move → State
+unfolding start move runOn accepts
+run S m ms = runOn S (start S m) ms
+
+-- Demand 3 --------------------------------------------------------------------------------------------------------------
+
+-- What is promised of a state of a run, said with the conditions' languages.
+pub record Safe (S : Sheet) (s : State) : Type 0 where
+  -- "every call so far began after a history in its pre"
+  pub began-well : Each (λ c. Holds (pre S (c .method)) (c .began)) (calls s)
+  -- "every returned call raised a word of its trace"
+  pub raised-well : Each (λ r. Holds (trace S (r .call .method)) (raised r)) (s .returned-calls)
+  -- "if the run ends, what followed each return is in its future"
+  pub ended-well : s .ended ≡ true → Each (λ r. Holds (future S (r .call .method)) (since (r .at) (s .history))) (s .returned-calls)
