@@ -31,9 +31,9 @@ module _ {A : Type 0} {P : A → Type 0} where
   each-append nil d = d
   each-append (cons h t) d = cons h (each-append t d)
 
-  pub each-left : (xs : List A) {ys : List A} → Each P (xs ++ ys) → Each P xs
-  each-left [] h = nil
-  each-left (x ∷ xs) h = cons (each-head h) (each-left xs (each-tail h))
+  pub each-left : (xs ys : List A) → Each P (xs ++ ys) → Each P xs
+  each-left [] ys h = nil
+  each-left (x ∷ xs) ys h = cons (each-head h) (each-left xs ys (each-tail h))
 
   pub each-right : (xs : List A) {ys : List A} → Each P (xs ++ ys) → Each P ys
   each-right [] h = h
