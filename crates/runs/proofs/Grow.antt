@@ -33,44 +33,47 @@ grows-more w a = adds-more a w (λ u x. tt)
 grows-self : (h : Word) → Grows h h
 grows-self h = adds-nothing tt
 
-record All (h : Word) (cs : List Call) (rs : List Returned) : Type 0 where
+-- each of a state's histories goes on from the earlier ones
+record EachGrows (h : Word) (cs : List Call) (rs : List Returned) : Type 0 where
   opened : Each (λ c. Grows (c .began) h) cs
   raised : Each (λ r. Grows (r .call .began) (r .at)) rs
   returned : Each (λ r. Grows (r .at) h) rs
 
-raise-all : {h : Word} {cs : List Call} {rs : List Returned} (w : Word) → All h cs rs → All (h ++ w) cs rs
-raise-all w g =
+raise-grows : {h : Word} {cs : List Call} {rs : List Returned} (w : Word) → EachGrows h cs rs → EachGrows (h ++ w) cs rs
+raise-grows w g =
     record {
       opened = each-map (λ c. grows-more w) (g .opened);
       raised = g .raised;
       returned = each-map (λ r. grows-more w) (g .returned);
     }
 
-return-all : {h : Word} {cs : List Call} {rs : List Returned} (c : Call) → Grows (c .began) h → All h cs rs → All h cs (record { call = c; at = h } ∷ rs)
-return-all {h} c b g = record { opened = g .opened; raised = cons b (g .raised); returned = cons (grows-self h) (g .returned) }
+return-grows : {h : Word} {cs : List Call} {rs : List Returned} (c : Call) → Grows (c .began) h → EachGrows h cs rs
+    → EachGrows h cs (record { call = c; at = h } ∷ rs)
+return-grows {h} c b g = record { opened = g .opened; raised = cons b (g .raised); returned = cons (grows-self h) (g .returned) }
 
-abbrev AllAt : State → Type 0
-AllAt s = All (s .history) (s .open-calls) (s .returned-calls)
+abbrev EachGrowsAt : State → Type 0
+EachGrowsAt s = EachGrows (s .history) (s .open-calls) (s .returned-calls)
 
 module _ (S : Sheet) where
-  made-all : (s t : State) → s .ended ≡ false → Makes S s t → AllAt s → AllAt t
-  made-all s t z (event-made {a = a} i found) g = raise-all (a ∷ []) g
-  made-all s t z (pass-made i found) g = raise-all [] g
-  made-all s t z (primitive-made {m = m} i w found is h) g = return-all (newCall s i m) (grows-more w (grows-self (s .history))) (raise-all w g)
-  made-all s t z (open-made i found is) g =
+  made-grows : (s t : State) → s .ended ≡ false → Makes S s t → EachGrowsAt s → EachGrowsAt t
+  made-grows s t z (event-made {a = a} i found) g = raise-grows (a ∷ []) g
+  made-grows s t z (pass-made i found) g = raise-grows [] g
+  made-grows s t z (primitive-made {m = m} i w found is h) g =
+      return-grows (newCall s i m) (grows-more w (grows-self (s .history))) (raise-grows w g)
+  made-grows s t z (open-made i found is) g =
       record { opened = cons (grows-self (s .history)) (g .opened); raised = g .raised; returned = g .returned }
-  made-all s t z (return-made {c = c} {cs = cs} opened is at) g =
-      let k : All (s .history) (c ∷ cs) (s .returned-calls) = subst (λ x. All (s .history) x (s .returned-calls)) opened g in
-      return-all c (each-head (k .opened)) record { opened = each-tail (k .opened); raised = k .raised; returned = k .returned }
+  made-grows s t z (return-made {c = c} {cs = cs} opened is at) g =
+      let k : EachGrows (s .history) (c ∷ cs) (s .returned-calls) = subst (λ x. EachGrows (s .history) x (s .returned-calls)) opened g in
+      return-grows c (each-head (k .opened)) record { opened = each-tail (k .opened); raised = k .raised; returned = k .returned }
 
-  start-all : (m : ℕ) → AllAt (start S m)
+  start-grows : (m : ℕ) → EachGrowsAt (start S m)
   unfolding start
-  start-all m = record { opened = cons (grows-self []) nil; raised = nil; returned = nil }
+  start-grows m = record { opened = cons (grows-self []) nil; raised = nil; returned = nil }
 
   -- of every sheet, whatever its rules
   pub histories-grow : (m : ℕ) (ms : List Move) → Grown (run S m ms)
   histories-grow m ms =
-      let g : AllAt (run S m ms) = run-keeps S AllAt made-all m (start-all m) ms in
+      let g : EachGrowsAt (run S m ms) = run-keeps S EachGrowsAt made-grows m (start-grows m) ms in
       record {
         since-beginning = each-map (λ c. extends) (g .opened);
         while-open = each-map (λ r. extends) (g .raised);

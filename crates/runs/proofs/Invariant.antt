@@ -3,17 +3,13 @@ use mathlib.Core.Path.{_≡_}
 use Prim.Native.Nat.{ℕ}
 use mathlib.Core.Bool.{true, false}
 use mathlib.Core.Option.{Option, none, some}
-use mathlib.Core.List.{List, [], _∷_, _++_, List·Memᴰ}
+use mathlib.Core.List.{List, [], _∷_, _++_}
 use Rattle.condition.specs.Condition.{Word, Holds}
 use Rattle.sheet.specs.Each.{Each}
 use Rattle.sheet.specs.Sheet.{Step, call-step, Sheet, past, own, due, pre, trace, future}
 use Rattle.runs.specs.Runs.{Call, Returned, State, fromOf, stepOf}
 use Rattle.runs.proofs.Adds.{Adds}
-
--- the active call is the activation that made the returned call, or one of that activation's callers
-abbrev pub InCaller : List Call → Returned → Type 0
-InCaller [] r = ⊥
-InCaller (c ∷ cs) r = List·Memᴰ (c .activation .number) (r .call .activation .callers)
+use Rattle.runs.proofs.Numbers.{IsCaller}
 
 module _ (S : Sheet) where
   -- The open calls -------------------------------------------------------------------------------------------------------
@@ -32,8 +28,8 @@ module _ (S : Sheet) where
   abbrev pub origin : Call → ℕ
   origin c = source (stepOf S (c .step))
 
-  -- Control is at p after h. The outermost call's future holds the empty word. Each other call was made by a call step, and its caller stands
-  -- where that step starts, after the history at the call's beginning.
+  -- Control is at p after h. The future of the outermost call holds the empty word. Each other call was made by a call step, and its caller
+  -- stands where that step starts, after the history at the call's beginning.
   pub data Frames : ℕ → Word → List Call → Type 0 where
     outermost : {p : ℕ} {h : Word} {c : Call} → Stands p h c → Holds (future S (c .method)) [] → Frames p h (c ∷ [])
     inner : {p q : ℕ} {h : Word} {c : Call} {cs : List Call} → Stands p h c → stepOf S (c .step) ≡ some (call-step (origin c) q (c .method))
@@ -49,11 +45,10 @@ module _ (S : Sheet) where
   abbrev pub Due : Returned → ℕ → Word → Type 0
   Due r p h = Adds (r .at) h (λ u. (v : Word) → Holds (due S p) v → Holds (future S (r .call .method)) (u ++ v))
 
-  -- It is so where the active call stands, or where a call below it stands. The calls above that one began after r's return, and are not
-  -- among its callers.
+  -- it is so where the active call stands, or where one below it stands; the calls above that one began after r's return, and are not r's callers
   pub data Owed (r : Returned) : ℕ → Word → List Call → Type 0 where
     here : {p : ℕ} {h : Word} {c : Call} {cs : List Call} → Due r p h → Owed r p h (c ∷ cs)
-    below : {p : ℕ} {h : Word} {c : Call} {cs : List Call} → (InCaller (c ∷ cs) r → ⊥) → Owed r (origin c) (c .began) cs → Owed r p h (c ∷ cs)
+    below : {p : ℕ} {h : Word} {c : Call} {cs : List Call} → (IsCaller c r → ⊥) → Owed r (origin c) (c .began) cs → Owed r p h (c ∷ cs)
 
   -- The state ------------------------------------------------------------------------------------------------------------
 

@@ -14,11 +14,11 @@ use Rattle.runs.proofs.Rules.{HasBody, BodyRules, CallRules, MethodRule
 use Rattle.runs.proofs.Adds.{Adds, adds-more, adds-weaker, adds-nothing}
 use Rattle.runs.proofs.Leads.{Leads, event-leads, pass-leads, call-leads}
 use Rattle.runs.proofs.Moves.{Makes, event-made, pass-made, primitive-made, open-made, return-made, run-keeps}
-use Rattle.runs.proofs.Numbers.{NumbersAt, next-is-new, made-numbers, start-numbers}
-use Rattle.runs.proofs.Invariant.{InCaller, Stands, source, origin, Frames, outermost, inner, Well, Due, Owed, here, below, Running, Good, running, over}
+use Rattle.runs.proofs.Numbers.{IsCaller, NumbersAt, next-is-new, made-numbers, start-numbers}
+use Rattle.runs.proofs.Invariant.{Stands, source, origin, Frames, outermost, inner, Well, Due, Owed, here, below, Running, Good, running, over}
 
 module _ (S : Sheet) where
-  -- A word is raised -----------------------------------------------------------------------------------------------------
+  -- A word is raised: rules 7 to 9, 11, 12 and 14 to 17 -------------------------------------------------------------------
 
   module _ {p q : ℕ} {w : Word} (l : Leads S p w q) where
     advance-stands : {h : Word} {c : Call} → Stands S p h c → Stands S q (h ++ w) c
@@ -35,7 +35,7 @@ module _ (S : Sheet) where
     advance : {h : Word} {cs : List Call} {rs : List Returned} → Running S p h cs rs → Running S q (h ++ w) cs rs
     advance g = record { frames = advance-frames (g .frames); owed = each-map (λ r. advance-owed) (g .owed); well = g .well }
 
-  -- A call begins --------------------------------------------------------------------------------------------------------
+  -- A call begins: rules 3, 4 and 10, and 13 of a primitive, which returns at once -----------------------------------------
 
   frames-past : {p : ℕ} {h : Word} {cs : List Call} → Frames S p h cs → Holds (past S p) h
   frames-past (outermost x f) = x .in-past
@@ -54,11 +54,14 @@ module _ (S : Sheet) where
         record {
           frames = a .frames;
           owed = cons (owed-here _ (a .frames) (adds-nothing (k .rule-13))) (a .owed);
-          well = cons (record { began = k .rule-10 _ (frames-past (g .frames)); raised = record { word = w; is = refl; inside = t } }) (g .well);
+          well =
+              cons
+              (record { began = k .rule-10 _ (frames-past (g .frames)); raised = record { word = w; is = refl; inside = t } })
+              (g .well);
         }
 
     open-good : {q m entry exit : ℕ} (i : ℕ) → getElem? (S .steps) i ≡ some (call-step (s .point) q m) → CallRules S (s .point) q m
-        → BodyRules S m entry exit → Each (λ r. InCaller (newCall s i m ∷ s .open-calls) r → ⊥) (s .returned-calls)
+        → BodyRules S m entry exit → Each (λ r. IsCaller (newCall s i m) r → ⊥) (s .returned-calls)
         → Good S (openCall (newCall s i m) entry s)
     open-good {q} {m} i found k b new =
         let begun = k .rule-10 _ (frames-past (g .frames)) in
@@ -73,16 +76,16 @@ module _ (S : Sheet) where
           well = g .well;
         }
 
-  -- A call returns -------------------------------------------------------------------------------------------------------
+  -- A call returns: rules 5, 6 and 13 -------------------------------------------------------------------------------------
 
   module _ {p : ℕ} {h : Word} {c : Call} {entry : ℕ} (b : BodyRules S (c .method) entry p) (x : Stands S p h c) where
     well-now : Well S (record { call = c; at = h })
     well-now = record { began = x .in-pre; raised = adds-weaker (x .in-own) (b .rule-5) }
 
     -- the outermost
-    met : (r : Returned) → Holds (future S (c .method)) [] → Owed S r p h (c ∷ []) → Adds (r .at) h (Holds (future S (r .call .method)))
-    met r f (here d) = adds-weaker d (λ u k. rw append-nil at (k [] (b .rule-6 [] f)))
-    met r f (below n o) = absurd (elim o [ ])
+    met-at-end : (r : Returned) → Holds (future S (c .method)) [] → Owed S r p h (c ∷ []) → Adds (r .at) h (Holds (future S (r .call .method)))
+    met-at-end r f (here d) = adds-weaker d (λ u k. rw append-nil at (k [] (b .rule-6 [] f)))
+    met-at-end r f (below n o) = absurd (elim o [ ])
 
     -- another, to the target q of its step
     module _ {q : ℕ} {cs : List Call} (k : CallRules S (origin S c) q (c .method)) (f : Frames S (origin S c) (c .began) cs) where
@@ -119,8 +122,12 @@ module _ (S : Sheet) where
         → Frames S (s .point) (s .history) (c ∷ cs) → Running S (s .point) (s .history) (c ∷ cs) (s .returned-calls) → Good S (close S s c cs)
     return-good s b (outermost x f) g =
         over refl
-        record { none-open = refl; met = cons (adds-nothing f) (each-map (λ r. met b x r f) (g .owed)); well = cons (well-now b x) (g .well) }
-    return-good s {c} {cs} b (inner {q = q} x m f) g =
+        record {
+          none-open = refl;
+          met = cons (adds-nothing f) (each-map (λ r. met-at-end b x r f) (g .owed));
+          well = cons (well-now b x) (g .well);
+        }
+    return-good s {c} {cs} b (inner x m f) g =
         running (some-open f)
         (subst (λ y. Running S y (s .history) cs (record { call = c; at = s .history } ∷ s .returned-calls)) (sym (ap (targetOr (s .point)) m))
         (back b x (subst (StepRules S) m (rules-of (c .step))) f g))
@@ -131,7 +138,7 @@ module _ (S : Sheet) where
     made-good s t z (pass-made i found) n (running e g) = running z (advance (pass-leads S (subst (StepRules S) found (R .steps i))) g)
     made-good s t z (primitive-made i w found is h) n (running e g) = primitive-good s z g i w (subst (StepRules S) found (R .steps i)) h
     made-good s t z (open-made {m = m} i found is) n (running e g) =
-        open-good s z g i found (subst (StepRules S) found (R .steps i)) (subst (MethodRules S m) is (R .methods m)) (next-is-new n)
+        open-good s z g i found (subst (StepRules S) found (R .steps i)) (subst (MethodRules S m) is (R .methods m)) (next-is-new s i m n)
     made-good s t z (return-made {c = c} {b = b} opened is at) n (running e g) =
         let k = subst (λ cs. Running S (s .point) (s .history) cs (s .returned-calls)) opened g in
         return-good s {entry = b .entry} (rw at (subst (MethodRules S (c .method)) is (R .methods (c .method)))) (k .frames) k

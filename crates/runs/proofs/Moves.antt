@@ -24,7 +24,7 @@ held : (r : Condition) (w : Word) → accepts r w ≡ true → Holds r w
 held r w e = words r w .0 (subst T (sym e) tt)
 
 module _ (S : Sheet) where
-  -- the moves that can be made from s, and where each leads
+  -- the moves that can be made from s, and the state that each leads to
   pub data Makes (s : State) : State → Type 0 where
     event-made : {q a : ℕ} (i : ℕ) → getElem? (S .steps) i ≡ some (event-step (s .point) q a) → Makes s (raise (a ∷ []) q s)
     pass-made : {q : ℕ} (i : ℕ) → getElem? (S .steps) i ≡ some (pass-step (s .point) q) → Makes s (raise [] q s)
@@ -64,6 +64,10 @@ module _ (S : Sheet) where
     try-move-case return = try-return-case (s .open-calls) refl
     try-move-case (by-step i w) = try-step-case i w (getElem? (S .steps) i) refl
 
+  run-is : (m : ℕ) (ms : List Move) → runOn S (start S m) ms ≡ run S m ms
+  unfolding run
+  run-is m ms = refl
+
   -- what holds at the start, and is kept by each move that is made, holds after every list of moves
   module _ (P : State → Type 0) (kept : (s t : State) → s .ended ≡ false → Makes s t → P s → P t) where
     move-keeps : (s : State) (m : Move) → P s → P (move S s m)
@@ -74,10 +78,6 @@ module _ (S : Sheet) where
     unfolding runOn
     run-on-keeps s [] h = h
     run-on-keeps s (m ∷ ms) h = run-on-keeps (move S s m) ms (move-keeps s m h)
-
-    run-is : (m : ℕ) (ms : List Move) → runOn S (start S m) ms ≡ run S m ms
-    unfolding run
-    run-is m ms = refl
 
     pub run-keeps : (m : ℕ) → P (start S m) → (ms : List Move) → P (run S m ms)
     run-keeps m h ms = subst P (run-is m ms) (run-on-keeps (start S m) ms h)

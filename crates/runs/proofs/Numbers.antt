@@ -11,6 +11,10 @@ use Rattle.sheet.specs.Sheet.{Sheet}
 use Rattle.runs.specs.Runs.{Call, Returned, State, start, newCall}
 use Rattle.runs.proofs.Moves.{Makes, event-made, pass-made, primitive-made, open-made, return-made}
 
+-- c was open when the call of r began
+abbrev pub IsCaller : Call → Returned → Type 0
+IsCaller c r = List·Memᴰ (c .activation .number) (r .call .activation .callers)
+
 -- of n calls so far, c is one
 record Numbered (n : ℕ) (c : Call) : Type 0 where
   self : c .activation .number < n
@@ -30,13 +34,13 @@ not-below : {n : ℕ} {ks : List ℕ} → Each (λ k. k < n) ks → List·Memᴰ
 not-below nil m = List·Memᴰ·not-nil m
 not-below (cons b t) m = ⊎-elim (λ e. omega arith) (λ k. not-below t k) (List·Memᴰ·cases-cons m)
 
--- the number of the next call is that of no caller of a call that has returned
-pub next-is-new : {cs : List Call} {rs : List Returned} → Numbers cs rs
-    → Each (λ r. List·Memᴰ (length cs + length rs) (r .call .activation .callers) → ⊥) rs
-next-is-new g = each-map (λ r x. not-below (x .callers)) (g .returned)
+-- the next call is not a caller of one that has returned
+pub next-is-new : (s : State) (i m : ℕ) → NumbersAt s → Each (λ r. IsCaller (newCall s i m) r → ⊥) (s .returned-calls)
+next-is-new s i m g = each-map (λ r x. not-below (x .callers)) (g .returned)
 
 module _ (S : Sheet) where
-  new-numbered : {n : ℕ} (s : State) (i m : ℕ) → NumbersAt s → length (s .open-calls) + length (s .returned-calls) < n → Numbered n (newCall s i m)
+  new-numbered : {n : ℕ} (s : State) (i m : ℕ) → NumbersAt s → length (s .open-calls) + length (s .returned-calls) < n
+      → Numbered n (newCall s i m)
   new-numbered {n} s i m g b =
       record {
         self = b;
@@ -60,7 +64,9 @@ module _ (S : Sheet) where
       let k : Numbers (c ∷ cs) (s .returned-calls) = subst (λ x. Numbers x (s .returned-calls)) opened g in
       record {
         opened = each-map (more-calls (omega arith)) (each-tail (k .opened));
-        returned = cons (more-calls (omega arith) c (each-head (k .opened))) (each-map (λ x. more-calls (omega arith) (x .call)) (k .returned));
+        returned =
+            cons (more-calls (omega arith) c (each-head (k .opened)))
+            (each-map (λ x. more-calls (omega arith) (x .call)) (k .returned));
       }
 
   pub start-numbers : (m : ℕ) → NumbersAt (start S m)

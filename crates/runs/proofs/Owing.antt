@@ -1,7 +1,7 @@
--- What a returned call's future still asks is asked by the due at every point where its caller, or one of that one's callers, has control.
+-- While a caller of a returned call has control, what followed the return and any word of the present due make a word of its future.
 use mathlib.Core.Path.{subst}
 use Prim.Native.Nat.{ℕ}
-use mathlib.Core.List.{List, _++_}
+use mathlib.Core.List.{List, [], _∷_, _++_}
 use Rattle.condition.specs.Condition.{Word, Holds}
 use Rattle.sheet.specs.Each.{Each}
 use Rattle.sheet.proofs.Each.{each-map, each-all}
@@ -10,8 +10,14 @@ use Rattle.runs.specs.Rules.{rulesFrom, AllMet}
 use Rattle.runs.specs.Runs.{Call, Returned, State, since, Move, run}
 use Rattle.runs.proofs.Rules.{HasBody, by-number}
 use Rattle.runs.proofs.Adds.{adds-since}
-use Rattle.runs.proofs.Invariant.{InCaller, Due, Owed, here, below, Good, running, over}
+use Rattle.runs.proofs.Numbers.{IsCaller}
+use Rattle.runs.proofs.Invariant.{Due, Owed, here, below, Good, running, over}
 use Rattle.runs.proofs.Kept.{runs-are-good}
+
+-- control is in the activation that made the returned call, or in one of that activation's callers
+abbrev pub InCaller : List Call → Returned → Type 0
+InCaller [] r = ⊥
+InCaller (c ∷ cs) r = IsCaller c r
 
 -- After a call has returned, and whenever control is in the activation that made it or in one of that activation's callers, the events raised
 -- since that return, followed by any word of the due at the present point, lie in the call's future.

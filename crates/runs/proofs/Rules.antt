@@ -18,6 +18,9 @@ abbrev pub HasBody : Option Body → Type 0
 HasBody none = ⊥
 HasBody (some b) = Unit {0}
 
+one-event : (a : ℕ) → Holds (event a) (a ∷ [])
+one-event a = (a, single-has a, refl)
+
 module _ (S : Sheet) where
   -- of the method that runs start at
   pub record FirstRules (m : ℕ) : Type 0 where
@@ -79,9 +82,6 @@ module _ (S : Sheet) where
         rule-6 = each-head (each-tail (each-tail (each-tail h)));
       }
 
-  one-event : (a : ℕ) → Holds (event a) (a ∷ [])
-  one-event a = (a, single-has a, refl)
-
   of-step : (i : ℕ) (t : Step) → AllMet (stepRules S i t) → StepRules (some t)
   of-step i (event-step p q a) h =
       record {
@@ -127,7 +127,7 @@ module _ (S : Sheet) where
   by-number m h =
       record {
         first = of-first m (each-left (firstRules S m) _ all);
-        methods = λ k. subst (λ n. MethodRules n (body S k)) (zero-add k) (of-methods 0 (S .methods) (each-left (methodsRules S 0 (S .methods)) _ rest) k);
+        methods = λ k. subst (λ n. MethodRules n (body S k)) (zero-add k) (of-methods 0 (S .methods) methods k);
         steps = each-get StepRules tt (of-steps 0 (S .steps) (each-right (methodsRules S 0 (S .methods)) rest));
       }
     where
@@ -136,3 +136,6 @@ module _ (S : Sheet) where
 
       rest : AllMet (methodsRules S 0 (S .methods) ++ stepsRules S 0 (S .steps))
       rest = each-right (firstRules S m) all
+
+      methods : AllMet (methodsRules S 0 (S .methods))
+      methods = each-left (methodsRules S 0 (S .methods)) _ rest
