@@ -1,0 +1,111 @@
+-- A run of a small sheet by evaluation, move by move; and a sheet whose rules are true.
+use mathlib.Core.Path.{_≡_, refl}
+use Prim.Native.Nat.{ℕ}
+use mathlib.Core.Bool.{true, false}
+use mathlib.Core.Option.{none, some}
+use mathlib.Core.List.{List, [], _∷_, _++_, map}
+use Rattle.condition.specs.Condition.{Word, empty, star, event, any, _⊆_}
+use Rattle.sheet.specs.Each.{nil, cons}
+use Rattle.sheet.specs.Sheet.{Point, Method, event-step, call-step, pass-step, Sheet}
+use Rattle.runs.specs.Rules.{rules, AllMet}
+use Rattle.runs.specs.Runs.{Call, Returned, State, Move, return, by-step, run}
+
+abbrev anywhere : Point
+anywhere = record { past = 0; own = 0; due = 0 }
+
+abbrev with-body : ℕ → ℕ → Method
+with-body entry exit = record { pre = 0; trace = 0; future = 0; body = some (record { entry = entry; exit = exit }) }
+
+-- Method 0 goes from point 0 to 3: it raises 2, calls method 1 and passes. Method 1 goes from point 4 to 5: it calls the primitive 2, whose
+-- trace is the one word 7.
+abbrev sheet : Sheet
+sheet = record {
+  conditions = star (any 32) ∷ event 7 ∷ [];
+  points = anywhere ∷ anywhere ∷ anywhere ∷ anywhere ∷ anywhere ∷ anywhere ∷ [];
+  methods = with-body 0 3 ∷ with-body 4 5 ∷ record { pre = 0; trace = 1; future = 0; body = none } ∷ [];
+  steps = event-step 0 1 2 ∷ call-step 1 2 1 ∷ pass-step 2 3 ∷ call-step 4 5 2 ∷ [];
+  certificates = [];
+}
+
+-- its calls
+abbrev of-0 : Call
+of-0 = record { method = 0; step = none; began = []; activation = record { number = 0; callers = [] } }
+
+abbrev of-1 : Call
+of-1 = record { method = 1; step = some 1; began = 2 ∷ []; activation = record { number = 1; callers = 0 ∷ [] } }
+
+abbrev of-2 : Call
+of-2 = record { method = 2; step = some 3; began = 2 ∷ []; activation = record { number = 2; callers = 1 ∷ 0 ∷ [] } }
+
+infix 30 _returned-at_
+abbrev _returned-at_ : Call → Word → Returned
+c returned-at h = record { call = c; at = h }
+
+-- a state before the end: the history, the point, the open and the returned calls
+abbrev midway : Word → ℕ → List Call → List Returned → State
+midway h p cs rs = record { history = h; open-calls = cs; returned-calls = rs; point = p; ended = false }
+
+abbrev at-end : State
+at-end = record {
+  history = 2 ∷ 7 ∷ [];
+  open-calls = [];
+  returned-calls = (of-0 returned-at (2 ∷ 7 ∷ [])) ∷ (of-1 returned-at (2 ∷ 7 ∷ [])) ∷ (of-2 returned-at (2 ∷ 7 ∷ [])) ∷ [];
+  point = 3;
+  ended = true;
+}
+
+-- a move and the state that it leaves
+record Row : Type 0 where
+  made : Move
+  leaves : State
+
+infix 20 _leaves_
+abbrev _leaves_ : Move → State → Row
+m leaves s = record { made = m; leaves = s }
+
+abbrev rows : List Row
+rows =
+    -- control is not at the exit of method 0
+    (return leaves midway [] 0 (of-0 ∷ []) [])
+    -- the event step
+    ∷ (by-step 0 [] leaves midway (2 ∷ []) 1 (of-0 ∷ []) [])
+    -- control is no longer at that step's from, and there is no step 9
+    ∷ (by-step 0 [] leaves midway (2 ∷ []) 1 (of-0 ∷ []) [])
+    ∷ (by-step 9 [] leaves midway (2 ∷ []) 1 (of-0 ∷ []) [])
+    -- the call of method 1
+    ∷ (by-step 1 [] leaves midway (2 ∷ []) 4 (of-1 ∷ of-0 ∷ []) [])
+    -- the call of the primitive, with a word that is not of its trace and with one that is
+    ∷ (by-step 3 (8 ∷ []) leaves midway (2 ∷ []) 4 (of-1 ∷ of-0 ∷ []) [])
+    ∷ (by-step 3 (7 ∷ []) leaves midway (2 ∷ 7 ∷ []) 5 (of-1 ∷ of-0 ∷ []) ((of-2 returned-at (2 ∷ 7 ∷ [])) ∷ []))
+    -- method 1 returns to the target of step 1
+    ∷ (return leaves midway (2 ∷ 7 ∷ []) 2 (of-0 ∷ []) ((of-1 returned-at (2 ∷ 7 ∷ [])) ∷ (of-2 returned-at (2 ∷ 7 ∷ [])) ∷ []))
+    -- the pass
+    ∷ (by-step 2 [] leaves midway (2 ∷ 7 ∷ []) 3 (of-0 ∷ []) ((of-1 returned-at (2 ∷ 7 ∷ [])) ∷ (of-2 returned-at (2 ∷ 7 ∷ [])) ∷ []))
+    -- method 0 returns, and the run ends
+    ∷ (return leaves at-end)
+    -- moves after the end
+    ∷ (return leaves at-end)
+    ∷ (by-step 2 [] leaves at-end)
+    ∷ []
+
+-- the states of a run of the moves before, then each row's
+abbrev states : List Move → List Row → List State
+states before [] = []
+states before (x ∷ xs) = let now = before ++ (x .made ∷ []) in run sheet 0 now ∷ states now xs
+
+pub rows-are-so : states [] rows ≡ map (λ x. x .leaves) rows
+unfolding run
+rows-are-so = refl
+
+-- Document 01's sheet M ---------------------------------------------------------------------------------------------------
+
+-- one method, at whose one point it starts and ends; each condition is EMPTY
+abbrev M : Sheet
+M = record { conditions = empty ∷ []; points = anywhere ∷ []; methods = with-body 0 0 ∷ []; steps = []; certificates = [] }
+
+in-itself : empty ⊆ empty
+in-itself w h = h
+
+pub M-rules : AllMet (rules M)
+unfolding rules
+M-rules = cons refl (cons refl (cons in-itself (cons refl (cons in-itself (cons in-itself nil)))))

@@ -1,0 +1,165 @@
+-- Each move keeps the invariant of runs, where the sheet's rules are true.
+use mathlib.Core.Path.{_≡_, refl, sym, ap, _∙_, subst}
+use Prim.Native.Nat.{ℕ}
+use mathlib.Core.Bool.{false, false≢true}
+use mathlib.Core.Option.{Option, none, some}
+use mathlib.Core.List.{List, [], _∷_, _++_, append-assoc, append-nil}
+use lib.ListN.{getElem?}
+use Rattle.condition.specs.Condition.{Word, Holds}
+use Rattle.sheet.specs.Each.{Each, nil, cons}
+use Rattle.sheet.proofs.Each.{each-map, each-zip}
+use Rattle.sheet.specs.Sheet.{Body, call-step, Sheet, past, trace, future, body}
+use Rattle.runs.specs.Runs.{Call, Returned, State, entryOf, start, Move, raise, newCall, openCall, returnedNow, stepOf, targetOr, noneOpen, close, run}
+use Rattle.runs.proofs.Rules.{HasBody, BodyRules, CallRules, MethodRules, StepRules, SheetRules}
+use Rattle.runs.proofs.Adds.{Adds, adds-more, adds-weaker, adds-nothing}
+use Rattle.runs.proofs.Leads.{Leads, event-leads, pass-leads, call-leads}
+use Rattle.runs.proofs.Moves.{Makes, event-made, pass-made, primitive-made, open-made, return-made, run-keeps}
+use Rattle.runs.proofs.Numbers.{IsCaller, NumbersAt, next-is-new, made-numbers, start-numbers}
+use Rattle.runs.proofs.Invariant.{Stands, source, origin, Frames, outermost, inner, Well, Due, Owed, here, below, Running, Good, running, over}
+
+module _ (S : Sheet) where
+  -- A word is raised: rules 7 to 9, 11, 12 and 14 to 17 -------------------------------------------------------------------
+
+  module _ {p q : ℕ} {w : Word} (l : Leads S p w q) where
+    advance-stands : {h : Word} {c : Call} → Stands S p h c → Stands S q (h ++ w) c
+    advance-stands {h} x = record { in-pre = x .in-pre; in-past = l .past-on h (x .in-past); in-own = adds-more (x .in-own) w (l .own-on) }
+
+    advance-frames : {h : Word} {cs : List Call} → Frames S p h cs → Frames S q (h ++ w) cs
+    advance-frames (outermost x f) = outermost (advance-stands x) f
+    advance-frames (inner x m f) = inner (advance-stands x) m f
+
+    advance-owed : {h : Word} {cs : List Call} {r : Returned} → Owed S r p h cs → Owed S r q (h ++ w) cs
+    advance-owed (here d) = here (adds-more d w (λ u f v x. rw append-assoc (f (w ++ v) (l .due-back v x))))
+    advance-owed (below n o) = below n o
+
+    advance : {h : Word} {cs : List Call} {rs : List Returned} → Running S p h cs rs → Running S q (h ++ w) cs rs
+    advance g = record { frames = advance-frames (g .frames); owed = each-map (λ r. advance-owed) (g .owed); well = g .well }
+
+  -- A call begins: rules 3, 4 and 10, and 13 of a primitive, which returns at once -----------------------------------------
+
+  frames-past : {p : ℕ} {h : Word} {cs : List Call} → Frames S p h cs → Holds (past S p) h
+  frames-past (outermost x f) = x .in-past
+  frames-past (inner x m f) = x .in-past
+
+  owed-here : {p : ℕ} {h : Word} {cs : List Call} (r : Returned) → Frames S p h cs → Due S r p h → Owed S r p h cs
+  owed-here r (outermost x f) d = here d
+  owed-here r (inner x m f) d = here d
+
+  module _ (s : State) (going : s .ended ≡ false) (g : Running S (s .point) (s .history) (s .open-calls) (s .returned-calls)) where
+    primitive-good : {q m : ℕ} (i : ℕ) (w : Word) → CallRules S (s .point) q m → Holds (trace S m) w
+        → Good S (returnedNow (newCall s i m) (raise w q s))
+    primitive-good {q} {m} i w k t =
+        let a : Running S q (s .history ++ w) (s .open-calls) (s .returned-calls) = advance (call-leads S k w t) g in
+        running going
+        record {
+          frames = a .frames;
+          owed = cons (owed-here _ (a .frames) (adds-nothing (k .rule-13))) (a .owed);
+          well =
+              cons
+              (record { began = k .rule-10 _ (frames-past (g .frames)); raised = record { word = w; is = refl; inside = t } })
+              (g .well);
+        }
+
+    open-good : {q m entry exit : ℕ} (i : ℕ) → getElem? (S .steps) i ≡ some (call-step (s .point) q m) → CallRules S (s .point) q m
+        → BodyRules S m entry exit → Each (λ r. IsCaller (newCall s i m) r → ⊥) (s .returned-calls)
+        → Good S (openCall (newCall s i m) entry s)
+    open-good {q} {m} i found k b new =
+        let begun = k .rule-10 _ (frames-past (g .frames)) in
+        running going
+        record {
+          frames =
+              inner
+              (record { in-pre = begun; in-past = b .rule-3 _ begun; in-own = adds-nothing (b .rule-4) })
+              (subst (λ t. t ≡ some (call-step (source S t) q m)) (sym found) refl)
+              (subst (λ t. Frames S (source S t) (s .history) (s .open-calls)) (sym found) (g .frames));
+          owed = each-zip (λ r o n. below n (subst (λ t. Owed S r (source S t) (s .history) (s .open-calls)) (sym found) o)) (g .owed) new;
+          well = g .well;
+        }
+
+  -- A call returns: rules 5, 6 and 13 -------------------------------------------------------------------------------------
+
+  module _ {p : ℕ} {h : Word} {c : Call} {entry : ℕ} (b : BodyRules S (c .method) entry p) (x : Stands S p h c) where
+    well-now : Well S (record { call = c; at = h })
+    well-now = record { began = x .in-pre; raised = adds-weaker (x .in-own) (b .rule-5) }
+
+    -- the outermost
+    met-at-end : (r : Returned) → Holds (future S (c .method)) [] → Owed S r p h (c ∷ []) → Adds (r .at) h (Holds (future S (r .call .method)))
+    met-at-end r f (here d) = adds-weaker d (λ u k. rw append-nil at (k [] (b .rule-6 [] f)))
+    met-at-end r f (below n o) = absurd (elim o [ ])
+
+    -- another, to the target q of its step
+    module _ {q : ℕ} {cs : List Call} (k : CallRules S (origin S c) q (c .method)) (f : Frames S (origin S c) (c .began) cs) where
+      back-leads : Leads S (origin S c) (x .in-own .word) q
+      back-leads = call-leads S k (x .in-own .word) (b .rule-5 _ (x .in-own .inside))
+
+      back-frames : Frames S q h cs
+      back-frames = subst (λ y. Frames S q y cs) (sym (x .in-own .is)) (advance-frames back-leads f)
+
+      back-owed : (r : Returned) → Owed S r p h (c ∷ cs) → Owed S r q h cs
+      back-owed r (here d) = owed-here r back-frames (adds-weaker d (λ u f v y. f v (b .rule-6 v (k .rule-13 v y))))
+      back-owed r (below n o) = subst (λ y. Owed S r q y cs) (sym (x .in-own .is)) (advance-owed back-leads o)
+
+      back : {rs : List Returned} → Running S p h (c ∷ cs) rs → Running S q h cs (record { call = c; at = h } ∷ rs)
+      back g =
+          record {
+            frames = back-frames;
+            owed = cons (owed-here _ back-frames (adds-nothing (k .rule-13))) (each-map back-owed (g .owed));
+            well = cons well-now (g .well);
+          }
+
+  some-open : {p : ℕ} {h : Word} {cs : List Call} → Frames S p h cs → noneOpen cs ≡ false
+  some-open (outermost x f) = refl
+  some-open (inner x m f) = refl
+
+  -- Every move -----------------------------------------------------------------------------------------------------------
+
+  module _ {m₀ : ℕ} (R : SheetRules S m₀) where
+    rules-of : (i : Option ℕ) → StepRules S (stepOf S i)
+    rules-of none = tt
+    rules-of (some i) = R .steps i
+
+    return-good : (s : State) {c : Call} {cs : List Call} {entry : ℕ} → BodyRules S (c .method) entry (s .point)
+        → Frames S (s .point) (s .history) (c ∷ cs) → Running S (s .point) (s .history) (c ∷ cs) (s .returned-calls) → Good S (close S s c cs)
+    return-good s b (outermost x f) g =
+        over refl
+        record {
+          none-open = refl;
+          met = cons (adds-nothing f) (each-map (λ r. met-at-end b x r f) (g .owed));
+          well = cons (well-now b x) (g .well);
+        }
+    return-good s {c} {cs} b (inner x m f) g =
+        running (some-open f)
+        (subst (λ y. Running S y (s .history) cs (record { call = c; at = s .history } ∷ s .returned-calls)) (sym (ap (targetOr (s .point)) m))
+        (back b x (subst (StepRules S) m (rules-of (c .step))) f g))
+
+    made-good : (s t : State) → s .ended ≡ false → Makes S s t → NumbersAt s → Good S s → Good S t
+    made-good s t z made n (over e g) = absurd (false≢true (sym z ∙ e))
+    made-good s t z (event-made i found) n (running e g) = running z (advance (event-leads S (subst (StepRules S) found (R .steps i))) g)
+    made-good s t z (pass-made i found) n (running e g) = running z (advance (pass-leads S (subst (StepRules S) found (R .steps i))) g)
+    made-good s t z (primitive-made i w found is h) n (running e g) = primitive-good s z g i w (subst (StepRules S) found (R .steps i)) h
+    made-good s t z (open-made {m = m} i found is) n (running e g) =
+        open-good s z g i found (subst (StepRules S) found (R .steps i)) (subst (MethodRules S m) is (R .methods m)) (next-is-new s i m n)
+    made-good s t z (return-made {c = c} {b = b} opened is at) n (running e g) =
+        let k = subst (λ cs. Running S (s .point) (s .history) cs (s .returned-calls)) opened g in
+        return-good s {entry = b .entry} (rw at (subst (MethodRules S (c .method)) is (R .methods (c .method)))) (k .frames) k
+
+    start-good : HasBody (body S m₀) → Good S (start S m₀)
+    unfolding start
+    start-good h = running refl (go (body S m₀) h (R .methods m₀))
+      where
+        go : (d : Option Body) → HasBody d → MethodRules S m₀ d → Running S (entryOf d) [] (start S m₀ .open-calls) []
+        go none h b = absurd h
+        go (some d) h b =
+            record {
+              frames =
+                  outermost
+                  (record { in-pre = R .first .rule-1; in-past = b .rule-3 [] (R .first .rule-1); in-own = adds-nothing (b .rule-4) })
+                  (R .first .rule-2);
+              owed = nil;
+              well = nil;
+            }
+
+    pub runs-are-good : HasBody (body S m₀) → (ms : List Move) → Good S (run S m₀ ms)
+    runs-are-good h ms =
+        run-keeps S (λ s. NumbersAt s × Good S s) (λ s t z made g. (made-numbers S s t made (g .0), made-good s t z made (g .0) (g .1))) m₀
+        (start-numbers S m₀, start-good h) ms .1

@@ -1,0 +1,13 @@
+pub mod Rules
+pub mod Count
+pub mod Adds
+pub mod Moves
+pub mod Grow
+pub mod Numbers
+pub mod Leads
+pub mod Invariant
+pub mod Kept
+pub mod Safe
+pub mod Owing
+pub mod Examples
+pub mod Loop

@@ -1,0 +1,83 @@
+-- What a move does: nothing, or one of five things. An invariant of runs is shown by what it says of each of them.
+use mathlib.Core.Path.{_≡_, refl, sym, subst}
+use Prim.Native.Nat.{ℕ}
+use mathlib.Core.Bool.{Bool, true, false, cond}
+use mathlib.Core.Option.{Option, none, some}
+use mathlib.Core.List.{List, [], _∷_}
+use lib.ListN.{getElem?}
+use lib.Dec.{T, eqb, eqb→eq}
+use Rattle.condition.specs.Condition.{Word, Condition, Holds}
+use Rattle.condition.specs.Places.{accepts}
+use Rattle.condition.proofs.Words.{words}
+use Rattle.sheet.specs.Sheet.{Body, Step, event-step, call-step, pass-step, Sheet, trace, body}
+use Rattle.runs.specs.Runs.{Call, State, start, Move, return, by-step, raise, newCall, openCall, returnedNow, makeCall, makeStep, fromOf, tryStep, close, exitsAt, tryReturn, tryMove, move, runOn, run}
+
+-- what holds of both sides holds of the choice
+by-test : {A : Type 0} (P : A → Type 0) (b : Bool) {x y : A} → (b ≡ true → P x) → (b ≡ false → P y) → P (cond b x y)
+by-test P true f g = f refl
+by-test P false f g = g refl
+
+same-number : (m n : ℕ) → eqb m n ≡ true → m ≡ n
+same-number m n e = eqb→eq m n (subst T (sym e) tt)
+
+held : (r : Condition) (w : Word) → accepts r w ≡ true → Holds r w
+held r w e = words r w .0 (subst T (sym e) tt)
+
+module _ (S : Sheet) where
+  -- the moves that can be made from s, and the state that each leads to
+  pub data Makes (s : State) : State → Type 0 where
+    event-made : {q a : ℕ} (i : ℕ) → getElem? (S .steps) i ≡ some (event-step (s .point) q a) → Makes s (raise (a ∷ []) q s)
+    pass-made : {q : ℕ} (i : ℕ) → getElem? (S .steps) i ≡ some (pass-step (s .point) q) → Makes s (raise [] q s)
+    primitive-made : {q m : ℕ} (i : ℕ) (w : Word) → getElem? (S .steps) i ≡ some (call-step (s .point) q m) → body S m ≡ none
+        → Holds (trace S m) w → Makes s (returnedNow (newCall s i m) (raise w q s))
+    open-made : {q m : ℕ} {b : Body} (i : ℕ) → getElem? (S .steps) i ≡ some (call-step (s .point) q m) → body S m ≡ some b
+        → Makes s (openCall (newCall s i m) (b .entry) s)
+    return-made : {c : Call} {cs : List Call} {b : Body} → s .open-calls ≡ c ∷ cs → body S (c .method) ≡ some b → s .point ≡ b .exit
+        → Makes s (close S s c cs)
+
+  -- what holds of s, and of what each move made from s leads to, holds after any move
+  module _ (P : State → Type 0) (s : State) (same : P s) (made : (t : State) → Makes s t → P t) where
+    call-case : {q m : ℕ} (i : ℕ) (w : Word) → getElem? (S .steps) i ≡ some (call-step (s .point) q m) → (d : Option Body) → body S m ≡ d
+        → P (makeCall s (newCall s i m) w q (trace S m) d)
+    call-case {m} i w found none is = by-test P _ (λ e. made _ (primitive-made i w found is (held (trace S m) w e))) (λ e. same)
+    call-case i w found (some b) is = made _ (open-made i found is)
+
+    step-case : (i : ℕ) (w : Word) (t : Step) → getElem? (S .steps) i ≡ some t → s .point ≡ fromOf t → P (makeStep S s i w t)
+    step-case i w (event-step p q a) found at = made _ (event-made i (rw at found))
+    step-case i w (call-step p q m) found at = call-case i w (rw at found) (body S m) refl
+    step-case i w (pass-step p q) found at = made _ (pass-made i (rw at found))
+
+    try-step-case : (i : ℕ) (w : Word) (t : Option Step) → getElem? (S .steps) i ≡ t → P (tryStep S s i w t)
+    try-step-case i w none found = same
+    try-step-case i w (some t) found = by-test P _ (λ e. step-case i w t found (same-number _ _ e)) (λ e. same)
+
+    exit-case : {c : Call} {cs : List Call} → s .open-calls ≡ c ∷ cs → (d : Option Body) → body S (c .method) ≡ d
+        → P (cond (exitsAt d (s .point)) (close S s c cs) s)
+    exit-case e none is = same
+    exit-case e (some b) is = by-test P _ (λ x. made _ (return-made e is (same-number _ _ x))) (λ x. same)
+
+    try-return-case : (cs : List Call) → s .open-calls ≡ cs → P (tryReturn S s cs)
+    try-return-case [] e = same
+    try-return-case (c ∷ cs) e = exit-case e (body S (c .method)) refl
+
+    try-move-case : (m : Move) → P (tryMove S s m)
+    try-move-case return = try-return-case (s .open-calls) refl
+    try-move-case (by-step i w) = try-step-case i w (getElem? (S .steps) i) refl
+
+  run-is : (m : ℕ) (ms : List Move) → runOn S (start S m) ms ≡ run S m ms
+  unfolding run
+  run-is m ms = refl
+
+  -- what holds at the start, and is kept by each move that is made, holds after every list of moves
+  module _ (P : State → Type 0) (kept : (s t : State) → s .ended ≡ false → Makes s t → P s → P t) where
+    move-keeps : (s : State) (m : Move) → P s → P (move S s m)
+    unfolding move
+    move-keeps s m h = by-test P (s .ended) (λ e. h) (λ e. try-move-case P s h (λ t made. kept s t e made h) m)
+
+    run-on-keeps : (s : State) (ms : List Move) → P s → P (runOn S s ms)
+    unfolding runOn
+    run-on-keeps s [] h = h
+    run-on-keeps s (m ∷ ms) h = run-on-keeps (move S s m) ms (move-keeps s m h)
+
+    pub run-keeps : (m : ℕ) → P (start S m) → (ms : List Move) → P (run S m ms)
+    run-keeps m h ms = subst P (run-is m ms) (run-on-keeps (start S m) ms h)
