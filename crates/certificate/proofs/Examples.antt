@@ -1,0 +1,46 @@
+-- Certificates that are right, and the first fault of those that are not, by evaluation of the check over 32 events.
+use mathlib.Core.Path.{_≡_, refl}
+use mathlib.Core.List.{List, [], _∷_, map}
+use Rattle.condition.specs.Condition.{Condition, leaf, empty, join, either, star, any, event}
+use Rattle.certificate.specs.Certificate.{Certificate, pair, Finding, fine, fault, check}
+
+record Case : Type 0 where
+  left : Condition
+  right : Condition
+  certificate : Certificate
+  answer : Finding
+
+abbrev case : Condition → Condition → Certificate → Finding → Case
+case l r c a = record { left = l; right = r; certificate = c; answer = a }
+
+-- event 2, and then any
+abbrev twoFirst : Condition
+twoFirst = join (event 2) (star (any 32))
+
+abbrev emptyOrTwoFirst : Condition
+emptyOrTwoFirst = either empty twoFirst
+
+abbrev cases : List Case
+cases =
+    case empty empty (pair 0 1 ∷ []) fine
+    -- no first pair, and a wrong one
+    ∷ case empty empty [] (fault 1 0 0 0)
+    ∷ case empty empty (pair 0 3 ∷ []) (fault 1 0 0 0)
+    -- the empty word is no word of one event
+    ∷ case empty (leaf 1) (pair 0 1 ∷ []) (fault 3 0 0 0)
+    -- the pair after event 2 is listed, is missing, has a set that contains the stepped one, and has a place or a set that is off its side
+    ∷ case (event 2) emptyOrTwoFirst (pair 0 1 ∷ pair 1 2 ∷ []) fine
+    ∷ case (event 2) emptyOrTwoFirst (pair 0 1 ∷ []) (fault 4 0 2 1)
+    ∷ case (event 2) emptyOrTwoFirst (pair 0 1 ∷ pair 1 6 ∷ []) (fault 4 0 2 1)
+    ∷ case (event 2) emptyOrTwoFirst (pair 0 1 ∷ pair 1 2 ∷ pair 2 2 ∷ []) (fault 2 2 0 0)
+    ∷ case (event 2) emptyOrTwoFirst (pair 0 1 ∷ pair 1 2 ∷ pair 1 8 ∷ []) (fault 2 2 0 0)
+    -- the last event, 31, is tested too
+    ∷ case (event 31) (any 32) (pair 0 1 ∷ []) (fault 4 0 31 1)
+    -- the pair after each of the events that follow event 2 is listed, and is missing
+    ∷ case twoFirst emptyOrTwoFirst (pair 0 1 ∷ pair 1 2 ∷ pair 2 4 ∷ []) fine
+    ∷ case twoFirst emptyOrTwoFirst (pair 0 1 ∷ pair 1 2 ∷ []) (fault 4 1 0 2)
+    ∷ []
+
+answered : map (λ (x : Case). check 32 (x .left) (x .right) (x .certificate)) cases ≡ map (λ (x : Case). x .answer) cases
+unfolding check
+answered = refl

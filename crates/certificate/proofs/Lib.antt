@@ -1,0 +1,5 @@
+pub mod Findings
+pub mod Valid
+pub mod Sound
+pub mod Complete
+pub mod Examples

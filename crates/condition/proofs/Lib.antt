@@ -1,0 +1,5 @@
+pub mod Beside
+pub mod Paths
+pub mod Words
+pub mod Narrow
+pub mod Examples

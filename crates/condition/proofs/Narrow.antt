@@ -1,0 +1,37 @@
+-- A condition whose leaves have only events below n holds only words of such events.
+use mathlib.Core.Logic.{⊎-elim}
+use mathlib.Core.List.{[], _∷_, _++_}
+use Prim.Native.Nat.{ℕ, _^_, _<_}
+use Rattle.bits.proofs.Sets.{has-lt}
+use Rattle.condition.specs.Condition.{Condition, leaf, empty, join, either, star, Word, Holds, Repeated, never, once-more}
+
+-- every leaf has only events below n
+abbrev pub EventsBelow : ℕ → Condition → Type 0
+EventsBelow n (leaf s) = s < 2 ^ n
+EventsBelow n empty = Unit {0}
+EventsBelow n (join a b) = EventsBelow n a × EventsBelow n b
+EventsBelow n (either a b) = EventsBelow n a × EventsBelow n b
+EventsBelow n (star a) = EventsBelow n a
+
+-- every event of the word is below n
+abbrev pub Over : ℕ → Word → Type 0
+Over n [] = Unit {0}
+Over n (e ∷ w) = (e < n) × Over n w
+
+module _ (n : ℕ) where
+  over-append : (u v : Word) → Over n u → Over n v → Over n (u ++ v)
+  over-append [] v h k = k
+  over-append (e ∷ u) v h k = (h .0, over-append u v (h .1) k)
+
+  over-repeated : (P : Word → Type 0) → ((w : Word) → P w → Over n w) → {w : Word} → Repeated P w → Over n w
+  over-repeated P all never = tt
+  over-repeated P all (once-more {u = u} {v = v} x y) = over-append u v (all u x) (over-repeated P all y)
+
+  pub holds-over : (r : Condition) → EventsBelow n r → (w : Word) → Holds r w → Over n w
+  holds-over (leaf s) l w h = rw (h .2) (has-lt n s (h .0) l (h .1), tt)
+  holds-over empty l w h = rw h tt
+  holds-over (join a b) l w h =
+      let (u, v, f, x, y) = h in
+      rw f (over-append u v (holds-over a (l .0) u x) (holds-over b (l .1) v y))
+  holds-over (either a b) l w h = ⊎-elim (λ x. holds-over a (l .0) w x) (λ x. holds-over b (l .1) w x) h
+  holds-over (star a) l w h = over-repeated (λ u. Holds a u) (holds-over a l) h
