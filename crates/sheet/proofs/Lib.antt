@@ -1,1 +1,4 @@
 pub mod Each
+pub mod Fields
+pub mod Kind
+pub mod Take
