@@ -2,3 +2,5 @@ pub mod Each
 pub mod Fields
 pub mod Kind
 pub mod Take
+pub mod ReadOn
+pub mod SheetOf
