@@ -4,3 +4,4 @@ pub mod Kind
 pub mod Take
 pub mod ReadOn
 pub mod SheetOf
+pub mod Kept
