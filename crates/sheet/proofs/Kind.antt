@@ -4,7 +4,7 @@ use mathlib.Core.Option.{Option, none, some}
 use mathlib.Core.List.{List, [], _∷_}
 use Prim.Native.Nat.{ℕ, zero, suc, _+_, _<_}
 use lib.ListN.{getD, List·getD-eq-default}
-use Rattle.sheet.specs.Record.{Symbol, leaf-symbol, empty-symbol, join-symbol, either-symbol, star-symbol, Record, symbol-record, end-of-condition, point-record, method-record, step-record, pair-record, end-of-certificate, byteAt, setAt, sectionOf, pointAt, methodAt, stepAt, pairAt, recordsByKind, recordAt}
+use Rattle.sheet.specs.Record.{Symbol, leaf-symbol, empty-symbol, join-symbol, either-symbol, star-symbol, Record, symbol-record, end-of-condition, point-record, method-record, step-record, pair-record, end-of-certificate, byteAt, setAt, sectionOf, pointAt, methodAt, stepAt, recordsByKind, recordAt}
 
 module _ (s : List ℕ) (at : ℕ) where
   by-kind : recordAt s at ≡ getD (recordsByKind s at) (byteAt s at) none

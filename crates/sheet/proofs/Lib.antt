@@ -5,3 +5,4 @@ pub mod Take
 pub mod ReadOn
 pub mod SheetOf
 pub mod Kept
+pub mod Narrow

@@ -6,9 +6,8 @@ use Prim.Native.Nat.{ℕ, zero, suc, _<_}
 use native.Mathlib.Nat.{not-suc-le-zero, le-of-suc-le-suc}
 use lib.ListN.{length, getD, getElem?, length-map}
 use Rattle.condition.specs.Condition.{Condition, noWord}
-use Rattle.certificate.specs.Certificate.{Certificate}
 use Rattle.sheet.specs.Model.{Model}
-use Rattle.sheet.specs.Sheet.{Point, Method, Step, Sheet, condition}
+use Rattle.sheet.specs.Sheet.{Sheet, condition}
 use Rattle.sheet.specs.Record.{pointAt, methodAt, stepAt}
 use Rattle.sheet.specs.Reading.{Reading, whole, readSheet}
 use Rattle.sheet.specs.Decode.{conditionAt, certificateAt, sheetAt, sheetRead, sheetOf}
