@@ -6,3 +6,5 @@ pub mod ReadOn
 pub mod SheetOf
 pub mod Kept
 pub mod Narrow
+pub mod Counted
+pub mod Named
