@@ -8,7 +8,8 @@ use Rattle.sheet.proofs.Each.{each-map, each-all}
 use Rattle.sheet.specs.Sheet.{Sheet, due, future, body}
 use Rattle.runs.specs.Rules.{rulesFrom, AllMet}
 use Rattle.runs.specs.Runs.{Call, Returned, State, since, Move, run}
-use Rattle.runs.proofs.Rules.{HasBody, by-number}
+use Rattle.sheet.proofs.Kept.{HasBody}
+use Rattle.runs.proofs.Rules.{by-number}
 use Rattle.runs.proofs.Adds.{adds-since}
 use Rattle.runs.proofs.Numbers.{IsCaller}
 use Rattle.runs.proofs.Invariant.{Due, Owed, here, below, Good, running, over}

@@ -13,11 +13,6 @@ use Rattle.sheet.proofs.Each.{each-head, each-tail, each-left, each-right, each
 use Rattle.sheet.specs.Sheet.{Body, Method, Step, event-step, call-step, pass-step, Sheet, past, own, due, pre, trace, future, bodyIn, body}
 use Rattle.runs.specs.Rules.{firstRules, methodRules, stepRules, methodsRules, stepsRules, rulesFrom, AllMet}
 
--- the method is one with body
-abbrev pub HasBody : Option Body → Type 0
-HasBody none = ⊥
-HasBody (some b) = Unit {0}
-
 one-event : (a : ℕ) → Holds (event a) (a ∷ [])
 one-event a = (a, single-has a, refl)
 

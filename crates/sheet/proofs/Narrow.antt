@@ -92,6 +92,6 @@ module _ (s : List ℕ) (bytes : Bytes s) (n : ℕ) (wide : 32 ≤ n) where
       each-getD (λ c. EventsBelow n c) each noWord (pow-pos n) c
   read-below (refusal m at) c = pow-pos n
 
-pub conditions-below : (M : Model) (s : List ℕ) → Bytes s → (c : ℕ) → EventsBelow (M .events) (condition (sheetOf M s) c)
+pub conditions-below : (M : Model) (s : List ℕ) → 32 ≤ M .events → Bytes s → (c : ℕ) → EventsBelow (M .events) (condition (sheetOf M s) c)
 unfolding sheetOf
-conditions-below M s bytes c = read-below s bytes (M .events) (M .wide) (readSheet M s) c
+conditions-below M s wide bytes c = read-below s bytes (M .events) wide (readSheet M s) c
