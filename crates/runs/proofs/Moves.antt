@@ -74,7 +74,7 @@ module _ (S : Sheet) where
     unfolding move
     move-keeps s m h = by-test P (s .ended) (λ e. h) (λ e. try-move-case P s h (λ t made. kept s t e made h) m)
 
-    run-on-keeps : (s : State) (ms : List Move) → P s → P (runOn S s ms)
+    pub run-on-keeps : (s : State) (ms : List Move) → P s → P (runOn S s ms)
     unfolding runOn
     run-on-keeps s [] h = h
     run-on-keeps s (m ∷ ms) h = run-on-keeps (move S s m) ms (move-keeps s m h)

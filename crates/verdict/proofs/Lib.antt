@@ -1,1 +1,6 @@
 pub mod Judged
+pub mod RulesMet
+pub mod Loads
+pub mod Loop
+pub mod WordTest
+pub mod Cases

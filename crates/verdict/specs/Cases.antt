@@ -58,7 +58,7 @@ advance = 0x02 ∷ 0x01 ∷ 0x04 ∷ 0x00 ∷ 0x00 ∷ 0x00 ∷ 0x01 ∷ 0xFF �
 abbrev pub W : List ℕ
 W = advance ++ (point0 ++ method0 0)
 
-pub cases : List Case
+unfoldable pub cases : List Case
 cases =
     sheet [] "refused 9 at 0"
     ∷ sheet (0x0F ∷ []) "refused 2 at 0"

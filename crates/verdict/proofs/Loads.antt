@@ -1,0 +1,163 @@
+-- The verdict keeps the three demands: it accepts exactly the well formed sheets whose tests all pass, names the first fault else, and the runs
+-- of an accepted sheet are safe.
+use mathlib.Core.Path.{_≡_, refl, sym, ap, _∙_, subst}
+use mathlib.Core.Bool.{Bool, true, false, cond}
+use mathlib.Core.Logic.{_↔_}
+use mathlib.Core.Option.{Option, none, some}
+use mathlib.Core.List.{List, [], _∷_}
+use Prim.Native.Nat.{ℕ, _≤_}
+use lib.ListN.{length}
+use lib.Dec.{T, eqb, eqb→eq, eqb-refl}
+use Rattle.bits.proofs.Tests.{T-true}
+use Rattle.certificate.specs.Certificate.{Certificate}
+use Rattle.sheet.specs.Model.{Model}
+use Rattle.sheet.specs.Sheet.{Sheet, body}
+use Rattle.sheet.specs.Record.{Bytes}
+use Rattle.sheet.specs.Reading.{Reading, Outcome, whole, refusal, readSheet}
+use Rattle.sheet.specs.Decode.{sheetOf}
+use Rattle.sheet.proofs.Kept.{HasBody, events-below, first-has-body}
+use Rattle.sheet.proofs.Narrow.{conditions-below}
+use Rattle.runs.specs.Rules.{Rule, rules, rulesFrom, AllMet, count}
+use Rattle.runs.specs.Runs.{Move, run, Safe}
+use Rattle.runs.proofs.Safe.{runs-are-safe}
+use Rattle.verdict.specs.Verdict.{Report, accepted, refused, unproved, certificatesNeeded, firstFault, judged, verdictAfter, verdictOf}
+use Rattle.verdict.specs.Promise.{WellFormed, EachCertified, Passes, ExactFor, FirstFault, Loads}
+use Rattle.verdict.proofs.Judged.{Tried, all-pass, one-fails, tried, pass-all}
+use Rattle.verdict.proofs.RulesMet.{all-met, all-pass as exact-pass, rules-below}
+
+-- Reports told apart ----------------------------------------------------------------------------------------------------
+
+abbrev IsAccepted : Report → Type 0
+IsAccepted (accepted n) = Unit {0}
+IsAccepted (refused n at) = ⊥
+IsAccepted (unproved r k c i e l) = ⊥
+
+abbrev IsUnproved : Report → Type 0
+IsUnproved (accepted n) = ⊥
+IsUnproved (refused n at) = ⊥
+IsUnproved (unproved r k c i e l) = Unit {0}
+
+abbrev countIn : Report → ℕ
+countIn (accepted n) = n
+countIn (refused n at) = 0
+countIn (unproved r k c i e l) = 0
+
+-- The verdict, by what reading finds ------------------------------------------------------------------------------------
+
+module _ (M : Model) (s : List ℕ) where
+  verdict-is : verdictOf M s ≡ verdictAfter M s (readSheet M s)
+  unfolding verdictOf
+  verdict-is = refl
+
+  after-whole : (r : Reading) → verdictAfter M s (whole r) ≡ judged M s (sheetOf M s)
+  unfolding verdictAfter
+  after-whole r = refl
+
+  after-refusal : (n at : ℕ) → verdictAfter M s (refusal n at) ≡ refused n (some at)
+  unfolding verdictAfter
+  after-refusal n at = refl
+
+  module _ (S : Sheet) where
+    abbrev enough : Bool
+    enough = eqb (length (S .certificates)) (certificatesNeeded (rules S))
+
+    abbrev first : Report
+    first = firstFault (M .events) (rules S) (S .certificates) (accepted (count S))
+
+    judged-is : judged M s S ≡ cond enough first (refused 10 (some (length s)))
+    unfolding judged
+    judged-is = refl
+
+  abbrev Passing : Type 0
+  Passing = EachCertified (Passes (M .events)) (rules (sheetOf M s)) (sheetOf M s .certificates)
+
+  -- refused, or well formed and then what the tests of the rules come to
+  data Decided (report : Report) : Type 0 where
+    refuses : (n : ℕ) (at : Option ℕ) → report ≡ refused n at → Decided report
+    tests : WellFormed M s → Tried (M .events) (accepted (count (sheetOf M s))) (rules (sheetOf M s)) (sheetOf M s .certificates) report → Decided report
+
+  decided : Decided (verdictOf M s)
+  decided = subst Decided (sym verdict-is) (by-reading (readSheet M s) refl)
+    where
+      S : Sheet
+      S = sheetOf M s
+
+      by-number : (r : Reading) → readSheet M s ≡ whole r → (b : Bool) → enough S ≡ b → Decided (cond b (first S) (refused 10 (some (length s))))
+      by-number r read true e =
+          let same = eqb→eq _ _ (subst T (sym e) tt) in
+          tests (record { reading = r; read = read; enough = same }) (tried (M .events) (accepted (count S)) (rules S) (S .certificates) same)
+      by-number r read false e = refuses 10 (some (length s)) refl
+
+      by-reading : (x : Outcome) → readSheet M s ≡ x → Decided (verdictAfter M s x)
+      by-reading (refusal n at) read = subst Decided (sym (after-refusal n at)) (refuses n (some at) refl)
+      by-reading (whole r) read = subst Decided (sym (after-whole r ∙ judged-is S)) (by-number r read (enough S) refl)
+
+  -- Demand 2 ------------------------------------------------------------------------------------------------------------
+
+  accepted-out : (n : ℕ) → verdictOf M s ≡ accepted n → WellFormed M s × Passing × (n ≡ count (sheetOf M s))
+  accepted-out n h = go decided
+    where
+      go : Decided (verdictOf M s) → WellFormed M s × Passing × (n ≡ count (sheetOf M s))
+      go (refuses k at e) = absurd (subst IsAccepted (sym h ∙ e) tt)
+      go (tests w (all-pass p e)) = (w, p, ap countIn (sym h ∙ e))
+      go (tests w (one-fails r k c i d l f e)) = absurd (subst IsAccepted (sym h ∙ e) tt)
+
+  accepted-in : WellFormed M s → Passing → verdictOf M s ≡ accepted (count (sheetOf M s))
+  accepted-in w p =
+      verdict-is
+      ∙ (ap (verdictAfter M s) (w .read)
+      ∙ (after-whole (w .reading)
+      ∙ (judged-is (sheetOf M s)
+      ∙ (ap (λ b. cond b (first (sheetOf M s)) (refused 10 (some (length s)))) is-enough
+      ∙ pass-all (M .events) (accepted (count (sheetOf M s))) p))))
+    where
+      certificates : ℕ
+      certificates = length (sheetOf M s .certificates)
+
+      is-enough : enough (sheetOf M s) ≡ true
+      is-enough = T-true (enough (sheetOf M s)) (subst (λ k. T (eqb certificates k)) (w .enough) (eqb-refl certificates))
+
+  -- the first fault that a report names
+  abbrev FaultIn : Report → Type 0
+  FaultIn (accepted n) = Unit {0}
+  FaultIn (refused n at) = Unit {0}
+  FaultIn (unproved r k c i e l) = FirstFault (M .events) (rules (sheetOf M s)) (sheetOf M s .certificates) r k c i e l
+
+  unproved-out : (r k c i e l : ℕ) → verdictOf M s ≡ unproved r k c i e l → WellFormed M s × FaultIn (unproved r k c i e l)
+  unproved-out r k c i e l h = go decided
+    where
+      go : Decided (verdictOf M s) → WellFormed M s × FaultIn (unproved r k c i e l)
+      go (refuses n at x) = absurd (subst IsUnproved (sym h ∙ x) tt)
+      go (tests w (all-pass p x)) = absurd (subst IsUnproved (sym h ∙ x) tt)
+      go (tests w (one-fails r′ k′ c′ i′ e′ l′ f x)) = (w, subst FaultIn (sym x ∙ h) f)
+
+  -- Demand 3 ------------------------------------------------------------------------------------------------------------
+
+  pub accepted-has-body : (n : ℕ) → verdictOf M s ≡ accepted n → HasBody (body (sheetOf M s) 0)
+  accepted-has-body n h = let (w, p, e) = accepted-out n h in first-has-body M s (w .reading) (w .read)
+
+  module _ (wide : 32 ≤ M .events) (bytes : Bytes s) where
+    -- the rules of an accepted sheet are true
+    pub accepted-met : (n : ℕ) → verdictOf M s ≡ accepted n → AllMet (rulesFrom 0 (sheetOf M s))
+    unfolding rules
+    accepted-met n h =
+        let (w, p, e) = accepted-out n h in
+        all-met (M .events) p (rules-below (M .events) (sheetOf M s) (conditions-below M s wide bytes) 0 (events-below M s (w .reading) (w .read)))
+
+    -- after every list of moves, whichever it is, a run of an accepted sheet is safe
+    pub accepted-safe : (n : ℕ) → verdictOf M s ≡ accepted n → (ms : List Move) → Safe (sheetOf M s) (run (sheetOf M s) 0 ms)
+    unfolding rules
+    accepted-safe n h ms = runs-are-safe (sheetOf M s) 0 (accepted-has-body n h) (accepted-met n h) ms
+
+    -- what the loader promises is true of the definition's answer
+    pub loads : Loads M s (verdictOf M s)
+    unfolding rules
+    loads =
+        record {
+          stated = refl;
+          accepted-iff = λ n. (accepted-out n, λ x. accepted-in (x .0) (x .1) ∙ ap (λ k. accepted k) (sym (x .2)));
+          unproved-first = unproved-out;
+          rules-met = accepted-met;
+          sound = accepted-safe;
+          complete = λ w h c. accepted-in w (exact-pass (M .events) c h);
+        }
