@@ -6,25 +6,25 @@ use mathlib.Core.Option.{Option, none, some}
 use mathlib.Core.List.{List, [], _∷_}
 use lib.ListN.{length, length-append}
 use Rattle.sheet.specs.Sheet.{Body, Method, Step, event-step, call-step, pass-step, Sheet}
-use Rattle.runs.specs.Rules.{methodRules, stepRules, methodsRules, stepsRules, rulesFrom, rules, oneIfSome, isBodied, isEvent, isCall, isPass, total, count}
+use Rattle.runs.specs.Rules.{methodRules, stepRules, methodsRules, stepsRules, rulesFrom, rules, bodiesIn, bodyCount, eventCount, callCount, passCount, total, count}
 
 module _ (S : Sheet) where
-  of-method : (k : ℕ) (b : Option Body) → length (methodRules S k b) ≡ 4 * oneIfSome b
+  of-method : (k : ℕ) (b : Option Body) → length (methodRules S k b) ≡ 4 * bodiesIn b
   of-method k none = refl
   of-method k (some b) = refl
 
-  of-methods : (k : ℕ) (ms : List Method) → length (methodsRules S k ms) ≡ 4 * total isBodied ms
+  of-methods : (k : ℕ) (ms : List Method) → length (methodsRules S k ms) ≡ 4 * total bodyCount ms
   unfolding methodsRules total
   of-methods k [] = refl
   of-methods k (m ∷ ms) =
       length-append (methodRules S k (m .body)) (methodsRules S (suc k) ms) ∙ omega (arith, of-method k (m .body), of-methods (suc k) ms)
 
-  of-step : (k : ℕ) (t : Step) → length (stepRules S k t) ≡ 3 * isEvent t + 5 * isCall t + 3 * isPass t
+  of-step : (k : ℕ) (t : Step) → length (stepRules S k t) ≡ 3 * eventCount t + 5 * callCount t + 3 * passCount t
   of-step k (event-step p q a) = refl
   of-step k (call-step p q m) = refl
   of-step k (pass-step p q) = refl
 
-  of-steps : (k : ℕ) (ts : List Step) → length (stepsRules S k ts) ≡ 3 * total isEvent ts + 5 * total isCall ts + 3 * total isPass ts
+  of-steps : (k : ℕ) (ts : List Step) → length (stepsRules S k ts) ≡ 3 * total eventCount ts + 5 * total callCount ts + 3 * total passCount ts
   unfolding stepsRules total
   of-steps k [] = refl
   of-steps k (t ∷ ts) = length-append (stepRules S k t) (stepsRules S (suc k) ts) ∙ omega (arith, of-step k t, of-steps (suc k) ts)

@@ -90,27 +90,27 @@ AllMet = Each (λ x. Met (x .claim))
 
 -- The count: "2 + 4b + 3e + 5c + 3p for b methods with body, e event, c call and p pass steps" ---------------------------
 
-abbrev pub oneIfSome : Option Body → ℕ
-oneIfSome none = 0
-oneIfSome (some b) = 1
+abbrev pub bodiesIn : Option Body → ℕ
+bodiesIn none = 0
+bodiesIn (some b) = 1
 
-abbrev pub isBodied : Method → ℕ
-isBodied m = oneIfSome (m .body)
+abbrev pub bodyCount : Method → ℕ
+bodyCount m = bodiesIn (m .body)
 
-abbrev pub isEvent : Step → ℕ
-isEvent (event-step p q a) = 1
-isEvent (call-step p q m) = 0
-isEvent (pass-step p q) = 0
+abbrev pub eventCount : Step → ℕ
+eventCount (event-step p q a) = 1
+eventCount (call-step p q m) = 0
+eventCount (pass-step p q) = 0
 
-abbrev pub isCall : Step → ℕ
-isCall (event-step p q a) = 0
-isCall (call-step p q m) = 1
-isCall (pass-step p q) = 0
+abbrev pub callCount : Step → ℕ
+callCount (event-step p q a) = 0
+callCount (call-step p q m) = 1
+callCount (pass-step p q) = 0
 
-abbrev pub isPass : Step → ℕ
-isPass (event-step p q a) = 0
-isPass (call-step p q m) = 0
-isPass (pass-step p q) = 1
+abbrev pub passCount : Step → ℕ
+passCount (event-step p q a) = 0
+passCount (call-step p q m) = 0
+passCount (pass-step p q) = 1
 
 unfoldable pub total : {A : Type 0} → (A → ℕ) → List A → ℕ
 total f [] = 0
@@ -118,4 +118,4 @@ total f (x ∷ xs) = f x + total f xs
 
 unfoldable pub count : Sheet → ℕ
 unfolding total
-count S = 2 + 4 * total isBodied (S .methods) + 3 * total isEvent (S .steps) + 5 * total isCall (S .steps) + 3 * total isPass (S .steps)
+count S = 2 + 4 * total bodyCount (S .methods) + 3 * total eventCount (S .steps) + 5 * total callCount (S .steps) + 3 * total passCount (S .steps)

@@ -4,3 +4,4 @@ pub mod Loads
 pub mod Loop
 pub mod WordTest
 pub mod Cases
+pub mod Examples

@@ -1,0 +1,66 @@
+-- More sheets and words by evaluation: refusal 10, rules of steps and of the empty word, the word test's own refusals and their order.
+use mathlib.Core.Path.{_≡_, refl}
+use mathlib.Core.Option.{none, some}
+use mathlib.Core.List.{List, [], _∷_, _++_, map}
+use Prim.Native.Nat.{ℕ}
+use Prim.Native.String.{String}
+use lib.ListN.{take, replicate}
+use Rattle.condition.specs.Condition.{Word}
+use Rattle.sheet.specs.Model.{large}
+use Rattle.verdict.specs.Verdict.{verdictOf}
+use Rattle.verdict.specs.WordTest.{Answer, tested, untested, wordTest}
+use Rattle.verdict.specs.Line.{ascii, line}
+use Rattle.verdict.specs.Cases.{point0, method0, start, threeStarts, M, W}
+
+-- Sheets ----------------------------------------------------------------------------------------------------------------
+
+record Printed : Type 0 where
+  bytes : List ℕ
+  prints : String
+
+abbrev printed : List ℕ → String → Printed
+printed s t = record { bytes = s; prints = t }
+
+-- a pass from point 0 to itself
+abbrev pass0 : List ℕ
+pass0 = 0x0C ∷ 0 ∷ 0 ∷ 0 ∷ 0 ∷ []
+
+-- M with that step, and further certificates
+abbrev passing : List ℕ → List ℕ
+passing certificates = (0x02 ∷ 0x06 ∷ []) ++ (point0 ++ (method0 0 ++ (pass0 ++ (threeStarts ++ certificates))))
+
+sheets : List Printed
+sheets =
+    printed (take 20 M) "refused 10 at 20"
+    ∷ printed (M ++ (0x0E ∷ [])) "refused 10 at 42"
+    ∷ printed (passing threeStarts) "accepted 9"
+    ∷ printed (passing (start ++ (0x0E ∷ start))) "unproved rule 16 step 0 clause 1 pair 0 event 0 place 0"
+    ∷ printed ((0x01 ∷ 0x01 ∷ 0 ∷ 0 ∷ 0 ∷ 0x06 ∷ []) ++ (point0 ++ (method0 0 ++ threeStarts))) "unproved rule 1 method 0 clause 5 pair 0 event 0 place 0"
+    ∷ []
+
+sheets-print : map (λ x. line (verdictOf large (x .bytes))) sheets ≡ map (λ x. ascii (x .prints)) sheets
+unfolding sheets verdictOf line
+sheets-print = refl
+
+-- Words -----------------------------------------------------------------------------------------------------------------
+
+record Asked : Type 0 where
+  number : ℕ
+  word : Word
+  answer : Answer
+
+abbrev asked : ℕ → Word → Answer → Asked
+asked c w a = record { number = c; word = w; answer = a }
+
+words-asked : List Asked
+words-asked =
+    asked 1 [] (untested 14 none)
+    ∷ asked 0 (replicate 4097 0) (untested 12 none)
+    ∷ asked 1 (replicate 4097 32) (untested 14 none)
+    ∷ asked 0 (replicate 4097 32) (untested 12 none)
+    ∷ asked 0 (0 ∷ 32 ∷ 33 ∷ []) (untested 13 (some 1))
+    ∷ []
+
+words-answered : map (λ x. wordTest large W (x .number) (x .word)) words-asked ≡ map (λ x. x .answer) words-asked
+unfolding words-asked wordTest
+words-answered = refl
