@@ -1,4 +1,4 @@
--- The line that the loading program prints, as bytes without the newline: document 01, "Sheets to try".
+-- The lines that the loading program and the word test's program print, as bytes without the newline: document 01, "Sheets to try".
 use Prim.Native.Nat.{ℕ, zero, suc, _+_, _/_, _%_}
 use Prim.Native.String.{String, [] as noChars, _∷_ as _andThen_}
 use Prim.Native.Char.{code}
@@ -7,6 +7,7 @@ use mathlib.Core.Option.{Option, none, some}
 use mathlib.Core.List.{List, [], _∷_, _++_}
 use lib.Dec.{ltb}
 use Rattle.verdict.specs.Verdict.{Report, accepted, refused, unproved}
+use Rattle.verdict.specs.WordTest.{Answer, tested, untested}
 
 -- the bytes of a text in ASCII
 unfoldable pub ascii : String → List ℕ
@@ -30,6 +31,9 @@ abbrev pub placed : Option ℕ → List ℕ
 placed none = []
 placed (some at) = ascii " at " ++ decimal at
 
+abbrev pub refusedLine : ℕ → Option ℕ → List ℕ
+refusedLine n at = ascii "refused " ++ (decimal n ++ placed at)
+
 -- "from rule 7 on, `step` stands for `method`"
 abbrev pub subjectName : ℕ → List ℕ
 subjectName rule = cond (ltb rule 7) (ascii " method ") (ascii " step ")
@@ -37,10 +41,17 @@ subjectName rule = cond (ltb rule 7) (ascii " method ") (ascii " step ")
 unfoldable pub line : Report → List ℕ
 unfolding ascii decimal
 line (accepted n) = ascii "accepted " ++ decimal n
-line (refused n at) = ascii "refused " ++ (decimal n ++ placed at)
+line (refused n at) = refusedLine n at
 line (unproved r k c i e l) =
     ascii "unproved rule " ++ (decimal r ++ (subjectName r ++ (decimal k
     ++ (ascii " clause " ++ (decimal c
     ++ (ascii " pair " ++ (decimal i
     ++ (ascii " event " ++ (decimal e
     ++ (ascii " place " ++ decimal l))))))))))
+
+-- what the word test's program prints
+unfoldable pub answerLine : Answer → List ℕ
+unfolding ascii decimal
+answerLine (tested true) = ascii "yes"
+answerLine (tested false) = ascii "no"
+answerLine (untested n at) = refusedLine n at
