@@ -8,3 +8,6 @@ pub mod Kept
 pub mod Narrow
 pub mod Counted
 pub mod Named
+pub mod Items
+pub mod Spelled
+pub mod Postfix

@@ -1,0 +1,69 @@
+-- Symbols that stand record after record from an offset on, and the condition that they stand for.
+use mathlib.Core.Path.{_≡_, refl, ap, _∙_}
+use mathlib.Core.Option.{Option, some}
+use mathlib.Core.List.{List, [], _∷_, _++_}
+use Prim.Native.Nat.{ℕ, zero, suc, _+_, _≤_, _<_}
+use native.Mathlib.Nat.{le-of-suc-le-suc, not-suc-le-zero}
+use native.Mathlib.Omega.{arith}
+use lib.ListN.{length}
+use Rattle.condition.specs.Condition.{Condition}
+use Rattle.condition.specs.Places.{leaves}
+use Rattle.sheet.specs.Record.{Symbol, Record, symbol-record, end-of-condition, nextAt, recordAt}
+use Rattle.sheet.specs.Decode.{lastItem, itemsAfter, symbolIn, inFront, symbolsOn, symbolsAt, conditionAt, postfix}
+use Rattle.sheet.proofs.Fields.{next-lt}
+use Rattle.sheet.proofs.Items.{after-postfix}
+
+-- these symbols stand record after record from an offset on, and the record after them at the offset `end`
+pub data Spelled (s : List ℕ) (end : ℕ) : ℕ → List Symbol → Type 0 where
+  no-symbol : Spelled s end end []
+  a-symbol : {at : ℕ} {ys : List Symbol} (y : Symbol) → recordAt s at ≡ some (symbol-record y) → Spelled s end (nextAt s at) ys → Spelled s end at (y ∷ ys)
+
+module _ (s : List ℕ) (end : ℕ) where
+  pub spelled-more : {at : ℕ} {ys : List Symbol} (y : Symbol) → recordAt s end ≡ some (symbol-record y) → Spelled s end at ys
+      → Spelled s (nextAt s end) at (ys ++ (y ∷ []))
+  spelled-more y is no-symbol = a-symbol y is no-symbol
+  spelled-more y is (a-symbol x e t) = a-symbol x e (spelled-more y is t)
+
+  spelled-bytes : {at : ℕ} {ys : List Symbol} → Spelled s end at ys → at + length ys ≤ end
+  spelled-bytes no-symbol = omega arith
+  spelled-bytes (a-symbol {at = at} y e t) = omega (arith, next-lt s at, spelled-bytes t)
+
+  on-is : (fuel at : ℕ) → symbolsOn s (suc fuel) at ≡ inFront (symbolIn (recordAt s at)) (symbolsOn s fuel (nextAt s at))
+  unfolding symbolsOn
+  on-is fuel at = refl
+
+  spelled-on : recordAt s end ≡ some end-of-condition → (fuel : ℕ) {at : ℕ} {ys : List Symbol} → length ys < fuel → Spelled s end at ys → symbolsOn s fuel at ≡ ys
+  spelled-on closes zero h t = absurd (not-suc-le-zero h)
+  spelled-on closes (suc fuel) h no-symbol = on-is fuel end ∙ ap (λ (x : Option Record). inFront (symbolIn x) (symbolsOn s fuel (nextAt s end))) closes
+  spelled-on closes (suc fuel) h (a-symbol {at = at} y e t) =
+      on-is fuel at
+      ∙ ap (λ (x : Option Record). inFront (symbolIn x) (symbolsOn s fuel (nextAt s at))) e
+      ∙ ap (λ (ys : List Symbol). y ∷ ys) (spelled-on closes fuel (le-of-suc-le-suc h) t)
+
+-- the condition c stands at an offset
+pub record Stands (s : List ℕ) (o : ℕ) (c : Condition) : Type 0 where
+  pub end : ℕ
+  pub spelled : Spelled s end o (postfix c)
+  pub closes : recordAt s end ≡ some end-of-condition
+  pub inside : nextAt s end ≤ length s
+  pub few-symbols : length (postfix c) ≤ 96
+  pub few-leaves : leaves c ≤ 31
+
+module _ (s : List ℕ) (o : ℕ) where
+  symbols-at-is : symbolsAt s o ≡ symbolsOn s (length s) o
+  unfolding symbolsAt
+  symbols-at-is = refl
+
+  condition-at-is : conditionAt s o ≡ lastItem (itemsAfter (symbolsAt s o) [])
+  unfolding conditionAt
+  condition-at-is = refl
+
+  pub stands-symbols : (c : Condition) → Stands s o c → symbolsAt s o ≡ postfix c
+  stands-symbols c h =
+      symbols-at-is ∙ spelled-on s (h .end) (h .closes) (length s) (omega (arith, spelled-bytes s (h .end) (h .spelled), next-lt s (h .end), h .inside)) (h .spelled)
+
+  pub stands-condition : (c : Condition) → Stands s o c → conditionAt s o ≡ c
+  stands-condition c h =
+      condition-at-is
+      ∙ ap (λ (ys : List Symbol). lastItem (itemsAfter ys [])) (stands-symbols c h)
+      ∙ ap (λ (items : List Condition). lastItem items) (after-postfix c [])
