@@ -11,3 +11,4 @@ pub mod Named
 pub mod Items
 pub mod Spelled
 pub mod Postfix
+pub mod Certified
