@@ -5,12 +5,12 @@ use mathlib.Core.Option.{some}
 use mathlib.Core.List.{List, [], _∷_}
 use Prim.Native.Nat.{ℕ, suc, _+_, _-_, _≤_, _<_}
 use native.Mathlib.Omega.{arith}
-use lib.ListN.{length, length-append, getD}
+use lib.ListN.{length, length-append}
 use lib.Dec.{leb, lit≤}
 use borrow.Author.Tests.{ltb-false, leb-false, eqb-true, not-false}
 use Rattle.condition.specs.Condition.{Condition, noWord}
 use Rattle.condition.specs.Places.{leaves}
-use Rattle.sheet.specs.Model.{Model}
+use Rattle.sheet.specs.Model.{Model, symbolLimit, leafLimit}
 use Rattle.sheet.specs.Each.{Each, nil, cons}
 use Rattle.sheet.specs.Sheet.{condition}
 use Rattle.sheet.specs.Record.{Symbol, Record, symbol-record, end-of-condition, point-record, method-record, step-record, pair-record, end-of-certificate, byteAt, sectionOf, nextAt, recordAt}
@@ -47,8 +47,8 @@ one-item [] e = absurd (omega arith)
 one-item (a ∷ []) e = (a, refl)
 one-item (a ∷ b ∷ items) e = absurd (omega arith)
 
-one-leaf-more : (b : Bool) (l : ℕ) → l ≤ 31 → (b && leb 31 l) ≡ false → l + cond b 1 0 ≤ 31
-one-leaf-more true l h e = omega (arith, leb-false 31 l e)
+one-leaf-more : (b : Bool) (l : ℕ) → l ≤ 31 → (b && leb leafLimit l) ≡ false → l + cond b 1 0 ≤ 31
+one-leaf-more true l h e = omega (arith, leb-false leafLimit l e)
 one-leaf-more false l h e = omega arith
 
 module _ (s : List ℕ) (at : ℕ) where
@@ -56,7 +56,15 @@ module _ (s : List ℕ) (at : ℕ) where
   building-now : (section : ℕ) (u : Unended) → section ≤ 1 → Open s at section u → Building s (startOf u at) (itemsOf u) (symbolsOf u) (leavesOf u) at
   unfolding symbolsIn leavesIn
   building-now section nothing first h =
-      record { stack = []; spelled = no-symbol; items-counted = refl; symbols-counted = refl; leaves-counted = refl; few-symbols = omega arith; few-leaves = omega arith }
+      record {
+        stack = [];
+        spelled = no-symbol;
+        items-counted = refl;
+        symbols-counted = refl;
+        leaves-counted = refl;
+        few-symbols = omega arith;
+        few-leaves = omega arith;
+      }
   building-now section (a-condition o n k l) first h = h
   building-now section (a-certificate o) first h = absurd (omega arith)
 
@@ -76,35 +84,40 @@ module _ (s : List ℕ) (at : ℕ) where
           few-leaves = few′;
         }
 
-    building-ends : recordAt s at ≡ some end-of-condition → nextAt s at ≤ length s → n ≡ 1 → Stands s o (conditionAt s o)
+    building-stands : recordAt s at ≡ some end-of-condition → nextAt s at ≤ length s → n ≡ 1 → (c : Condition) × Stands s o c
     unfolding symbolsIn
-    building-ends is inside one =
+    building-stands is inside one =
         let (c, e) = one-item (h .stack) (h .items-counted ∙ one) in
-        let symbols : symbolsIn (h .stack) ≡ postfix c = ap symbolsIn e in
-        let stands : Stands s o c =
-        record {
-          end = at;
-          spelled = rw symbols at (h .spelled);
-          closes = is;
-          inside = inside;
-          few-symbols = omega (arith, ap (λ (ys : List Symbol). length ys) symbols, h .symbols-counted, h .few-symbols);
-          few-leaves = omega (arith, ap leavesIn symbols, leaves-postfix c, h .leaves-counted, h .few-leaves);
-        } in
+        let symbols : symbolsIn (h .stack) ≡ postfix c = ap symbolsIn e in (
+          c,
+          record {
+            end = at;
+            spelled = rw symbols at (h .spelled);
+            closes = is;
+            inside = inside;
+            few-symbols = omega (arith, ap (λ (ys : List Symbol). length ys) symbols, h .symbols-counted, h .few-symbols);
+            few-leaves = omega (arith, ap leavesIn symbols, leaves-postfix c, h .leaves-counted, h .few-leaves);
+          },
+        )
+
+    building-ends : recordAt s at ≡ some end-of-condition → nextAt s at ≤ length s → n ≡ 1 → Stands s o (conditionAt s o)
+    building-ends is inside one =
+        let (c, stands) = building-stands is inside one in
         rw (stands-condition s o c stands) stands
 
 -- The invariant -------------------------------------------------------------------------------------------------------
 
-abbrev AllStand : List ℕ → List ℕ → Type 0
+abbrev pub AllStand : List ℕ → List ℕ → Type 0
 AllStand s = Each (λ o. Stands s o (conditionAt s o))
 
 abbrev Good : List ℕ → ℕ → Reading → Type 0
 Good s at r = Open s at (r .section) (r .unended) × AllStand s (r .offsets .conditions)
 
-good-past : (M : Model) (s : List ℕ) (at : ℕ) (r : Reading) (x : Record) → recordAt s at ≡ some x → nextAt s at ≤ length s → r .section ≤ sectionOf (byteAt s at)
-    → wrongItems x (itemsOf (r .unended)) ≡ false → overLimit M r x ≡ false → Fits s at (byteAt s at) (some x) → Good s at r
-    → Good s (nextAt s at) (readingPast r (byteAt s at) at x)
+good-past : (M : Model) (s : List ℕ) (at : ℕ) (r : Reading) (x : Record) → recordAt s at ≡ some x → nextAt s at ≤ length s
+    → r .section ≤ sectionOf (byteAt s at) → wrongItems x (itemsOf (r .unended)) ≡ false → overLimit M r x ≡ false
+    → Fits s at (byteAt s at) (some x) → Good s at r → Good s (nextAt s at) (readingPast r (byteAt s at) at x)
 good-past M s at r (symbol-record y) is inside order items room fit (now, all) =
-    let (symbols, leaf) = or-false (leb 96 (symbolsOf (r .unended))) (isLeaf y && leb 31 (leavesOf (r .unended))) room in
+    let (symbols, leaf) = or-false (leb symbolLimit (symbolsOf (r .unended))) (isLeaf y && leb leafLimit (leavesOf (r .unended))) room in
     let building = building-now s at (r .section) (r .unended) (omega (arith, fit .0)) now in
     let few = one-leaf-more (isLeaf y) (leavesOf (r .unended)) (building .few-leaves) leaf in
     (building-past s at _ _ _ _ building y is (ltb-false _ _ items) (leb-false _ _ symbols) few, all)
@@ -134,5 +147,6 @@ module _ (M : Model) (s : List ℕ) where
     pub few-leaves : (c : ℕ) → leaves (condition (sheetOf M s) c) ≤ 31
     unfolding leaves
     few-leaves c =
-        subst (λ (cs : List Condition). leaves (getD cs c noWord) ≤ 31) (sym (conditions-are M s r h))
-        (each-getD (λ c. leaves c ≤ 31) (each-mapped (λ c. leaves c ≤ 31) (λ o. conditionAt s o) (each-map (λ o (t : Stands s o (conditionAt s o)). t .few-leaves) conditions-stand)) noWord (lit≤ tt) c)
+        let each = each-map (λ o (t : Stands s o (conditionAt s o)). t .few-leaves) conditions-stand in
+        let mapped = each-mapped (λ c. leaves c ≤ 31) (λ o. conditionAt s o) each in
+        rw (conditions-are M s r h) (each-getD (λ c. leaves c ≤ 31) mapped noWord (lit≤ tt) c)

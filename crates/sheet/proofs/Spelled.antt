@@ -16,7 +16,12 @@ use Rattle.sheet.proofs.Items.{after-postfix}
 -- these symbols stand record after record from an offset on, and the record after them at the offset `end`
 pub data Spelled (s : List ℕ) (end : ℕ) : ℕ → List Symbol → Type 0 where
   no-symbol : Spelled s end end []
-  a-symbol : {at : ℕ} {ys : List Symbol} (y : Symbol) → recordAt s at ≡ some (symbol-record y) → Spelled s end (nextAt s at) ys → Spelled s end at (y ∷ ys)
+  a-symbol : {at : ℕ} {ys : List Symbol} (y : Symbol) → recordAt s at ≡ some (symbol-record y) → Spelled s end (nextAt s at) ys
+      → Spelled s end at (y ∷ ys)
+
+on-is : (s : List ℕ) (fuel at : ℕ) → symbolsOn s (suc fuel) at ≡ inFront (symbolIn (recordAt s at)) (symbolsOn s fuel (nextAt s at))
+unfolding symbolsOn
+on-is s fuel at = refl
 
 module _ (s : List ℕ) (end : ℕ) where
   pub spelled-more : {at : ℕ} {ys : List Symbol} (y : Symbol) → recordAt s end ≡ some (symbol-record y) → Spelled s end at ys
@@ -28,19 +33,16 @@ module _ (s : List ℕ) (end : ℕ) where
   spelled-bytes no-symbol = omega arith
   spelled-bytes (a-symbol {at = at} y e t) = omega (arith, next-lt s at, spelled-bytes t)
 
-  on-is : (fuel at : ℕ) → symbolsOn s (suc fuel) at ≡ inFront (symbolIn (recordAt s at)) (symbolsOn s fuel (nextAt s at))
-  unfolding symbolsOn
-  on-is fuel at = refl
-
-  spelled-on : recordAt s end ≡ some end-of-condition → (fuel : ℕ) {at : ℕ} {ys : List Symbol} → length ys < fuel → Spelled s end at ys → symbolsOn s fuel at ≡ ys
+  spelled-on : recordAt s end ≡ some end-of-condition → (fuel : ℕ) {at : ℕ} {ys : List Symbol} → length ys < fuel → Spelled s end at ys
+      → symbolsOn s fuel at ≡ ys
   spelled-on closes zero h t = absurd (not-suc-le-zero h)
-  spelled-on closes (suc fuel) h no-symbol = on-is fuel end ∙ ap (λ (x : Option Record). inFront (symbolIn x) (symbolsOn s fuel (nextAt s end))) closes
+  spelled-on closes (suc fuel) h no-symbol = on-is s fuel end ∙ ap (λ (x : Option Record). inFront (symbolIn x) (symbolsOn s fuel (nextAt s end))) closes
   spelled-on closes (suc fuel) h (a-symbol {at = at} y e t) =
-      on-is fuel at
+      on-is s fuel at
       ∙ ap (λ (x : Option Record). inFront (symbolIn x) (symbolsOn s fuel (nextAt s at))) e
       ∙ ap (λ (ys : List Symbol). y ∷ ys) (spelled-on closes fuel (le-of-suc-le-suc h) t)
 
--- the condition c stands at an offset
+-- the condition c stands at an offset: its symbols, and then its end record
 pub record Stands (s : List ℕ) (o : ℕ) (c : Condition) : Type 0 where
   pub end : ℕ
   pub spelled : Spelled s end o (postfix c)
@@ -60,7 +62,8 @@ module _ (s : List ℕ) (o : ℕ) where
 
   pub stands-symbols : (c : Condition) → Stands s o c → symbolsAt s o ≡ postfix c
   stands-symbols c h =
-      symbols-at-is ∙ spelled-on s (h .end) (h .closes) (length s) (omega (arith, spelled-bytes s (h .end) (h .spelled), next-lt s (h .end), h .inside)) (h .spelled)
+      let enough : length (postfix c) < length s = omega (arith, spelled-bytes s (h .end) (h .spelled), next-lt s (h .end), h .inside) in
+      symbols-at-is ∙ spelled-on s (h .end) (h .closes) (length s) enough (h .spelled)
 
   pub stands-condition : (c : Condition) → Stands s o c → conditionAt s o ≡ c
   stands-condition c h =
