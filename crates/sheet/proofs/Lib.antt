@@ -9,6 +9,6 @@ pub mod Narrow
 pub mod Counted
 pub mod Named
 pub mod Items
-pub mod Spelled
+pub mod Symbols
 pub mod Postfix
 pub mod Certified

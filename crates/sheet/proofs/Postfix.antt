@@ -21,7 +21,7 @@ use Rattle.sheet.proofs.Kind.{Fits, fits}
 use Rattle.sheet.proofs.Take.{or-false, Took}
 use Rattle.sheet.proofs.ReadOn.{read-keeps}
 use Rattle.sheet.proofs.SheetOf.{conditions-are}
-use Rattle.sheet.proofs.Spelled.{Spelled, no-symbol, spelled-more, Stands, stands-symbols, stands-condition}
+use Rattle.sheet.proofs.Symbols.{SymbolsTo, no-symbol, one-symbol-more, Stands, stands-symbols, stands-condition}
 use Rattle.sheet.proofs.Items.{symbolsIn, past-symbol, leavesIn, leaves-append, leaves-postfix}
 
 -- What is open ---------------------------------------------------------------------------------------------------------
@@ -29,7 +29,7 @@ use Rattle.sheet.proofs.Items.{symbolsIn, past-symbol, leavesIn, leaves
 -- the symbols of an open condition, up to here, are those of a stack of items; so many items, symbols and leaves are counted
 record Building (s : List ℕ) (start items symbols leaves at : ℕ) : Type 0 where
   stack : List Condition
-  spelled : Spelled s at start (symbolsIn stack)
+  symbols-stand : SymbolsTo s at start (symbolsIn stack)
   items-counted : length stack ≡ items
   symbols-counted : length (symbolsIn stack) ≡ symbols
   leaves-counted : leavesIn (symbolsIn stack) ≡ leaves
@@ -58,7 +58,7 @@ module _ (s : List ℕ) (at : ℕ) where
   building-now section nothing first h =
       record {
         stack = [];
-        spelled = no-symbol;
+        symbols-stand = no-symbol;
         items-counted = refl;
         symbols-counted = refl;
         leaves-counted = refl;
@@ -76,7 +76,7 @@ module _ (s : List ℕ) (at : ℕ) where
         let (symbols, count) = past-symbol y (h .stack) (omega (arith, h .items-counted)) in
         record {
           stack = itemsPast y (h .stack);
-          spelled = rw symbols (spelled-more s at y is (h .spelled));
+          symbols-stand = rw symbols (one-symbol-more s at y is (h .symbols-stand));
           items-counted = omega (arith, count, h .items-counted);
           symbols-counted = rw symbols (omega (arith, length-append (symbolsIn (h .stack)) (y ∷ []), h .symbols-counted));
           leaves-counted = rw symbols (omega (arith, leaves-append (symbolsIn (h .stack)) (y ∷ []), h .leaves-counted));
@@ -84,25 +84,23 @@ module _ (s : List ℕ) (at : ℕ) where
           few-leaves = few′;
         }
 
-    building-stands : recordAt s at ≡ some end-of-condition → nextAt s at ≤ length s → n ≡ 1 → (c : Condition) × Stands s o c
+    building-stands : recordAt s at ≡ some end-of-condition → nextAt s at ≤ length s → (c : Condition) → h .stack ≡ c ∷ [] → Stands s o c
     unfolding symbolsIn
-    building-stands is inside one =
-        let (c, e) = one-item (h .stack) (h .items-counted ∙ one) in
-        let symbols : symbolsIn (h .stack) ≡ postfix c = ap symbolsIn e in (
-          c,
-          record {
-            end = at;
-            spelled = rw symbols at (h .spelled);
-            closes = is;
-            inside = inside;
-            few-symbols = omega (arith, ap (λ (ys : List Symbol). length ys) symbols, h .symbols-counted, h .few-symbols);
-            few-leaves = omega (arith, ap leavesIn symbols, leaves-postfix c, h .leaves-counted, h .few-leaves);
-          },
-        )
+    building-stands is inside c e =
+        let symbols : symbolsIn (h .stack) ≡ postfix c = ap symbolsIn e in
+        record {
+          end = at;
+          symbols-stand = rw symbols at (h .symbols-stand);
+          closes = is;
+          inside = inside;
+          few-symbols = omega (arith, ap (λ (ys : List Symbol). length ys) symbols, h .symbols-counted, h .few-symbols);
+          few-leaves = omega (arith, ap leavesIn symbols, leaves-postfix c, h .leaves-counted, h .few-leaves);
+        }
 
     building-ends : recordAt s at ≡ some end-of-condition → nextAt s at ≤ length s → n ≡ 1 → Stands s o (conditionAt s o)
     building-ends is inside one =
-        let (c, stands) = building-stands is inside one in
+        let (c, e) = one-item (h .stack) (h .items-counted ∙ one) in
+        let stands = building-stands is inside c e in
         rw (stands-condition s o c stands) stands
 
 -- The invariant -------------------------------------------------------------------------------------------------------

@@ -14,38 +14,38 @@ use Rattle.sheet.proofs.Fields.{next-lt}
 use Rattle.sheet.proofs.Items.{after-postfix}
 
 -- these symbols stand record after record from an offset on, and the record after them at the offset `end`
-pub data Spelled (s : List ℕ) (end : ℕ) : ℕ → List Symbol → Type 0 where
-  no-symbol : Spelled s end end []
-  a-symbol : {at : ℕ} {ys : List Symbol} (y : Symbol) → recordAt s at ≡ some (symbol-record y) → Spelled s end (nextAt s at) ys
-      → Spelled s end at (y ∷ ys)
+pub data SymbolsTo (s : List ℕ) (end : ℕ) : ℕ → List Symbol → Type 0 where
+  no-symbol : SymbolsTo s end end []
+  a-symbol : {at : ℕ} {ys : List Symbol} (y : Symbol) → recordAt s at ≡ some (symbol-record y) → SymbolsTo s end (nextAt s at) ys
+      → SymbolsTo s end at (y ∷ ys)
 
 on-is : (s : List ℕ) (fuel at : ℕ) → symbolsOn s (suc fuel) at ≡ inFront (symbolIn (recordAt s at)) (symbolsOn s fuel (nextAt s at))
 unfolding symbolsOn
 on-is s fuel at = refl
 
 module _ (s : List ℕ) (end : ℕ) where
-  pub spelled-more : {at : ℕ} {ys : List Symbol} (y : Symbol) → recordAt s end ≡ some (symbol-record y) → Spelled s end at ys
-      → Spelled s (nextAt s end) at (ys ++ (y ∷ []))
-  spelled-more y is no-symbol = a-symbol y is no-symbol
-  spelled-more y is (a-symbol x e t) = a-symbol x e (spelled-more y is t)
+  pub one-symbol-more : {at : ℕ} {ys : List Symbol} (y : Symbol) → recordAt s end ≡ some (symbol-record y) → SymbolsTo s end at ys
+      → SymbolsTo s (nextAt s end) at (ys ++ (y ∷ []))
+  one-symbol-more y is no-symbol = a-symbol y is no-symbol
+  one-symbol-more y is (a-symbol x e t) = a-symbol x e (one-symbol-more y is t)
 
-  spelled-bytes : {at : ℕ} {ys : List Symbol} → Spelled s end at ys → at + length ys ≤ end
-  spelled-bytes no-symbol = omega arith
-  spelled-bytes (a-symbol {at = at} y e t) = omega (arith, next-lt s at, spelled-bytes t)
+  symbols-bytes : {at : ℕ} {ys : List Symbol} → SymbolsTo s end at ys → at + length ys ≤ end
+  symbols-bytes no-symbol = omega arith
+  symbols-bytes (a-symbol {at = at} y e t) = omega (arith, next-lt s at, symbols-bytes t)
 
-  spelled-on : recordAt s end ≡ some end-of-condition → (fuel : ℕ) {at : ℕ} {ys : List Symbol} → length ys < fuel → Spelled s end at ys
+  symbols-on : recordAt s end ≡ some end-of-condition → (fuel : ℕ) {at : ℕ} {ys : List Symbol} → length ys < fuel → SymbolsTo s end at ys
       → symbolsOn s fuel at ≡ ys
-  spelled-on closes zero h t = absurd (not-suc-le-zero h)
-  spelled-on closes (suc fuel) h no-symbol = on-is s fuel end ∙ ap (λ (x : Option Record). inFront (symbolIn x) (symbolsOn s fuel (nextAt s end))) closes
-  spelled-on closes (suc fuel) h (a-symbol {at = at} y e t) =
+  symbols-on closes zero h t = absurd (not-suc-le-zero h)
+  symbols-on closes (suc fuel) h no-symbol = on-is s fuel end ∙ ap (λ (x : Option Record). inFront (symbolIn x) (symbolsOn s fuel (nextAt s end))) closes
+  symbols-on closes (suc fuel) h (a-symbol {at = at} y e t) =
       on-is s fuel at
       ∙ ap (λ (x : Option Record). inFront (symbolIn x) (symbolsOn s fuel (nextAt s at))) e
-      ∙ ap (λ (ys : List Symbol). y ∷ ys) (spelled-on closes fuel (le-of-suc-le-suc h) t)
+      ∙ ap (λ (ys : List Symbol). y ∷ ys) (symbols-on closes fuel (le-of-suc-le-suc h) t)
 
 -- the condition c stands at an offset: its symbols, and then its end record
 pub record Stands (s : List ℕ) (o : ℕ) (c : Condition) : Type 0 where
   pub end : ℕ
-  pub spelled : Spelled s end o (postfix c)
+  pub symbols-stand : SymbolsTo s end o (postfix c)
   pub closes : recordAt s end ≡ some end-of-condition
   pub inside : nextAt s end ≤ length s
   pub few-symbols : length (postfix c) ≤ 96
@@ -62,8 +62,8 @@ module _ (s : List ℕ) (o : ℕ) where
 
   pub stands-symbols : (c : Condition) → Stands s o c → symbolsAt s o ≡ postfix c
   stands-symbols c h =
-      let enough : length (postfix c) < length s = omega (arith, spelled-bytes s (h .end) (h .spelled), next-lt s (h .end), h .inside) in
-      symbols-at-is ∙ spelled-on s (h .end) (h .closes) (length s) enough (h .spelled)
+      let enough : length (postfix c) < length s = omega (arith, symbols-bytes s (h .end) (h .symbols-stand), next-lt s (h .end), h .inside) in
+      symbols-at-is ∙ symbols-on s (h .end) (h .closes) (length s) enough (h .symbols-stand)
 
   pub stands-condition : (c : Condition) → Stands s o c → conditionAt s o ≡ c
   stands-condition c h =
