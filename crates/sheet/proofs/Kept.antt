@@ -43,8 +43,8 @@ has-body : (b : Option Body) → isPrimitive b ≡ false → HasBody b
 has-body none e = absurd (subst T e tt)
 has-body (some b) e = tt
 
-first-past : (s : List ℕ) (at : ℕ) (m : Method) (os : List ℕ) → methodAt s at ≡ m → (noneYet os && isPrimitive (m .body)) ≡ false → FirstHasBody s os
-    → FirstHasBody s (os ++ (at ∷ []))
+first-past : (s : List ℕ) (at : ℕ) (m : Method) (os : List ℕ) → methodAt s at ≡ m → (noneYet os && isPrimitive (m .body)) ≡ false
+    → FirstHasBody s os → FirstHasBody s (os ++ (at ∷ []))
 first-past s at m [] is e h = subst (λ (x : Method). HasBody (x .body)) (sym is) (has-body (m .body) e)
 first-past s at m (o ∷ os) is e h = h
 
@@ -57,8 +57,8 @@ record Kept (n : ℕ) (s steps methods : List ℕ) : Type 0 where
 abbrev KeptIn : ℕ → List ℕ → Offsets → Type 0
 KeptIn n s f = Kept n s (f .steps) (f .methods)
 
-kept-past : (n : ℕ) (s : List ℕ) (f : Offsets) (t : Tally) (start at k : ℕ) (x : Record) → Fits s at k (some x) → T (named n t x) → firstIsPrimitive f x ≡ false
-    → KeptIn n s f → KeptIn n s (offsetsPast f start at x)
+kept-past : (n : ℕ) (s : List ℕ) (f : Offsets) (t : Tally) (start at k : ℕ) (x : Record) → Fits s at k (some x) → T (named n t x)
+    → firstIsPrimitive f x ≡ false → KeptIn n s f → KeptIn n s (offsetsPast f start at x)
 kept-past n s f t start at k (symbol-record y) fit name first h = h
 kept-past n s f t start at k end-of-condition fit name first h = h
 kept-past n s f t start at k (point-record p) fit name first h = h

@@ -37,6 +37,10 @@ Fits s at k (some (step-record t)) = stepAt s at ≡ t
 Fits s at k (some (pair-record p)) = k ≡ 13
 Fits s at k (some end-of-certificate) = k ≡ 14
 
+infixr 20 _and_
+_and_ : {A B : Type 0} → A → B → A × B
+a and b = (a, b)
+
 -- P i of the i-th element, for each i, and of the default past the end
 abbrev Numbered : {A : Type 0} → (ℕ → A → Type 0) → List A → A → Type 0
 Numbered P [] d = (i : ℕ) → P i d
@@ -47,10 +51,12 @@ numbered P [] d h i = h i
 numbered P (x ∷ xs) d h zero = h .0
 numbered P (x ∷ xs) d h (suc i) = numbered (λ i. P (suc i)) xs d (h .1) i
 
+-- kind 0, the symbols' kinds 1 to 5, kinds 6 to 14, and those above
 by-table : (s : List ℕ) (at k : ℕ) → Fits s at k (getD (recordsByKind s at) k none)
 by-table s at =
     numbered (Fits s at) (recordsByKind s at) none
-    (tt, ((refl, refl), ((refl, tt), ((refl, tt), ((refl, tt), ((refl, tt), (refl, (refl, (refl, (refl, (refl, (refl, (refl, (refl, (refl, λ i. tt)))))))))))))))
+    (tt and (refl, refl) and (refl, tt) and (refl, tt) and (refl, tt) and (refl, tt)
+    and refl and refl and refl and refl and refl and refl and refl and refl and refl and (λ i. tt))
 
 -- the record that stands at an offset fits there
 pub fits : (s : List ℕ) (at : ℕ) (x : Option Record) → recordAt s at ≡ x → Fits s at (byteAt s at) x

@@ -8,3 +8,7 @@ pub mod Kept
 pub mod Narrow
 pub mod Counted
 pub mod Named
+pub mod Items
+pub mod Symbols
+pub mod Postfix
+pub mod Certified

@@ -12,7 +12,7 @@ use Rattle.sheet.specs.Model.{Model}
 use Rattle.sheet.specs.Each.{Each, nil, cons}
 use Rattle.sheet.specs.Sheet.{Point, Body, Method, Step, event-step, call-step, pass-step, Sheet}
 use Rattle.sheet.specs.Record.{Record, symbol-record, end-of-condition, point-record, method-record, step-record, pair-record, end-of-certificate, pointAt, methodAt, stepAt}
-use Rattle.sheet.specs.Reading.{Tally, Offsets, Reading, bodyNamed, stepNamed, named, tallyPast, offsetsPast, whole, readSheet}
+use Rattle.sheet.specs.Reading.{Tally, Offsets, Reading, fresh, bodyNamed, stepNamed, named, tallyPast, offsetsPast, whole, readSheet}
 use Rattle.sheet.specs.Decode.{conditionAt, sheetAt, sheetOf}
 use Rattle.sheet.proofs.Each.{each-map, each-append, each-mapped}
 use Rattle.sheet.proofs.Kind.{Fits, fits}
@@ -44,34 +44,36 @@ StepNamed points methods (pass-step p q) = (p < points) × (q < points)
 
 -- The names of a record that is taken ---------------------------------------------------------------------------------
 
-both-below : (a m b n : ℕ) → T (ltb a m && ltb b n) → (a < m) × (b < n)
-both-below a m b n h = let (x, y) = and-out (ltb a m) (ltb b n) h in (ltb→lt a m x, ltb→lt b n y)
+two-below : (a b n : ℕ) → T (ltb a n && ltb b n) → (a < n) × (b < n)
+two-below a b n h = let (x, y) = and-out (ltb a n) (ltb b n) h in (ltb→lt a n x, ltb→lt b n y)
+
+three-below : (a b n c m : ℕ) → T (ltb a n && ltb b n && ltb c m) → (a < n) × (b < n) × (c < m)
+three-below a b n c m h =
+    let (xy, z) = and-out (ltb a n && ltb b n) (ltb c m) h in
+    let (x, y) = two-below a b n xy in
+    (x, y, ltb→lt c m z)
 
 module _ (n : ℕ) (t : Tally) where
   point-named : (x : Point) → T (named n t (point-record x)) → PointNamed (t .conditions) x
   point-named x h =
-      let (ab, c) = and-out (ltb (x .past) (t .conditions) && ltb (x .own) (t .conditions)) (ltb (x .due) (t .conditions)) h in
-      let (a, b) = both-below _ _ _ _ ab in
-      record { past-exists = a; own-exists = b; due-exists = ltb→lt _ _ c }
+      let (a, b, c) = three-below (x .past) (x .own) (t .conditions) (x .due) (t .conditions) h in
+      record { past-exists = a; own-exists = b; due-exists = c }
 
   body-named : (b : Option Body) → T (bodyNamed t b) → BodyNamed (t .points) b
   body-named none h = tt
-  body-named (some b) h = both-below (b .entry) _ (b .exit) _ h
+  body-named (some b) h = two-below (b .entry) (b .exit) (t .points) h
 
   method-named : (x : Method) → T (named n t (method-record x)) → MethodNamed (t .conditions) (t .points) x
   method-named x h =
-      let (abc, d) = and-out (ltb (x .pre) (t .conditions) && ltb (x .trace) (t .conditions) && ltb (x .future) (t .conditions)) (bodyNamed t (x .body)) h in
-      let (ab, c) = and-out (ltb (x .pre) (t .conditions) && ltb (x .trace) (t .conditions)) (ltb (x .future) (t .conditions)) abc in
-      let (a, b) = both-below _ _ _ _ ab in
-      record { pre-exists = a; trace-exists = b; future-exists = ltb→lt _ _ c; body-named = body-named (x .body) d }
+      let c = t .conditions in
+      let (conditions, points) = and-out (ltb (x .pre) c && ltb (x .trace) c && ltb (x .future) c) (bodyNamed t (x .body)) h in
+      let (a, b, d) = three-below (x .pre) (x .trace) c (x .future) c conditions in
+      record { pre-exists = a; trace-exists = b; future-exists = d; body-named = body-named (x .body) points }
 
   step-named : (x : Step) → T (stepNamed n t x) → StepNamed (t .points) (t .methods) x
-  step-named (event-step p q a) h = both-below p _ q _ (and-out (ltb p (t .points) && ltb q (t .points)) (ltb a n) h .0)
-  step-named (call-step p q m) h =
-      let (pq, c) = and-out (ltb p (t .points) && ltb q (t .points)) (ltb m (t .methods)) h in
-      let (a, b) = both-below _ _ _ _ pq in
-      (a, b, ltb→lt _ _ c)
-  step-named (pass-step p q) h = both-below p _ q _ h
+  step-named (event-step p q a) h = let (x, y, z) = three-below p q (t .points) a n h in (x, y)
+  step-named (call-step p q m) h = three-below p q (t .points) m (t .methods) h
+  step-named (pass-step p q) h = two-below p q (t .points) h
 
 -- The invariant -------------------------------------------------------------------------------------------------------
 
@@ -170,8 +172,8 @@ module _ (M : Model) (s : List ℕ) where
   module _ (r : Reading) (h : readSheet M s ≡ whole r) where
     pub names-at-offsets : NamedIn s (r .tally) (r .offsets)
     names-at-offsets =
-        read-keeps M s (λ at (r : Reading). NamedIn s (r .tally) (r .offsets)) still-named r h (record { points-named = nil; methods-named = nil; steps-named = nil })
-        .holds
+        let at-start : NamedIn s (fresh .tally) (fresh .offsets) = record { points-named = nil; methods-named = nil; steps-named = nil } in
+        read-keeps M s (λ at (r : Reading). NamedIn s (r .tally) (r .offsets)) still-named r h at-start .holds
 
     pub names-exist : Named (sheetOf M s)
     names-exist =

@@ -40,15 +40,17 @@ module _ (n : ℕ) where
   others-below [] h = nil
   others-below (a ∷ items) h = each-tail h
 
+  two-below : (items : List Condition) → AllBelow items
+      → (EventsBelow n (lastItem (otherItems items)) × EventsBelow n (lastItem items)) × AllBelow (otherItems (otherItems items))
+  two-below items h =
+      let others = others-below items h in
+      ((last-below (otherItems items) others, last-below items h), others-below (otherItems items) others)
+
   past-below : (y : Symbol) (items : List Condition) → SetBelow n y → AllBelow items → AllBelow (itemsPast y items)
   past-below (leaf-symbol t) items b h = cons {x = leaf t} b h
   past-below empty-symbol items b h = cons {x = empty} tt h
-  past-below join-symbol items b h =
-      let others = others-below items h in
-      cons {x = join (lastItem (otherItems items)) (lastItem items)} (last-below (otherItems items) others, last-below items h) (others-below (otherItems items) others)
-  past-below either-symbol items b h =
-      let others = others-below items h in
-      cons {x = either (lastItem (otherItems items)) (lastItem items)} (last-below (otherItems items) others, last-below items h) (others-below (otherItems items) others)
+  past-below join-symbol items b h = let (two, rest) = two-below items h in cons {x = join (lastItem (otherItems items)) (lastItem items)} two rest
+  past-below either-symbol items b h = let (two, rest) = two-below items h in cons {x = either (lastItem (otherItems items)) (lastItem items)} two rest
   past-below star-symbol items b h = cons {x = star (lastItem items)} (last-below items h) (others-below items h)
 
   after-below : {ys : List Symbol} (items : List Condition) → Each (SetBelow n) ys → AllBelow items → AllBelow (itemsAfter ys items)

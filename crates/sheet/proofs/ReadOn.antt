@@ -116,8 +116,10 @@ module _ (s : List ℕ) (P : ℕ → Reading → Type 0) (at : ℕ) (r r′ : Re
       go (suc n) e h = absurd (subst IsWhole (sym h) tt)
 
 -- an invariant of the offset and the state, kept by each record that is taken, holds at the end
-module _ (M : Model) (s : List ℕ) (P : ℕ → Reading → Type 0) (kept : (at : ℕ) (r t : Reading) → Took M s at r t → P at r → P (nextAt s at) t) where
-  module _ (fuel at : ℕ) (r r′ : Reading) (p : P at r) (more : (t : Reading) → readOn M s fuel (nextAt s at) t ≡ whole r′ → P (nextAt s at) t → Finished P r′) where
+module _ (M : Model) (s : List ℕ) (P : ℕ → Reading → Type 0)
+    (kept : (at : ℕ) (r t : Reading) → Took M s at r t → P at r → P (nextAt s at) t) where
+  module _ (fuel at : ℕ) (r r′ : Reading) (p : P at r)
+      (more : (t : Reading) → readOn M s fuel (nextAt s at) t ≡ whole r′ → P (nextAt s at) t → Finished P r′) where
     record-keeps : (x : Taken) → takeAt M s at r ≡ x → afterRecord M s fuel at x ≡ whole r′ → Finished P r′
     record-keeps (taken t) e h = more t h (kept at r t (took M s at r t e) p)
     record-keeps (not-taken n) e h = absurd (subst IsWhole (sym h) tt)

@@ -25,11 +25,11 @@ module _ {A : Type 0} (read : ℕ → A) where
   mapped-getD d (o ∷ os) (suc i) h = mapped-getD d os i (le-of-suc-le-suc h)
 
   module _ (os : List ℕ) {xs : List A} (are : xs ≡ map read os) where
-    counted : length xs ≡ length os
-    counted = ap (λ (l : List A). length l) are ∙ length-map os read
+    as-many : length xs ≡ length os
+    as-many = ap (λ (l : List A). length l) are ∙ length-map os read
 
-    numbered : (i : ℕ) → i < length os → getElem? xs i ≡ some (read (getD os i 0))
-    numbered i h = ap (λ (l : List A). getElem? l i) are ∙ mapped-get os i h
+    element : (i : ℕ) → i < length os → getElem? xs i ≡ some (read (getD os i 0))
+    element i h = ap (λ (l : List A). getElem? l i) are ∙ mapped-get os i h
 
 module _ (M : Model) (s : List ℕ) where
   of-is : sheetOf M s ≡ sheetRead s (readSheet M s)
@@ -67,33 +67,36 @@ module _ (M : Model) (s : List ℕ) where
     -- how many there are
 
     pub conditions-counted : length (sheetOf M s .conditions) ≡ length (r .offsets .conditions)
-    conditions-counted = counted (λ o. conditionAt s o) (r .offsets .conditions) conditions-are
+    conditions-counted = as-many (λ o. conditionAt s o) (r .offsets .conditions) conditions-are
 
     pub points-counted : length (sheetOf M s .points) ≡ length (r .offsets .points)
-    points-counted = counted (λ o. pointAt s o) (r .offsets .points) points-are
+    points-counted = as-many (λ o. pointAt s o) (r .offsets .points) points-are
 
     pub methods-counted : length (sheetOf M s .methods) ≡ length (r .offsets .methods)
-    methods-counted = counted (λ o. methodAt s o) (r .offsets .methods) methods-are
+    methods-counted = as-many (λ o. methodAt s o) (r .offsets .methods) methods-are
 
     pub steps-counted : length (sheetOf M s .steps) ≡ length (r .offsets .steps)
-    steps-counted = counted (λ o. stepAt s o) (r .offsets .steps) steps-are
+    steps-counted = as-many (λ o. stepAt s o) (r .offsets .steps) steps-are
 
     pub certificates-counted : length (sheetOf M s .certificates) ≡ length (r .offsets .certificates)
-    certificates-counted = counted (λ o. certificateAt s o) (r .offsets .certificates) certificates-are
+    certificates-counted = as-many (λ o. certificateAt s o) (r .offsets .certificates) certificates-are
 
     -- the one with a number
 
     pub condition-is : (i : ℕ) → i < length (r .offsets .conditions) → condition (sheetOf M s) i ≡ conditionAt s (getD (r .offsets .conditions) i 0)
-    condition-is i l = ap (λ (cs : List Condition). getD cs i noWord) conditions-are ∙ mapped-getD (λ o. conditionAt s o) noWord (r .offsets .conditions) i l
+    condition-is i l =
+        ap (λ (cs : List Condition). getD cs i noWord) conditions-are
+        ∙ mapped-getD (λ o. conditionAt s o) noWord (r .offsets .conditions) i l
 
     pub point-is : (i : ℕ) → i < length (r .offsets .points) → getElem? (sheetOf M s .points) i ≡ some (pointAt s (getD (r .offsets .points) i 0))
-    point-is = numbered (λ o. pointAt s o) (r .offsets .points) points-are
+    point-is = element (λ o. pointAt s o) (r .offsets .points) points-are
 
     pub method-is : (i : ℕ) → i < length (r .offsets .methods) → getElem? (sheetOf M s .methods) i ≡ some (methodAt s (getD (r .offsets .methods) i 0))
-    method-is = numbered (λ o. methodAt s o) (r .offsets .methods) methods-are
+    method-is = element (λ o. methodAt s o) (r .offsets .methods) methods-are
 
     pub step-is : (i : ℕ) → i < length (r .offsets .steps) → getElem? (sheetOf M s .steps) i ≡ some (stepAt s (getD (r .offsets .steps) i 0))
-    step-is = numbered (λ o. stepAt s o) (r .offsets .steps) steps-are
+    step-is = element (λ o. stepAt s o) (r .offsets .steps) steps-are
 
-    pub certificate-is : (i : ℕ) → i < length (r .offsets .certificates) → getElem? (sheetOf M s .certificates) i ≡ some (certificateAt s (getD (r .offsets .certificates) i 0))
-    certificate-is = numbered (λ o. certificateAt s o) (r .offsets .certificates) certificates-are
+    pub certificate-is : (i : ℕ) → i < length (r .offsets .certificates)
+        → getElem? (sheetOf M s .certificates) i ≡ some (certificateAt s (getD (r .offsets .certificates) i 0))
+    certificate-is = element (λ o. certificateAt s o) (r .offsets .certificates) certificates-are
