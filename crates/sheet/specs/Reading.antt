@@ -7,7 +7,7 @@ use mathlib.Core.List.{List, [], _∷_, _++_}
 use lib.ListN.{length}
 use lib.Dec.{eqb, ltb, leb}
 use Rattle.sheet.specs.Model.{Model, conditionLimit, symbolLimit, leafLimit, methodLimit, stepLimit}
-use Rattle.sheet.specs.Sheet.{Point, Body, Method, Step, event-step, call-step, pass-step}
+use Rattle.sheet.specs.Sheet.{Body, Step, event-step, call-step, pass-step}
 use Rattle.sheet.specs.Record.{Symbol, leaf-symbol, empty-symbol, join-symbol, either-symbol, star-symbol, Record, symbol-record, end-of-condition, point-record, method-record, step-record, pair-record, end-of-certificate, byteAt, sectionOf, nextAt, recordAt}
 
 -- The state between two records ---------------------------------------------------------------------------------------

@@ -6,7 +6,7 @@ use mathlib.Core.List.{List, [], _∷_}
 use lib.ListN.{getD}
 use lib.Dec.{eqb}
 use Rattle.certificate.specs.Certificate.{Pair, pair}
-use Rattle.sheet.specs.Sheet.{Point, Body, Method, Step, event-step, call-step, pass-step}
+use Rattle.sheet.specs.Sheet.{Point, Method, Step, event-step, call-step, pass-step}
 
 -- a sheet is "bytes": each element is below 256
 abbrev pub Bytes : List ℕ → Type 0
