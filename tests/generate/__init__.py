@@ -1,0 +1,1 @@
+"""Seeded generators of sheets and words for document 01."""

@@ -1,0 +1,117 @@
+"""Writes the stored vectors: python3 -m generate.make_vectors [FOLDER]
+
+For each of the programs reading_cases, sheet_cases and word_cases, what it
+reads (stdin) and what it must print (stdout), below FOLDER, the repository's
+crates. The files are the same byte for byte each time. A case whose line
+document 01 gives by construction must get that line from the reference.
+"""
+import sys
+import time
+from pathlib import Path
+
+from reference.loader import load_line, word_line_of
+from reference.reading import read_sheet, reading_line
+from reference.rules import rule_count
+from sheets.records import encode
+
+from . import faults
+from .refusals import Case, reading_cases, without_repeats
+from .special import special_cases, wide_sides
+from .true_sheets import large_true_sheets, true_sheets
+from .words import word_groups
+
+FOLDER = Path(__file__).resolve().parent.parent.parent / "crates"
+
+
+def u32(number):
+    return number.to_bytes(4, "little")
+
+
+def all_reading_cases():
+    """Everything for reading_cases."""
+    yield from reading_cases()
+    for _, sheet in true_sheets(41, 64, 60):
+        counts = " ".join(str(len(part)) for part in sheet)
+        yield Case("true sheet", encode(sheet), f"read {counts}")
+
+
+def true_cases(sheets):
+    for shape, sheet in sheets:
+        yield Case(f"true {shape}", encode(sheet),
+                   f"accepted {rule_count(sheet)}")
+
+
+def all_sheet_cases():
+    """Everything for sheet_cases."""
+    yield from special_cases()
+    yield from true_cases(true_sheets(51, 480, 100))
+    yield from true_cases(large_true_sheets(52, 24))
+    sheets = [sheet for _, sheet in true_sheets(53, 160, 80)]
+    yield from faults.certificate_faults(54, sheets, 6)
+    wide = [read_sheet(case.data) for case in wide_sides()]
+    yield from faults.certificate_faults(65, wide, 1)
+    yield from faults.broken_rules(55, 8)
+    yield from faults.kept_certificates(56, sheets[:80])
+    yield from faults.changed_certificates(57, sheets[:96])
+    yield from faults.certificate_counts(58, sheets[:16])
+    yield from faults.two_faults(59, sheets[:48])
+    yield from faults.changed_conditions(60, sheets[40:])
+    yield from faults.changed_bytes(61, sheets)
+    yield from faults.changed_records(62, sheets[:80])
+    yield from faults.near_record_changes(63, sheets[:80])
+    yield from faults.random_bytes(64, 60)
+
+
+def write_cases(folder, name, cases, line_of):
+    """Write the cases and their lines; return the number of cases."""
+    parts, lines = [], []
+    for case in without_repeats(cases):
+        line = line_of(case.data)
+        if not faults.agrees(case, line):
+            raise AssertionError(f"{case.label}: {case.line!r}, found {line!r}")
+        parts += [u32(len(case.data)), case.data]
+        lines.append(line + "\n")
+    write(folder, name, parts, lines)
+    return len(lines)
+
+
+def write(folder, name, parts, lines):
+    (folder / name).mkdir(parents=True, exist_ok=True)
+    (folder / name / "stdin").write_bytes(b"".join(parts))
+    (folder / name / "stdout").write_bytes("".join(lines).encode("ascii"))
+
+
+def write_words(folder):
+    """Write the cases of words and their lines; return the number of cases."""
+    parts, lines = [], []
+    for group in word_groups():
+        sheet = read_sheet(group.sheet)
+        parts += [u32(len(group.sheet)), group.sheet, u32(len(group.cases))]
+        for condition, word, expected in group.cases:
+            line = word_line_of(sheet, condition, word)
+            if line != expected:
+                raise AssertionError(f"{word}: {expected}, found {line}")
+            parts += [condition.to_bytes(2, "little"),
+                      len(word).to_bytes(2, "little"), bytes(word)]
+            lines.append(line + "\n")
+    write(folder, "word_cases", parts, lines)
+    return len(lines)
+
+
+def main(arguments):
+    folder = Path(arguments[0]) if arguments else FOLDER
+    start = time.monotonic()
+    for name, make in (
+            ("reading_cases",
+             lambda name: write_cases(folder, name, all_reading_cases(), reading_line)),
+            ("sheet_cases",
+             lambda name: write_cases(folder, name, all_sheet_cases(), load_line)),
+            ("word_cases", lambda name: write_words(folder))):
+        count = make(name)
+        size = (folder / name / "stdin").stat().st_size
+        print(f"{name}: {count} cases, {size} bytes, "
+              f"{time.monotonic() - start:.1f} s")
+
+
+if __name__ == "__main__":
+    main(sys.argv[1:])

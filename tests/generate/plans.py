@@ -1,0 +1,202 @@
+"""Control graphs for sheets of document 01: points, methods and steps."""
+from typing import NamedTuple
+
+from reference.reading import CALL_STEP, EVENT_STEP, PASS_STEP, Step
+
+from .trees import measured, random_tree
+
+
+class Body(NamedTuple):
+    """A method with body."""
+    entry: int
+    exit: int
+
+
+class Plan:
+    """A control graph; methods are Body or, for a primitive, its trace."""
+
+    def __init__(self, alphabet):
+        self.alphabet = alphabet
+        self.points = 0
+        self.methods = []
+        self.steps = []
+
+    def point(self):
+        self.points += 1
+        return self.points - 1
+
+    def event(self, source, target, event):
+        self.steps.append(Step(EVENT_STEP, source, target, event))
+
+    def call(self, source, target, method):
+        self.steps.append(Step(CALL_STEP, source, target, method))
+
+    def pass_(self, source, target):
+        self.steps.append(Step(PASS_STEP, source, target))
+
+    def bodies(self):
+        return [(number, method) for number, method in enumerate(self.methods)
+                if isinstance(method, Body)]
+
+
+def add_primitives(draws, plan, count):
+    """Primitives with small random traces."""
+    for _ in range(count):
+        tree = random_tree(draws, draws.between(1, 3), plan.alphabet)
+        plan.methods.append(measured(tree))
+
+
+def add_block(draws, plan, source, target, depth):
+    """A structured block of steps from source to target."""
+    way = draws.below(10)
+    if depth == 0 or way < 2:
+        add_step(draws, plan, source, target)
+    elif way < 6:
+        middle = plan.point()
+        add_block(draws, plan, source, middle, depth - 1)
+        add_block(draws, plan, middle, target, depth - 1)
+    elif way < 8:
+        add_block(draws, plan, source, target, depth - 1)
+        add_block(draws, plan, source, target, depth - 1)
+    else:
+        add_block(draws, plan, source, source, depth - 1)
+        add_step(draws, plan, source, target)
+
+
+def add_step(draws, plan, source, target, callees=None):
+    """One random step."""
+    callees = range(len(plan.methods)) if callees is None else callees
+    way = draws.below(10)
+    if way < 3 and callees:
+        plan.call(source, target, draws.pick(callees))
+    elif way < 8 and plan.alphabet:
+        plan.event(source, target, draws.pick(plan.alphabet))
+    else:
+        plan.pass_(source, target)
+
+
+def declare(draws, plan, bodies, primitives):
+    """Methods with their points; the first has a body."""
+    first = Body(plan.point(), plan.point())
+    rest = [Body(plan.point(), plan.point()) for _ in range(bodies - 1)]
+    add_primitives(draws, plan, primitives)
+    made, plan.methods = plan.methods, []
+    plan.methods = [first] + draws.shuffled(rest + made)
+
+
+def structured(draws, alphabet):
+    """Methods that are structured blocks; any may call any."""
+    plan = Plan(alphabet)
+    declare(draws, plan, draws.between(1, 3), draws.below(3))
+    for _, body in plan.bodies():
+        add_block(draws, plan, body.entry, body.exit, draws.between(1, 2))
+    return plan
+
+
+def line(draws, alphabet):
+    """One method, one step after another."""
+    plan = Plan(alphabet)
+    last = plan.point()
+    plan.methods.append(Body(0, 0))
+    add_primitives(draws, plan, draws.below(2))
+    for _ in range(draws.between(0, 4)):
+        following = plan.point()
+        add_step(draws, plan, last, following, range(1, len(plan.methods)))
+        last = following
+    plan.methods[0] = Body(0, last)
+    return plan
+
+
+def loop(draws, alphabet):
+    """A loop with its step back; the exit is on the loop or after it."""
+    plan = Plan(alphabet)
+    top = last = plan.point()
+    plan.methods.append(Body(top, top))
+    add_primitives(draws, plan, draws.between(0, 2))
+    for _ in range(draws.between(0, 2)):
+        following = plan.point()
+        add_step(draws, plan, last, following, range(1, len(plan.methods)))
+        last = following
+    add_step(draws, plan, last, top, range(1, len(plan.methods)))
+    if draws.chance(0.5):
+        out = plan.point()
+        add_step(draws, plan, top, out, range(1, len(plan.methods)))
+        plan.methods[0] = Body(top, out)
+    return plan
+
+
+def nested_calls(draws, alphabet):
+    """Each method calls the next, the last calls a primitive."""
+    plan = Plan(alphabet)
+    depth = draws.between(2, 4)
+    plan.methods = [Body(plan.point(), plan.point()) for _ in range(depth)]
+    add_primitives(draws, plan, 1)
+    for number, body in list(plan.bodies()):
+        middle = plan.point()
+        add_step(draws, plan, body.entry, middle, [])
+        plan.call(middle, body.exit, number + 1)
+        if draws.chance(0.4):
+            plan.pass_(body.exit, body.entry)
+    return plan
+
+
+def recursion(draws, alphabet):
+    """Direct or mutual recursion with a way out."""
+    plan = Plan(alphabet)
+    depth = draws.between(1, 2)
+    plan.methods = [Body(plan.point(), plan.point()) for _ in range(depth)]
+    add_primitives(draws, plan, draws.below(2))
+    for number, body in list(plan.bodies()):
+        before, after = plan.point(), plan.point()
+        add_step(draws, plan, body.entry, before, [])
+        plan.call(before, after, (number + 1) % depth)
+        add_step(draws, plan, after, body.exit)
+        add_step(draws, plan, body.entry, body.exit, [])
+    return plan
+
+
+def shared_points(draws, alphabet):
+    """Methods that share entry, exit or inner points."""
+    plan = Plan(alphabet)
+    points = [plan.point() for _ in range(draws.between(2, 4))]
+    for _ in range(draws.between(2, 3)):
+        plan.methods.append(Body(draws.pick(points), draws.pick(points)))
+    add_primitives(draws, plan, draws.below(2))
+    for source, target in zip(points, points[1:]):
+        add_step(draws, plan, source, target)
+    for _ in range(draws.below(3)):
+        add_step(draws, plan, draws.pick(points), draws.pick(points))
+    return plan
+
+
+def tangled(draws, alphabet):
+    """Any steps between any points; some points are never reached."""
+    plan = Plan(alphabet)
+    points = [plan.point() for _ in range(draws.between(1, 5))]
+    for _ in range(draws.between(1, 3)):
+        plan.methods.append(Body(draws.pick(points), draws.pick(points)))
+    add_primitives(draws, plan, draws.below(3))
+    for _ in range(draws.between(0, 7)):
+        add_step(draws, plan, draws.pick(points), draws.pick(points))
+    return plan
+
+
+def exit_steps(draws, alphabet):
+    """Steps out of the exit point, back and onward."""
+    shape = structured if draws.chance(0.4) else line
+    plan = shape(draws, alphabet)
+    for _, body in plan.bodies():
+        add_step(draws, plan, body.exit, draws.below(plan.points))
+        if draws.chance(0.3):
+            add_step(draws, plan, body.exit, plan.point())
+    return plan
+
+
+SHAPES = (line, loop, structured, nested_calls, recursion, shared_points,
+          tangled, exit_steps)
+
+
+def random_plan(draws, shape):
+    """A plan of a shape over a few events."""
+    count = draws.pick((1, 2, 2, 3, 4))
+    return shape(draws, sorted(draws.some(range(32), count)))

@@ -1,0 +1,163 @@
+"""Single sheets of document 01 that no random choice is likely to make."""
+from pathlib import Path
+
+from reference.conditions import ANY, EITHER, EMPTY, JOIN, LEAF, STAR
+from reference.reading import (CALL_STEP, EVENT_STEP, MAX_BYTES, PASS_STEP,
+                               Method, Point, Sheet, Step)
+from reference.rules import rule_count
+from sheets.assemble import assemble
+from sheets.records import encode, with_certificates
+
+from .refusals import Case
+
+EXAMPLES = Path(__file__).resolve().parent.parent / "sheets" / "examples"
+ANY_STAR = (STAR, (LEAF, ANY))
+EMPTY_TREE = (EMPTY,)
+M = bytes.fromhex("0206" "07000000000000" "0900000000000000000000"
+                  + "0d00010000000e" * 3)
+
+
+def examples():
+    """The texts beside the assembler; each one's first line has its answer."""
+    for path in sorted(EXAMPLES.glob("*.txt")):
+        text = path.read_text(encoding="utf-8")
+        line = text.splitlines()[0].removeprefix("# loader: ")
+        yield Case(path.name, assemble(text), line)
+
+
+def starred():
+    """The cases of "Sheets to try" that are sheets."""
+    trace_1 = M[:2] + bytes.fromhex("010100000006") + M[2:]
+    trace_1 = trace_1[:18] + b"\x01" + trace_1[19:]
+    return [Case("no bytes", b"", "refused 9 at 0"),
+            Case("0F", b"\x0f", "refused 2 at 0"),
+            Case("01", b"\x01", "refused 3 at 0"),
+            Case("03", b"\x03", "refused 5 at 0"),
+            Case("a name", bytes.fromhex("020607010000000000"),
+                 "refused 7 at 2"),
+            Case("M", M, "accepted 6"),
+            Case("M cut", M[:-1], "refused 8 at 40"),
+            Case("M with trace 1", trace_1, "unproved rule 5 method 0 clause 3"
+                 " pair 0 event 0 place 0"),
+            Case("65,536 zeros", bytes(MAX_BYTES), "refused 2 at 0"),
+            Case("65,537 zeros", bytes(MAX_BYTES + 1), "refused 1 at 65536")]
+
+
+def accepted(label, sheet):
+    """A true sheet as a case; it gets its certificates here."""
+    return Case(label, encode(with_certificates(sheet)),
+                f"accepted {rule_count(sheet)}")
+
+
+def one_method(trees, points, steps, primitives=()):
+    """A sheet with one method from point 0 to the last; trees[0] is EMPTY."""
+    methods = [Method(0, 1, 0, 0, len(points) - 1)] + list(primitives)
+    return Sheet(trees, points, methods, steps, [])
+
+
+def full_limits():
+    """256 conditions, 512 points, 64 methods and 512 steps, accepted."""
+    conditions = [EMPTY_TREE] + [ANY_STAR] * 255
+    points = [Point(255, 254, 253)] * 512
+    methods = [Method(255, 1, 255, number * 8, 511) for number in range(64)]
+    methods[0] = Method(0, 1, 0, 0, 511)
+    steps = [Step(PASS_STEP, number, (number + 1) % 512)
+             for number in range(512)]
+    return accepted("full limits",
+                    Sheet(conditions, points, methods, steps, []))
+
+
+def many_calls():
+    """512 calls of a primitive."""
+    points = [Point(1, 1, 1)] * 2
+    steps = [Step(CALL_STEP, number % 2, 1, 1) for number in range(512)]
+    return accepted("512 calls", one_method(
+        [EMPTY_TREE, ANY_STAR], points, steps, [Method(1, 1, 1)]))
+
+
+def chain(leaves, first=0):
+    """A condition with one word, of that many events."""
+    tree = (LEAF, 1 << first)
+    for event in range(first + 1, first + leaves):
+        tree = (JOIN, tree, (LEAF, 1 << event % 32))
+    return tree
+
+
+def nested(tree, stars):
+    for _ in range(stars):
+        tree = (STAR, tree)
+    return tree
+
+
+def wide_sides():
+    """Sides with the most places: 62 on the left, 31 on the right."""
+    word, other = chain(31), chain(31, 1)
+    many = (LEAF, ANY)
+    for _ in range(30):
+        many = (EITHER, many, (LEAF, ANY))
+    trees = [EMPTY_TREE, ANY_STAR, word, other, (STAR, many), nested(word, 35)]
+    for past, trace, after in ((2, 3, 1), (2, 3, 4), (4, 3, 4), (5, 5, 4),
+                               (4, 4, 4), (5, 2, 5)):
+        points = [Point(4, 1, 4), Point(4, 1, 4), Point(past, 1, 4),
+                  Point(after, 1, 1)]
+        calls = [Step(CALL_STEP, 2, 3, 1)]
+        sheet = one_method(trees, points, calls, [Method(past, trace, 1)])
+        yield accepted("wide sides", sheet)
+
+
+def longest():
+    """M with one certificate repeated up to 65,536 bytes, and one byte more."""
+    room = MAX_BYTES - len(M)
+    pairs, rest = divmod(room, 6)
+    unused = b"\x02" + b"\x05" * (rest - 2) + b"\x06"
+    data = M[:2] + unused + M[2:20] + M[20:26] * pairs + M[20:]
+    yield Case("65,536 bytes, accepted", data, "accepted 6")
+    yield Case("65,537 bytes", data + b"\x0e", "refused 1 at 65536")
+
+
+def large_certificate():
+    """A condition with many reachable pairs, against itself and its like."""
+    both = (LEAF, 3)
+    tree = (JOIN, (STAR, both), (LEAF, 1))
+    for _ in range(8):
+        tree = (JOIN, tree, both)
+    trees = [EMPTY_TREE, ANY_STAR, (EITHER, EMPTY_TREE, tree),
+             (EITHER, tree, EMPTY_TREE)]
+    points = [Point(3, 0, 0)]
+    sheet = Sheet(trees, points, [Method(2, 1, 0, 0, 0)], [], [])
+    return accepted("large certificate", sheet)
+
+
+def truncations():
+    """Every beginning of M and of one example, as the loader sees it."""
+    example = next(case for case in examples() if case.label == "close_loop.txt")
+    for data in (M, example.data):
+        for length in range(len(data)):
+            yield Case(f"beginning of {length} bytes", data[:length])
+
+
+def event_edges():
+    """Event steps of the events 0 and 31, with exact conditions."""
+    for event in (0, 1, 30, 31):
+        word = (LEAF, 1 << event)
+        trees = [EMPTY_TREE, word, (STAR, word), ANY_STAR]
+        points = [Point(0, 0, 1), Point(1, 1, 0)]
+        yield accepted("event edge", one_method(
+            trees, points, [Step(EVENT_STEP, 0, 1, event)]))
+        points = [Point(2, 2, 2)]
+        sheet = Sheet(trees, points, [Method(0, 2, 0, 0, 0)],
+                      [Step(EVENT_STEP, 0, 0, event)], [])
+        yield accepted("event loop", sheet)
+
+
+def special_cases():
+    """All single sheets."""
+    yield from starred()
+    yield from examples()
+    yield full_limits()
+    yield many_calls()
+    yield from wide_sides()
+    yield from longest()
+    yield large_certificate()
+    yield from truncations()
+    yield from event_edges()

@@ -1,0 +1,293 @@
+"""True sheets of document 01 in many shapes, with all reachable pairs.
+
+A control graph is drawn first; then conditions are computed for which the
+seventeen rules hold, exact ones or wider ones.
+"""
+from reference.certificates import first_fault, reachable_pairs
+from reference.loader import Accepted, verdict
+from reference.reading import (CALL_STEP, EVENT_STEP, PASS_STEP, Method, Point,
+                               Sheet)
+from sheets.records import TooManyPairs, encode, with_certificates
+
+from .draws import Draws
+from .equations import (TooLarge, fits, least_solution, reversed_edges,
+                        reversed_solution, widened_solution)
+from .plans import SHAPES, Body, random_plan
+from .trees import (ANY_STAR, EMPTY_TREE, NOTHING, ONLY_EMPTY, either,
+                    events_of, measured, random_tree, star)
+
+
+PAST_RULES = {EVENT_STEP: 7, CALL_STEP: 11, PASS_STEP: 15}
+
+
+class Solver:
+    """Finds conditions for a plan.
+
+    A rule may be left out, given as (rule, subject): the conditions then
+    keep every other rule, and mostly break that one.
+    """
+
+    def __init__(self, draws, plan, left_out=None):
+        self.draws = draws
+        self.plan = plan
+        self.left_out = left_out
+        self.leaves = draws.pick((3, 5, 8, 12, 24))
+        self.wide_share = draws.pick((0, 0, 0.1, 0.3, 1))
+        self.extra_share = draws.pick((0, 0, 0.2))
+        self.traces = {}
+        self.used = self.used_events()
+        everything = measured(ANY_STAR)
+        few = star(measured((1, self.used)))
+        fitting = few if self.used and not self.uses_any() else everything
+        self.wide = fitting if draws.chance(0.6) else everything
+        self.own_extras = self.extras(range(plan.points))
+
+    def uses_any(self):
+        return self.used == events_of(ANY_STAR)
+
+    def used_events(self):
+        """All events of the plan."""
+        used = 0
+        for event in self.plan.alphabet:
+            used |= 1 << event
+        for method in self.plan.methods:
+            if not isinstance(method, Body):
+                used |= events_of(method.tree)
+        return used
+
+    def extras(self, unknowns):
+        """Random small languages that some unknowns hold beside the least."""
+        result = {}
+        for one in unknowns:
+            if self.draws.chance(self.extra_share):
+                tree = random_tree(self.draws, self.draws.between(1, 2),
+                                   self.plan.alphabet)
+                if events_of(tree) & ~self.used == 0:
+                    result[one] = measured(tree)
+        return result
+
+    def label(self, step):
+        """What a step raises."""
+        if step.kind == EVENT_STEP:
+            return measured((1, 1 << step.operand))
+        if step.kind == CALL_STEP:
+            return self.trace(step.operand)
+        return ONLY_EMPTY
+
+    def edges(self, steps, later):
+        """An edge for each step; later is 0 for past, 1 for own, 2 for due."""
+        result = []
+        for step in steps:
+            rule = PAST_RULES[step.kind] + later
+            if step.kind == CALL_STEP and later == 2:
+                rule = 14
+            if (rule, self.plan.steps.index(step)) != self.left_out:
+                result.append((step.source, self.label(step), step.target))
+        return result
+
+    def own_sources(self):
+        """The empty word at each entry, and the extras."""
+        sources = dict(self.own_extras)
+        for number, body in self.plan.bodies():
+            if (4, number) != self.left_out:
+                sources[body.entry] = either(sources.get(body.entry, NOTHING),
+                                             ONLY_EMPTY)
+        return sources
+
+    def steps_before(self, point):
+        """The steps on the ways to a point."""
+        reached, steps = {point}, []
+        while True:
+            more = [step for step in self.plan.steps
+                    if step.target in reached and step not in steps]
+            if not more:
+                return steps
+            steps += more
+            reached |= {step.source for step in more}
+
+    def trace(self, number):
+        """The trace of a method; a recursive one gets a wide trace."""
+        if number not in self.traces:
+            method = self.plan.methods[number]
+            if (5, number) == self.left_out:
+                self.traces[number] = self.random_trace()
+            elif isinstance(method, Body):
+                self.traces[number] = self.wide
+                self.traces[number] = self.body_trace(number, method)
+            else:
+                self.traces[number] = method
+        return self.traces[number]
+
+    def random_trace(self):
+        """A trace that may break rule 5, of events in use."""
+        while True:
+            tree = random_tree(self.draws, 2, self.plan.alphabet)
+            if events_of(tree) & ~self.used == 0:
+                return measured(tree)
+
+    def is_recursive(self, number):
+        """Whether the trace of a method depends on itself."""
+        seen, todo = set(), [number]
+        while todo:
+            for step in self.steps_before(self.plan.methods[todo.pop()].exit):
+                if step.kind != CALL_STEP or step.operand in seen:
+                    continue
+                seen.add(step.operand)
+                if isinstance(self.plan.methods[step.operand], Body):
+                    todo.append(step.operand)
+        return number in seen
+
+    def body_trace(self, number, body):
+        if self.is_recursive(number) or self.draws.chance(self.wide_share):
+            return self.wide
+        edges = self.edges(self.steps_before(body.exit), 1)
+        try:
+            solution = least_solution(self.draws.shuffled(
+                range(self.plan.points)), self.own_sources(), edges)
+        except TooLarge:
+            return self.wide
+        result = solution[body.exit]
+        return result if fits(result, self.leaves) else self.wide
+
+    def solve(self, unknowns, sources, edges):
+        widened = [one for one in unknowns if self.draws.chance(self.wide_share)]
+        return widened_solution(self.draws, unknowns, sources, edges,
+                                self.wide, self.leaves, widened)
+
+    def owns(self):
+        """own by point; a trace that does not hold its own(exit) is widened."""
+        for number in range(len(self.plan.methods)):
+            self.trace(number)
+        while True:
+            owns = self.solve(list(range(self.plan.points)), self.own_sources(),
+                              self.edges(self.plan.steps, 1))
+            short = [number for number, body in self.plan.bodies()
+                     if (5, number) != self.left_out
+                     and not is_plainly_included(owns[body.exit].tree,
+                                                 self.traces[number].tree)]
+            if not short:
+                return owns
+            self.traces.update((number, self.wide) for number in short)
+
+    def call_edges(self, rule, end):
+        """Edges from a call's source or target to the called method's unknown."""
+        return [(step[end], ONLY_EMPTY, ("outer", step.operand))
+                for number, step in enumerate(self.plan.steps)
+                if step.kind == CALL_STEP and (rule, number) != self.left_out]
+
+    def body_edges(self, rule, end):
+        """Edges from a method's unknown to its entry or exit."""
+        return [(("outer", number), ONLY_EMPTY, body[end])
+                for number, body in self.plan.bodies()
+                if (rule, number) != self.left_out]
+
+    def pasts(self):
+        """past by point, and pre by ("outer", method)."""
+        edges = self.edges(self.plan.steps, 0)
+        edges += self.body_edges(3, 0) + self.call_edges(10, 1)
+        return self.outer_solution(edges, 1)
+
+    def dues(self):
+        """due by point, and future by ("outer", method)."""
+        edges = reversed_edges(self.edges(self.plan.steps, 2))
+        edges += self.body_edges(6, 1) + self.call_edges(13, 2)
+        return reversed_solution(self.outer_solution(edges, 2))
+
+    def outer_solution(self, edges, rule):
+        """Solve for the points and one more unknown for each method."""
+        unknowns = list(range(self.plan.points))
+        unknowns += [("outer", number)
+                     for number in range(len(self.plan.methods))]
+        sources = self.extras(unknowns)
+        if (rule, 0) != self.left_out:
+            sources["outer", 0] = either(sources.get(("outer", 0), NOTHING),
+                                         ONLY_EMPTY)
+        return self.solve(unknowns, sources, edges)
+
+    def sheet(self):
+        """The sheet, without certificates."""
+        owns, pasts, dues = self.owns(), self.pasts(), self.dues()
+        numbering = Numbering(self.draws)
+        points = [Point(numbering(pasts[one].tree), numbering(owns[one].tree),
+                        numbering(dues[one].tree))
+                  for one in range(self.plan.points)]
+        methods = []
+        for number, method in enumerate(self.plan.methods):
+            ends = method if isinstance(method, Body) else ()
+            methods.append(Method(numbering(pasts["outer", number].tree),
+                                  numbering(self.trace(number).tree),
+                                  numbering(dues["outer", number].tree), *ends))
+        sheet = Sheet(numbering.trees, points, methods, self.plan.steps, [])
+        return shuffled_conditions(self.draws, sheet)
+
+
+def is_plainly_included(left, right, limit=500):
+    """Whether left is in right, with no more than that many reachable pairs."""
+    pairs = reachable_pairs(left, right, limit)
+    return pairs is not None and first_fault(left, right, pairs) is None
+
+
+class Numbering:
+    """Numbers conditions; equal ones mostly share a number."""
+
+    def __init__(self, draws):
+        self.draws = draws
+        self.trees = [EMPTY_TREE] if draws.chance(0.2) else []
+
+    def __call__(self, tree):
+        if tree in self.trees and self.draws.chance(0.9):
+            return self.trees.index(tree)
+        self.trees.append(tree)
+        return len(self.trees) - 1
+
+
+def shuffled_conditions(draws, sheet):
+    """The same sheet with its conditions in another order."""
+    order = draws.shuffled(range(len(sheet.conditions)))
+    new = {old: number for number, old in enumerate(order)}
+    points = [Point(*(new[name] for name in point)) for point in sheet.points]
+    methods = [Method(*(new[name] for name in method[:3]), *method[3:])
+               for method in sheet.methods]
+    return Sheet([sheet.conditions[old] for old in order], points, methods,
+                 sheet.steps, [])
+
+
+def true_sheet(draws, shape, max_pairs=150):
+    """A true sheet of a shape, or None if it has too many pairs."""
+    sheet = Solver(draws, random_plan(draws, shape)).sheet()
+    if len(sheet.conditions) > 256:
+        return None
+    try:
+        return with_certificates(sheet, max_pairs)
+    except TooManyPairs:
+        return None
+
+
+def true_sheets(seed, count, max_pairs=150):
+    """That many true sheets, of every shape in turn."""
+    draws, made = Draws(seed), 0
+    while made < count:
+        shape = SHAPES[made % len(SHAPES)]
+        sheet = true_sheet(draws, shape, max_pairs)
+        if sheet is not None:
+            yield shape.__name__, checked(sheet)
+            made += 1
+
+
+def large_true_sheets(seed, count, min_pairs=200, max_pairs=900):
+    """True sheets with long certificates, of any shape."""
+    draws, made = Draws(seed), 0
+    while made < count:
+        shape = draws.pick(SHAPES)
+        sheet = true_sheet(draws, shape, max_pairs)
+        if sheet and sum(map(len, sheet.certificates)) >= min_pairs:
+            yield shape.__name__, checked(sheet)
+            made += 1
+
+
+def checked(sheet):
+    """The sheet, which must be accepted."""
+    result = verdict(encode(sheet))
+    if not isinstance(result, Accepted):
+        raise AssertionError(f"not accepted: {result}")
+    return sheet

@@ -1,0 +1,1 @@
+"""Reference implementation of document 01, written from its text alone."""

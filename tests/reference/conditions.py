@@ -1,0 +1,125 @@
+"""Document 01, "Events and conditions" and the places of "Places and certificates".
+
+A condition is a tree of tuples: (LEAF, set), (EMPTY,), (JOIN, a, b),
+(EITHER, a, b), (STAR, a). The tags are the kinds of the records.
+Sets of events and sets of places are ints used as bit sets.
+"""
+from functools import lru_cache
+from typing import NamedTuple
+
+LEAF, EMPTY, JOIN, EITHER, STAR = 1, 2, 3, 4, 5
+EVENTS = 32
+ANY = (1 << EVENTS) - 1
+ITEMS = {LEAF: 0, EMPTY: 0, JOIN: 2, EITHER: 2, STAR: 1}
+
+
+class Places(NamedTuple):
+    """The Glushkov automaton of one side. Place 0 is the start."""
+    nullable: bool
+    first: int
+    last: int
+    follow: tuple    # follow[k]: the places that follow place k
+    sets: tuple      # sets[k]: the events of leaf k; sets[0] is 0
+    ending: int      # the places that end a word
+    holding: tuple   # holding[e]: the places whose leaf holds e
+
+    @property
+    def leaves(self):
+        return len(self.sets) - 1
+
+
+def bits(number):
+    """The positions of the one bits, ascending."""
+    while number:
+        low = number & -number
+        yield low.bit_length() - 1
+        number ^= low
+
+
+def apply_record(stack, kind, events=0):
+    """Apply a record of kinds 1 to 5 to a stack of items. False: items lack."""
+    needed = ITEMS[kind]
+    if len(stack) < needed:
+        return False
+    items = stack[len(stack) - needed:]
+    del stack[len(stack) - needed:]
+    stack.append((LEAF, events) if kind == LEAF else (kind, *items))
+    return True
+
+
+def parse_postfix(records):
+    """The tree of a list of (kind, set) in postfix order, or None."""
+    stack = []
+    for kind, events in records:
+        if not apply_record(stack, kind, events):
+            return None
+    return stack[0] if len(stack) == 1 else None
+
+
+def postfix(tree):
+    """The list of (kind, set) of a tree, in postfix order."""
+    if tree[0] == LEAF:
+        return [(LEAF, tree[1])]
+    records = []
+    for item in tree[1:]:
+        records += postfix(item)
+    return records + [(tree[0], 0)]
+
+
+def _visit(tree, sets, follow):
+    """Number the leaves of a tree; return its nullable, first and last."""
+    kind = tree[0]
+    if kind == LEAF:
+        place = 1 << len(sets)
+        sets.append(tree[1])
+        follow.append(0)
+        return False, place, place
+    if kind == EMPTY:
+        return True, 0, 0
+    nullable, first, last = _visit(tree[1], sets, follow)
+    if kind == STAR:
+        for place in bits(last):
+            follow[place] |= first
+        return True, first, last
+    nullable2, first2, last2 = _visit(tree[2], sets, follow)
+    if kind == EITHER:
+        return nullable or nullable2, first | first2, last | last2
+    for place in bits(last):
+        follow[place] |= first2
+    return (nullable and nullable2,
+            first | first2 if nullable else first,
+            last | last2 if nullable2 else last2)
+
+
+@lru_cache(maxsize=20000)
+def places_of(tree):
+    """The Glushkov automaton of a tree."""
+    sets, follow = [0], [0]
+    nullable, first, last = _visit(tree, sets, follow)
+    follow[0] = first
+    holding = tuple(sum(1 << place for place, events in enumerate(sets)
+                        if events >> event & 1) for event in range(EVENTS))
+    return Places(nullable, first, last, tuple(follow), tuple(sets),
+                  last | nullable, holding)
+
+
+def followers(places, from_set):
+    """All followers of a set of places."""
+    result = 0
+    for place in bits(from_set):
+        result |= places.follow[place]
+    return result
+
+
+def step(places, from_set, event):
+    """A set of places stepped by an event."""
+    return followers(places, from_set) & places.holding[event]
+
+
+def holds(tree, word):
+    """Whether the word, of events 0 to 31, is in the condition."""
+    places = places_of(tree)
+    current = 1
+    for event in word:
+        current = step(places, current, event)
+    return current & places.ending != 0

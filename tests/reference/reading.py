@@ -1,0 +1,229 @@
+"""Document 01, "Records" and refusals 1 to 9 of "What the loader returns"."""
+from typing import NamedTuple
+
+from .conditions import EITHER, ITEMS, JOIN, LEAF, STAR, apply_record
+
+END_CONDITION, POINT, PRIMITIVE, METHOD = 6, 7, 8, 9
+EVENT_STEP, CALL_STEP, PASS_STEP, PAIR, END_CERTIFICATE = 10, 11, 12, 13, 14
+
+BODY_LENGTHS = (4, 0, 0, 0, 0, 0, 6, 6, 10, 5, 6, 4, 5, 0)
+SECTIONS = (1, 1, 1, 1, 1, 1, 2, 3, 3, 4, 4, 4, 5, 5)
+# Fields of a body: c condition, p point, m method (2 bytes each), e event (1).
+FIELDS = {POINT: "ccc", PRIMITIVE: "ccc", METHOD: "cccpp",
+          EVENT_STEP: "ppe", CALL_STEP: "ppm", PASS_STEP: "pp"}
+
+MAX_BYTES = 65536
+MAX_CONDITIONS = 256
+MAX_RECORDS = 96
+MAX_LEAVES = 31
+MAX_POINTS = 512
+MAX_METHODS = 64
+MAX_STEPS = 512
+
+
+class Refusal(NamedTuple):
+    number: int
+    place: int
+
+
+class Record(NamedTuple):
+    offset: int
+    kind: int
+    body: bytes
+
+    @property
+    def end(self):
+        return self.offset + 1 + len(self.body)
+
+
+class Point(NamedTuple):
+    past: int
+    own: int
+    due: int
+
+
+class Method(NamedTuple):
+    """A method with body, or a primitive, whose entry and exit are None."""
+    pre: int
+    trace: int
+    future: int
+    entry: int | None = None
+    exit: int | None = None
+
+    @property
+    def has_body(self):
+        return self.entry is not None
+
+
+class Step(NamedTuple):
+    """A step; operand is the event or the called method, None for a pass."""
+    kind: int
+    source: int
+    target: int
+    operand: int | None = None
+
+
+class Sheet(NamedTuple):
+    conditions: list    # trees
+    points: list
+    methods: list
+    steps: list
+    certificates: list  # lists of (place, set)
+
+
+def read_record(data, offset):
+    """The record at the offset, or the refusal that ends reading."""
+    kind = data[offset]
+    if not 1 <= kind <= 14:
+        return Refusal(2, offset)
+    end = offset + 1 + BODY_LENGTHS[kind - 1]
+    if end > len(data):
+        return Refusal(3, offset)
+    return Record(offset, kind, data[offset + 1:end])
+
+
+def fields_of(record):
+    """The fields of a record of kinds 7 to 12, as a list of (letter, value)."""
+    result, at = [], 0
+    for letter in FIELDS[record.kind]:
+        width = 1 if letter == "e" else 2
+        value = int.from_bytes(record.body[at:at + width], "little")
+        result.append((letter, value))
+        at += width
+    return result
+
+
+def pair_of(record):
+    """The left place and the right set of a pair record."""
+    return record.body[0], int.from_bytes(record.body[1:], "little")
+
+
+class Reader:
+    """What has been read so far, record by record."""
+
+    def __init__(self):
+        self.sheet = Sheet([], [], [], [], [])
+        self.section = 1
+        self.items = []           # items of the open condition
+        self.records = 0          # its records of kinds 1 to 5
+        self.leaves = 0
+        self.pairs = None         # pairs of the open certificate
+
+    @property
+    def condition_open(self):
+        return self.records > 0
+
+    @property
+    def certificate_open(self):
+        return self.pairs is not None
+
+    def is_out_of_order(self, record):
+        return (SECTIONS[record.kind - 1] < self.section
+                or self.condition_open and record.kind > END_CONDITION)
+
+    def lacks_items(self, record):
+        kind = record.kind
+        if kind == END_CONDITION:
+            return len(self.items) != 1
+        return kind in (JOIN, EITHER, STAR) and len(self.items) < ITEMS[kind]
+
+    def is_over_limit(self, record):
+        kind, sheet = record.kind, self.sheet
+        if kind < END_CONDITION:
+            return (self.records == MAX_RECORDS
+                    or kind == LEAF and self.leaves == MAX_LEAVES)
+        if kind == END_CONDITION:
+            return len(sheet.conditions) == MAX_CONDITIONS
+        if kind == POINT:
+            return len(sheet.points) == MAX_POINTS
+        if kind in (PRIMITIVE, METHOD):
+            return len(sheet.methods) == MAX_METHODS
+        return kind < PAIR and len(sheet.steps) == MAX_STEPS
+
+    def has_bad_name(self, record):
+        if record.kind not in FIELDS:
+            return False
+        counts = {"c": len(self.sheet.conditions), "p": len(self.sheet.points),
+                  "m": len(self.sheet.methods), "e": 32}
+        return any(value >= counts[letter]
+                   for letter, value in fields_of(record))
+
+    def is_primitive_first(self, record):
+        return record.kind == PRIMITIVE and not self.sheet.methods
+
+    def refusal_at(self, record):
+        """Refusals 4 to 7 and 9 at one record, in the table's order."""
+        for number, applies in ((4, self.is_out_of_order),
+                                (5, self.lacks_items),
+                                (6, self.is_over_limit),
+                                (7, self.has_bad_name),
+                                (9, self.is_primitive_first)):
+            if applies(record):
+                return Refusal(number, record.offset)
+        return None
+
+    def refusal_at_end(self, length):
+        """Refusals 8 and 9 at the end."""
+        if self.condition_open or self.certificate_open:
+            return Refusal(8, length)
+        if not self.sheet.methods:
+            return Refusal(9, length)
+        return None
+
+    def add(self, record):
+        """Add a record to which no refusal applies."""
+        self.section = SECTIONS[record.kind - 1]
+        if record.kind < END_CONDITION:
+            self._add_item(record)
+        elif record.kind == END_CONDITION:
+            self.sheet.conditions.append(self.items[0])
+            self.items, self.records, self.leaves = [], 0, 0
+        elif record.kind == PAIR:
+            if self.pairs is None:
+                self.pairs = []
+            self.pairs.append(pair_of(record))
+        elif record.kind == END_CERTIFICATE:
+            self.sheet.certificates.append(self.pairs or [])
+            self.pairs = None
+        else:
+            self._add_named(record)
+
+    def _add_item(self, record):
+        apply_record(self.items, record.kind,
+                     int.from_bytes(record.body, "little"))
+        self.records += 1
+        self.leaves += record.kind == LEAF
+
+    def _add_named(self, record):
+        values = [value for _, value in fields_of(record)]
+        if record.kind == POINT:
+            self.sheet.points.append(Point(*values))
+        elif record.kind in (PRIMITIVE, METHOD):
+            self.sheet.methods.append(Method(*values))
+        else:
+            self.sheet.steps.append(Step(record.kind, *values))
+
+
+def read_sheet(data):
+    """The sheet that the bytes stand for, or the first of refusals 1 to 9."""
+    if len(data) > MAX_BYTES:
+        return Refusal(1, MAX_BYTES)
+    reader, offset = Reader(), 0
+    while offset < len(data):
+        record = read_record(data, offset)
+        if isinstance(record, Refusal):
+            return record
+        refusal = reader.refusal_at(record)
+        if refusal:
+            return refusal
+        reader.add(record)
+        offset = record.end
+    return reader.refusal_at_end(len(data)) or reader.sheet
+
+
+def reading_line(data):
+    """One line: the refusal of 1 to 9, or the five counts."""
+    result = read_sheet(data)
+    if isinstance(result, Refusal):
+        return f"refused {result.number} at {result.place}"
+    return "read " + " ".join(str(len(part)) for part in result)

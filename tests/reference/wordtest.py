@@ -1,0 +1,28 @@
+"""Document 01, the word test as a program.
+
+    python3 -m reference.wordtest SHEET-FILE CONDITION EVENT...
+"""
+import sys
+
+from .loader import word_line
+
+USAGE = "usage: python3 -m reference.wordtest SHEET-FILE CONDITION EVENT..."
+
+
+def main(arguments):
+    if len(arguments) < 2:
+        return USAGE
+    try:
+        condition = int(arguments[1])
+        word = bytes(int(event) for event in arguments[2:])
+    except ValueError:
+        return "the condition and the events are numbers, an event one byte"
+    if condition < 0:
+        return "the condition is a number from 0"
+    with open(arguments[0], "rb") as file:
+        print(word_line(file.read(), condition, word))
+    return None
+
+
+if __name__ == "__main__":
+    sys.exit(main(sys.argv[1:]))

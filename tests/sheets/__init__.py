@@ -1,0 +1,1 @@
+"""Assembler and disassembler for the sheets of document 01."""

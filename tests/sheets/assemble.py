@@ -1,0 +1,207 @@
+"""Assembler for the sheets of document 01: python3 -m sheets.assemble FILE > sheet
+
+One statement a line; # starts a comment; names are defined before use.
+
+    event open = 0
+    condition NAME = EXPRESSION
+    point NAME past CONDITION own CONDITION due CONDITION
+    primitive NAME pre CONDITION trace CONDITION future CONDITION
+    method NAME pre .. trace .. future .. entry POINT exit POINT
+    step POINT -> POINT event EVENT
+    step POINT -> POINT call METHOD
+    step POINT -> POINT pass
+
+The certificates are all reachable pairs, breadth first.
+"""
+import sys
+
+from reference.conditions import LEAF, postfix
+from reference.reading import (CALL_STEP, EVENT_STEP, MAX_BYTES, MAX_CONDITIONS,
+                               MAX_LEAVES, MAX_METHODS, MAX_POINTS, MAX_RECORDS,
+                               MAX_STEPS, PASS_STEP, Method, Point, Sheet, Step)
+
+from .expressions import (NAME, RESERVED, ExpressionError, event_number,
+                          parse_expression)
+from .records import TooManyPairs, encode, with_certificates
+
+
+class TextError(Exception):
+    """A fault in the text, with its line."""
+
+    def __init__(self, line, message):
+        super().__init__(message)
+        self.line = line
+
+
+class Assembler:
+    """The sheet that the lines so far stand for."""
+
+    def __init__(self):
+        self.sheet = Sheet([], [], [], [], [])
+        self.words = {}       # names in expressions: events, conditions' trees
+        self.conditions = {}  # numbers by name
+        self.points = {}
+        self.methods = {}
+        self.method_lines = []
+        self.step_lines = []
+        self.line = 0
+
+    def fail(self, message):
+        raise TextError(self.line, message)
+
+    def new_name(self, name, known):
+        if not NAME.match(name):
+            self.fail(f"'{name}' is not a name")
+        if name in RESERVED:
+            self.fail(f"'{name}' is a word of the expressions")
+        if name in known:
+            self.fail(f"'{name}' is already defined")
+        return name
+
+    def room(self, part, limit, what):
+        if len(part) == limit:
+            self.fail(f"more than {limit} {what}")
+
+    def find(self, name, known, what):
+        if name not in known:
+            self.fail(f"unknown {what} '{name}'")
+        return known[name]
+
+    def statement(self, number, text):
+        """Take one line of the text."""
+        self.line = number
+        words = text.split("#", 1)[0].split()
+        if not words:
+            return
+        takers = {"event": self.event, "condition": self.condition,
+                  "point": self.point, "primitive": self.primitive,
+                  "method": self.method, "step": self.step}
+        if words[0] not in takers:
+            self.fail(f"unknown statement '{words[0]}'")
+        try:
+            takers[words[0]](words[1:])
+        except ExpressionError as error:
+            self.fail(str(error))
+
+    def event(self, words):
+        if len(words) != 3 or words[1] != "=":
+            self.fail("expected: event NAME = NUMBER")
+        if not words[2].isdecimal():
+            self.fail(f"'{words[2]}' is not a number")
+        name = self.new_name(words[0], self.words)
+        self.words[name] = event_number(words[2], {})
+
+    def condition(self, words):
+        if len(words) < 3 or words[1] != "=":
+            self.fail("expected: condition NAME = EXPRESSION")
+        self.room(self.sheet.conditions, MAX_CONDITIONS, "conditions")
+        name = self.new_name(words[0], self.words)
+        tree = parse_expression(" ".join(words[2:]), self.words)
+        records = postfix(tree)
+        if len(records) > MAX_RECORDS:
+            self.fail(f"the condition has {len(records)} records, "
+                      f"more than {MAX_RECORDS}")
+        leaves = sum(kind == LEAF for kind, _ in records)
+        if leaves > MAX_LEAVES:
+            self.fail(f"the condition has {leaves} leaves, "
+                      f"more than {MAX_LEAVES}")
+        self.words[name] = tree
+        self.conditions[name] = len(self.sheet.conditions)
+        self.sheet.conditions.append(tree)
+
+    def named(self, words, keys, statement):
+        """The name and the values of NAME key value key value ..."""
+        if len(words) != 1 + 2 * len(keys) or words[1::2] != list(keys):
+            form = " ".join(f"{key} .." for key in keys)
+            self.fail(f"expected: {statement} NAME {form}")
+        values = []
+        for key, word in zip(keys, words[2::2]):
+            if key in ("entry", "exit"):
+                values.append(self.find(word, self.points, "point"))
+            else:
+                values.append(self.find(word, self.conditions, "condition"))
+        return words[0], values
+
+    def point(self, words):
+        name, values = self.named(words, ("past", "own", "due"), "point")
+        self.room(self.sheet.points, MAX_POINTS, "points")
+        self.points[self.new_name(name, self.points)] = len(self.sheet.points)
+        self.sheet.points.append(Point(*values))
+
+    def primitive(self, words):
+        self.add_method(*self.named(words, ("pre", "trace", "future"),
+                                    "primitive"))
+
+    def method(self, words):
+        keys = ("pre", "trace", "future", "entry", "exit")
+        self.add_method(*self.named(words, keys, "method"))
+
+    def add_method(self, name, values):
+        self.room(self.sheet.methods, MAX_METHODS, "methods")
+        if not self.sheet.methods and len(values) == 3:
+            self.fail("the first method is a primitive")
+        self.methods[self.new_name(name, self.methods)] = len(self.sheet.methods)
+        self.sheet.methods.append(Method(*values))
+        self.method_lines.append(self.line)
+
+    def step(self, words):
+        if len(words) < 4 or words[1] != "->":
+            self.fail("expected: step POINT -> POINT event|call|pass ..")
+        source = self.find(words[0], self.points, "point")
+        target = self.find(words[2], self.points, "point")
+        kind, rest = words[3], words[4:]
+        if kind == "pass" and not rest:
+            step = Step(PASS_STEP, source, target)
+        elif kind == "event" and len(rest) == 1:
+            step = Step(EVENT_STEP, source, target,
+                        event_number(rest[0], self.words))
+        elif kind == "call" and len(rest) == 1:
+            step = Step(CALL_STEP, source, target,
+                        self.find(rest[0], self.methods, "method"))
+        else:
+            self.fail("a step ends with: event EVENT, call METHOD, or pass")
+        self.room(self.sheet.steps, MAX_STEPS, "steps")
+        self.sheet.steps.append(step)
+        self.step_lines.append(self.line)
+
+    def finish(self):
+        """The whole sheet with its certificates."""
+        if not self.sheet.methods:
+            self.fail("there is no method")
+        try:
+            return with_certificates(self.sheet)
+        except TooManyPairs as error:
+            rule = error.rule
+            lines = self.method_lines if rule.number < 7 else self.step_lines
+            raise TextError(lines[rule.subject], f"the reachable pairs up to "
+                            f"rule {rule.number} do not fit in a sheet") from None
+
+
+def assemble(text):
+    """The bytes of the sheet that the text stands for."""
+    assembler = Assembler()
+    for number, line in enumerate(text.splitlines(), 1):
+        assembler.statement(number, line)
+    data = encode(assembler.finish())
+    if len(data) > MAX_BYTES:
+        assembler.fail(f"the sheet takes {len(data)} bytes, "
+                       f"more than {MAX_BYTES}")
+    return data
+
+
+def main(arguments):
+    if len(arguments) != 1:
+        return "usage: python3 -m sheets.assemble FILE > sheet"
+    try:
+        with open(arguments[0], encoding="utf-8") as file:
+            data = assemble(file.read())
+    except TextError as error:
+        return f"{arguments[0]}:{error.line}: {error}"
+    except (OSError, UnicodeDecodeError) as error:
+        return f"{arguments[0]}: {error}"
+    sys.stdout.buffer.write(data)
+    return None
+
+
+if __name__ == "__main__":
+    sys.exit(main(sys.argv[1:]))

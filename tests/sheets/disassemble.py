@@ -1,0 +1,101 @@
+"""Disassembler for the sheets of document 01: python3 -m sheets.disassemble < sheet
+
+Prints a sheet record by record: offset, kind, what it is. The last line is
+the loader's. A sheet that reading refuses is printed up to the refusal.
+"""
+import sys
+
+from reference.loader import load_line
+from reference.reading import (CALL_STEP, END_CERTIFICATE, END_CONDITION,
+                               EVENT_STEP, MAX_BYTES, METHOD, PAIR, PASS_STEP,
+                               POINT, PRIMITIVE, Reader, Refusal, fields_of,
+                               pair_of, read_record)
+from reference.conditions import LEAF
+from reference.rules import all_rules
+
+from .expressions import show, show_set
+
+ITEM_NAMES = ("leaf", "EMPTY", "JOIN", "EITHER", "STAR")
+KEYS = {POINT: ("past", "own", "due"), PRIMITIVE: ("pre", "trace", "future"),
+        METHOD: ("pre", "trace", "future", "entry", "exit"),
+        EVENT_STEP: ("from", "to", "event"), CALL_STEP: ("from", "to", "method"),
+        PASS_STEP: ("from", "to")}
+NAMES = {POINT: "point", PRIMITIVE: "primitive", METHOD: "method",
+         EVENT_STEP: "event step", CALL_STEP: "call step",
+         PASS_STEP: "pass step"}
+
+
+def certificate_owners(sheet):
+    """What each certificate is for, in order."""
+    return [f"rule {rule.number} {rule.subject_kind} {rule.subject}"
+            for rule in all_rules(sheet) if rule.has_certificate]
+
+
+class Printer:
+    """The lines of a sheet, record by record."""
+
+    def __init__(self):
+        self.reader = Reader()
+        self.owners = None
+
+    def owner(self):
+        """What the certificate that is read is for."""
+        if self.owners is None:
+            sheet = self.reader.sheet
+            self.owners = certificate_owners(sheet) if sheet.methods else []
+        number = len(self.reader.sheet.certificates)
+        return self.owners[number] if number < len(self.owners) else "no rule"
+
+    def numbered(self, record):
+        """A record of kinds 7 to 12."""
+        sheet = self.reader.sheet
+        part = (sheet.points if record.kind == POINT else
+                sheet.methods if record.kind <= METHOD else sheet.steps)
+        fields = " ".join(f"{key} {value}" for key, (_, value)
+                          in zip(KEYS[record.kind], fields_of(record)))
+        return f"{NAMES[record.kind]} {len(part)}: {fields}"
+
+    def describe(self, record):
+        """What a record is, before it is added."""
+        kind, reader = record.kind, self.reader
+        if kind == LEAF:
+            return "  leaf " + show_set(int.from_bytes(record.body, "little"))
+        if kind < END_CONDITION:
+            return "  " + ITEM_NAMES[kind - 1]
+        if kind == END_CONDITION:
+            return (f"end of condition {len(reader.sheet.conditions)}: "
+                    + show(reader.items[0]))
+        if kind == PAIR:
+            place, rights = pair_of(record)
+            return (f"  pair {len(reader.pairs or [])}: place {place} "
+                    f"set {{{show_places(rights)}}}")
+        if kind == END_CERTIFICATE:
+            number = len(reader.sheet.certificates)
+            return f"end of certificate {number}: {self.owner()}"
+        return self.numbered(record)
+
+    def lines(self, data):
+        """Every line before the loader's."""
+        offset = 0
+        while offset < len(data) <= MAX_BYTES:
+            record = read_record(data, offset)
+            if isinstance(record, Refusal) or self.reader.refusal_at(record):
+                yield f"{offset:6}  {data[offset:offset + 11].hex(' ')}"
+                return
+            yield f"{offset:6}  {record.kind:02X}  {self.describe(record)}"
+            self.reader.add(record)
+            offset = record.end
+        yield f"{len(data):6}  end"
+
+
+def show_places(places):
+    return ",".join(str(place) for place in range(32) if places >> place & 1)
+
+
+def disassemble(data):
+    """All lines for the bytes of a sheet."""
+    return list(Printer().lines(data)) + [load_line(data)]
+
+
+if __name__ == "__main__":
+    print("\n".join(disassemble(sys.stdin.buffer.read())))

@@ -1,0 +1,104 @@
+"""Document 01, "Records": writing them, and certificates as reachable pairs."""
+from reference.certificates import reachable_pairs
+from reference.conditions import LEAF, postfix
+from reference.reading import EVENT_STEP, CALL_STEP, Sheet
+from reference.rules import all_rules
+
+# A pair takes 6 bytes, so no sheet has more.
+MAX_PAIRS = 65536 // 6
+
+
+def u16(*values):
+    return b"".join(value.to_bytes(2, "little") for value in values)
+
+
+def u32(value):
+    return value.to_bytes(4, "little")
+
+
+def item(kind, events=0):
+    """A record of kinds 1 to 5."""
+    return b"\x01" + u32(events) if kind == LEAF else bytes([kind])
+
+
+def condition(tree):
+    """The records of a condition with its end."""
+    return b"".join(item(*record) for record in postfix(tree)) + b"\x06"
+
+
+def point(past, own, due):
+    return b"\x07" + u16(past, own, due)
+
+
+def primitive(pre, trace, future):
+    return b"\x08" + u16(pre, trace, future)
+
+
+def method(pre, trace, future, entry, exit_):
+    return b"\x09" + u16(pre, trace, future, entry, exit_)
+
+
+def event_step(source, target, event):
+    return b"\x0a" + u16(source, target) + bytes([event])
+
+
+def call_step(source, target, called):
+    return b"\x0b" + u16(source, target, called)
+
+
+def pass_step(source, target):
+    return b"\x0c" + u16(source, target)
+
+
+def pair(place, rights):
+    return b"\x0d" + bytes([place]) + u32(rights)
+
+
+def certificate(pairs):
+    """The records of a certificate with its end."""
+    return b"".join(pair(*one) for one in pairs) + b"\x0e"
+
+
+def method_record(one):
+    """The record of a method or primitive."""
+    return method(*one) if one.has_body else primitive(*one[:3])
+
+
+def step_record(one):
+    """The record of a step."""
+    if one.kind == EVENT_STEP:
+        return event_step(*one[1:])
+    if one.kind == CALL_STEP:
+        return call_step(*one[1:])
+    return pass_step(one.source, one.target)
+
+
+def encode(sheet):
+    """The bytes of a sheet."""
+    return b"".join(
+        [condition(tree) for tree in sheet.conditions]
+        + [point(*one) for one in sheet.points]
+        + [method_record(one) for one in sheet.methods]
+        + [step_record(one) for one in sheet.steps]
+        + [certificate(pairs) for pairs in sheet.certificates])
+
+
+class TooManyPairs(Exception):
+    """The reachable pairs up to a rule do not fit; holds the rule."""
+
+    def __init__(self, rule):
+        super().__init__(f"too many reachable pairs at rule {rule.number}")
+        self.rule = rule
+
+
+def with_certificates(sheet, limit=MAX_PAIRS):
+    """The sheet with all reachable pairs, breadth first, as certificates."""
+    certificates, left = [], limit
+    for rule in all_rules(sheet):
+        if rule.has_certificate:
+            pairs = reachable_pairs(rule.left, rule.right, left)
+            if pairs is None:
+                raise TooManyPairs(rule)
+            left -= len(pairs)
+            certificates.append(pairs)
+    return Sheet(*sheet[:4], certificates)

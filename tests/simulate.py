@@ -1,0 +1,185 @@
+"""Random runs of accepted sheets, checked against demand 3 of document 01.
+
+    python3 simulate.py [SEED [SHEETS]]
+
+Every state of every run is checked. Impossible moves and moves after the
+end are made too, and must change nothing.
+"""
+import sys
+from typing import NamedTuple
+
+from generate.draws import Draws
+from generate.faults import changed_bytes, changed_conditions
+from generate.special import examples
+from generate.true_sheets import true_sheets
+from generate.words import derived
+from reference.loader import Accepted, verdict
+from reference.reading import CALL_STEP, EVENT_STEP, read_sheet
+from reference.runs import (RETURN, Move, first_break, in_condition, make_move,
+                            start)
+
+RUNS = 12
+MOVES = 40
+MAX_HISTORY = 400
+
+
+class Totals:
+    def __init__(self):
+        self.sheets = self.runs = self.moves = self.states = 0
+        self.made = self.ended = self.after_end = self.deepest = 0
+
+
+class Break(NamedTuple):
+    sheet: int
+    moves: list
+    call: tuple
+    broken: str
+
+
+class Walker:
+    """Makes random moves on one sheet."""
+
+    def __init__(self, draws, sheet):
+        self.draws = draws
+        self.sheet = sheet
+        self.known = {}
+
+    def test(self, sheet, number, word):
+        """in_condition, remembered."""
+        key = number, word
+        if key not in self.known:
+            self.known[key] = in_condition(sheet, number, word)
+        return self.known[key]
+
+    def word_for(self, step):
+        """A word for a step: of the trace if it calls a primitive."""
+        if step.kind != CALL_STEP or self.sheet.methods[step.operand].has_body:
+            return None if self.draws.chance(0.8) else (0, 1)
+        trace = self.sheet.methods[step.operand].trace
+        return derived(self.draws, self.sheet.conditions[trace],
+                       self.draws.below(5))
+
+    def fitting_move(self, run):
+        """A move that control allows, if there is one."""
+        active = self.sheet.methods[run.open_calls[-1].method]
+        steps = [number for number, step in enumerate(self.sheet.steps)
+                 if step.source == run.point]
+        if run.point == active.exit and (not steps or self.draws.chance(0.5)):
+            return RETURN
+        if not steps:
+            return RETURN
+        number = self.draws.pick(steps)
+        return Move(number, self.word_for(self.sheet.steps[number]))
+
+    def any_move(self):
+        """A move that mostly cannot be made."""
+        if self.draws.chance(0.3):
+            return RETURN
+        word = tuple(self.draws.below(34)
+                     for _ in range(self.draws.below(4)))
+        return Move(self.draws.below(len(self.sheet.steps) + 3) - 1,
+                    word if self.draws.chance(0.6) else None)
+
+    def move(self, run):
+        if run.ended or self.draws.chance(0.25):
+            return self.any_move()
+        return self.fitting_move(run)
+
+
+def must_stay(sheet, run, move):
+    """Whether a move can plainly not be made."""
+    if run.ended:
+        return True
+    if move.step is None:
+        return run.point != sheet.methods[run.open_calls[-1].method].exit
+    return (not 0 <= move.step < len(sheet.steps)
+            or sheet.steps[move.step].source != run.point)
+
+
+def check_move(sheet, before, move, after):
+    """What a move may do to the history and to the calls."""
+    if must_stay(sheet, before, move):
+        assert after == before, "an impossible move changed the run"
+    assert after.history[:len(before.history)] == before.history
+    assert (after.returned_calls[:len(before.returned_calls)]
+            == before.returned_calls)
+    added = len(after.history) - len(before.history)
+    if after != before and move.step is not None:
+        step = sheet.steps[move.step]
+        assert added == (step.kind == EVENT_STEP) or step.kind == CALL_STEP
+
+
+def walk(walker, totals, number):
+    """One run; the first break, or None."""
+    sheet, run, moves = walker.sheet, start(walker.sheet), []
+    late = 0
+    totals.runs += 1
+    while len(moves) < MOVES and late < 3 and len(run.history) < MAX_HISTORY:
+        totals.states += 1
+        found = first_break(sheet, run, walker.test)
+        if found:
+            return Break(number, moves, *found)
+        move = walker.move(run)
+        moves.append(move)
+        after = make_move(sheet, run, move)
+        check_move(sheet, run, move, after)
+        totals.moves += 1
+        totals.made += after != run
+        late += run.ended
+        totals.after_end += run.ended
+        totals.ended += after.ended and not run.ended
+        totals.deepest = max(totals.deepest, len(after.open_calls))
+        run = after
+    totals.states += 1
+    found = first_break(sheet, run, walker.test)
+    return Break(number, moves, *found) if found else None
+
+
+def accepted_sheets(seed, count):
+    """Accepted examples, random true sheets, and changed ones still accepted."""
+    sheets = [sheet for _, sheet in true_sheets(seed, count)]
+    yield from accepted_among(examples())
+    yield from sheets
+    yield from accepted_among(changed_conditions(seed + 1, sheets))
+    yield from accepted_among(changed_bytes(seed + 2, sheets, 6))
+
+
+def accepted_among(cases):
+    for case in cases:
+        if isinstance(verdict(case.data), Accepted):
+            yield read_sheet(case.data)
+
+
+def simulate(seed, sheets, totals):
+    """Walk the sheets; the first break, or None."""
+    draws = Draws(seed)
+    for number, sheet in enumerate(sheets):
+        walker = Walker(draws, sheet)
+        totals.sheets += 1
+        for _ in range(RUNS):
+            found = walk(walker, totals, number)
+            if found:
+                return found
+    return None
+
+
+def main(arguments):
+    seed = int(arguments[0]) if arguments else 71
+    count = int(arguments[1]) if len(arguments) > 1 else 400
+    totals = Totals()
+    found = simulate(seed, accepted_sheets(seed, count), totals)
+    print(f"{totals.states} states checked: {totals.sheets} sheets, "
+          f"{totals.runs} runs, {totals.moves} moves ({totals.made} made, "
+          f"{totals.after_end} after the end), {totals.ended} runs ended, "
+          f"deepest {totals.deepest} open calls")
+    if found is None:
+        print("0 breaks")
+        return 0
+    print(f"break: sheet {found.sheet}, {found.broken} of {found.call}")
+    for move in found.moves:
+        print(f"  {move}")
+    return 1
+
+
+if __name__ == "__main__":
+    sys.exit(main(sys.argv[1:]))

@@ -1,0 +1,536 @@
+"""Tests of the reference: the cases of "Sheets to try" in document 01, and more."""
+import subprocess
+import sys
+import unittest
+from collections import Counter
+from pathlib import Path
+
+from generate import faults
+from generate.draws import Draws
+from generate.refusals import reading_cases
+from generate.special import M, special_cases
+from generate.trees import random_tree
+from generate.true_sheets import true_sheets
+from generate.words import condition_cases, is_light, matches
+from reference.certificates import (Fault, first_fault, is_included, moves,
+                                    reachable_pairs)
+from reference.conditions import (ANY, EITHER, EMPTY, JOIN, LEAF, STAR, holds,
+                                  parse_postfix, places_of, postfix, step)
+from reference.loader import load_line, verdict, word_line, word_line_of
+from reference.reading import Point, Refusal, Sheet, read_sheet, reading_line
+from reference.rules import all_rules, certificates_needed, rule_count
+from reference.runs import RETURN, Move, first_break, make_move, start
+from sheets import records as r
+from sheets.assemble import TextError, assemble
+from sheets.disassemble import disassemble
+from sheets.expressions import ExpressionError, parse_expression, show
+from simulate import Totals, Walker, walk
+
+HERE = Path(__file__).resolve().parent
+A, B = (LEAF, 1), (LEAF, 2)
+NOTHING = (EMPTY,)
+ALL = (STAR, (LEAF, ANY))
+FRONT = bytes.fromhex("0206 07000000000000 0900000000000000000000")
+
+
+def text(*lines):
+    """The sheet of an assembler text, read."""
+    return read_sheet(assemble("\n".join(lines)))
+
+
+def example(name):
+    path = HERE / "sheets" / "examples" / name
+    return read_sheet(assemble(path.read_text(encoding="utf-8")))
+
+
+class SheetsToTry(unittest.TestCase):
+    """The starred cases, and the others of that section."""
+
+    def check(self, hexadecimal, line):
+        self.assertEqual(load_line(bytes.fromhex(hexadecimal)), line)
+
+    def test_refusals(self):
+        self.check("", "refused 9 at 0")
+        self.check("0F", "refused 2 at 0")
+        self.check("01", "refused 3 at 0")
+        self.check("03", "refused 5 at 0")
+        self.check("02 06 07 01 00 00 00 00 00", "refused 7 at 2")
+
+    def test_m(self):
+        m = ("02 06 07" + "00" * 6 + "09" + "00" * 10
+             + "0D 00 01 00 00 00 0E" * 3)
+        self.assertEqual(bytes.fromhex(m), M)
+        self.assertEqual(len(M), 41)
+        self.check(m, "accepted 6")
+        self.check(m[:-2], "refused 8 at 40")
+
+    def test_m_with_trace_1(self):
+        self.check("02 06 01 01 00 00 00 06 07" + "00" * 6
+                   + "09 00 00 01 00" + "00" * 6 + "0D 00 01 00 00 00 0E" * 3,
+                   "unproved rule 5 method 0 clause 3 pair 0 event 0 place 0")
+
+    def test_length(self):
+        self.assertEqual(load_line(bytes(65536)), "refused 2 at 0")
+        self.assertEqual(load_line(bytes(65537)), "refused 1 at 65536")
+
+    def test_leaves(self):
+        leaves = r.item(LEAF, 1) * 31
+        tail = FRONT[2:]
+        self.assertEqual(reading_line(leaves + b"\x04" * 30 + b"\x06" + tail),
+                         "read 1 1 1 0 0")
+        self.assertEqual(reading_line(leaves + r.item(LEAF, 1)),
+                         "refused 6 at 155")
+
+    def test_words(self):
+        sheet = bytes.fromhex("02 0104000000 01FFFFFFFF 05 03 04 06") + FRONT[2:]
+        for word, line in (((), "yes"), ((2,), "yes"), ((2, 0), "yes"),
+                           ((0,), "no"), ((0, 2), "no")):
+            self.assertEqual(word_line(sheet, 0, word), line)
+
+    def test_close_in_a_loop(self):
+        """No point conditions get the loop with open accepted."""
+        sheet = example("close_loop_open.txt")
+        draws = Draws(2)
+        for _ in range(300):
+            trees = [random_tree(draws, draws.between(1, 4), [0, 1, 2])
+                     for _ in range(4)] + [ALL, NOTHING]
+            conditions = sheet.conditions + trees
+            points = [Point(*(draws.below(len(conditions)) for _ in range(3)))
+                      for _ in sheet.points]
+            methods = [sheet.methods[0]._replace(trace=1), sheet.methods[1]]
+            tried = r.with_certificates(Sheet(conditions, points, methods,
+                                              sheet.steps, []))
+            self.assertIn("unproved", load_line(r.encode(tried)))
+
+
+class Conditions(unittest.TestCase):
+    def test_places(self):
+        """(a b)* a | empty"""
+        tree = (EITHER, (JOIN, (STAR, (JOIN, A, B)), A), NOTHING)
+        places = places_of(tree)
+        self.assertTrue(places.nullable)
+        self.assertEqual(places.first, 0b1010)
+        self.assertEqual(places.last, 0b1000)
+        self.assertEqual(places.follow, (0b1010, 0b0100, 0b1010, 0))
+        self.assertEqual(places.ending, 0b1001)
+        self.assertEqual(step(places, 1, 0), 0b1010)
+        self.assertEqual(step(places, 0b1010, 1), 0b0100)
+        self.assertEqual(step(places, 0b1010, 31), 0)
+
+    def test_join_needs_its_second(self):
+        """A's last leaf does not end AB where B lacks the empty word."""
+        self.assertEqual(places_of((JOIN, A, B)).ending, 0b100)
+        self.assertEqual(places_of((JOIN, A, (STAR, B))).ending, 0b110)
+        self.assertEqual(places_of((JOIN, (STAR, A), (STAR, B))).ending, 0b111)
+
+    def test_void_leaf(self):
+        void = (LEAF, 0)
+        self.assertFalse(holds(void, ()))
+        self.assertFalse(holds(void, (0,)))
+        self.assertTrue(holds((STAR, void), ()))
+        self.assertTrue(holds((EITHER, void, A), (0,)))
+        self.assertFalse(holds((JOIN, A, void), (0,)))
+
+    def test_postfix(self):
+        tree = (JOIN, (STAR, A), (EITHER, B, NOTHING))
+        records = postfix(tree)
+        self.assertEqual([kind for kind, _ in records], [1, 5, 1, 2, 4, 3])
+        self.assertEqual(parse_postfix(records), tree)
+        self.assertIsNone(parse_postfix([(JOIN, 0)]))
+        self.assertIsNone(parse_postfix([(EMPTY, 0), (EMPTY, 0)]))
+        self.assertIsNone(parse_postfix([]))
+
+    def test_against_re(self):
+        draws = Draws(3)
+        for _ in range(60):
+            tree = random_tree(draws, draws.between(1, 6), [0, 1], 0.1)
+            for line, words in condition_cases(draws, tree, [0, 1], 3).items():
+                for word in words:
+                    self.assertEqual(holds(tree, word), line == "yes")
+
+
+class Reading(unittest.TestCase):
+    def test_cases_by_construction(self):
+        for case in reading_cases(count=20):
+            if case.line is not None:
+                self.assertEqual(reading_line(case.data), case.line, case.label)
+
+    def test_sheet_read_back(self):
+        for _, sheet in true_sheets(4, 40):
+            self.assertEqual(read_sheet(r.encode(sheet)), sheet)
+
+    def test_end_record_is_not_among_the_96(self):
+        body = b"\x02" + b"\x05" * 95
+        self.assertEqual(reading_line(body + b"\x06" + FRONT[2:]),
+                         "read 1 1 1 0 0")
+        self.assertEqual(reading_line(body + b"\x05"), "refused 6 at 96")
+
+    def test_certificates(self):
+        self.assertEqual(reading_line(FRONT + b"\x0e"), "read 1 1 1 0 1")
+        self.assertEqual(reading_line(FRONT + r.pair(0, 1)), "refused 8 at 26")
+        self.assertEqual(read_sheet(FRONT + b"\x0e").certificates, [[]])
+
+    def test_refusal_10(self):
+        for count in (0, 1, 2, 4):
+            data = FRONT + M[20:27] * count
+            self.assertEqual(load_line(data), f"refused 10 at {len(data)}")
+        self.assertEqual(load_line(FRONT + b"\x0e" * 3), "unproved rule 3 "
+                         "method 0 clause 1 pair 0 event 0 place 0")
+
+
+class Rules(unittest.TestCase):
+    def test_order_and_counts(self):
+        sheet = example("future_past_caller.txt")
+        numbers = [(rule.number, rule.subject) for rule in all_rules(sheet)]
+        self.assertEqual(numbers, [
+            (1, 0), (2, 0), (3, 0), (4, 0), (5, 0), (6, 0),
+            (3, 1), (4, 1), (5, 1), (6, 1),
+            (10, 0), (11, 0), (12, 0), (13, 0), (14, 0),
+            (7, 1), (8, 1), (9, 1),
+            (10, 2), (11, 2), (12, 2), (13, 2), (14, 2)])
+        self.assertEqual(rule_count(sheet), 2 + 4 * 2 + 3 + 5 * 2)
+        self.assertEqual(certificates_needed(sheet), 3 * 2 + 3 + 5 * 2)
+
+    def test_event_side(self):
+        """The event is the last left place in 7 and 8, place 1 in 9."""
+        sheet = text("condition two = {3} {4}", "condition all = any*",
+                     "point p past two own two due two",
+                     "method m pre all trace all future all entry p exit p",
+                     "step p -> p event 5")
+        sides = {rule.number: places_of(rule.left).sets
+                 for rule in all_rules(sheet) if rule.number in (7, 8, 9)}
+        self.assertEqual(sides, {7: (0, 8, 16, 32), 8: (0, 8, 16, 32),
+                                 9: (0, 32, 8, 16)})
+
+    def test_rules_without_certificate(self):
+        base = ["condition nothing = empty", "condition one = {1}",
+                "condition all = any*"]
+        for point, method, line in (
+                ("all own all due all", "one trace all future nothing", 1),
+                ("all own all due all", "nothing trace all future one", 2),
+                ("all own one due all", "nothing trace all future nothing", 4)):
+            lines = base + [f"point p past {point}",
+                            f"method m pre {method} entry p exit p"]
+            self.assertEqual(
+                load_line(assemble("\n".join(lines))),
+                f"unproved rule {line} method 0 clause 5 pair 0 event 0 place 0")
+
+
+class Certificates(unittest.TestCase):
+    def test_clauses(self):
+        left, right = (STAR, A), (STAR, (EITHER, A, B))
+        good = [(0, 1), (1, 2)]
+        self.assertIsNone(first_fault(left, right, good))
+        self.assertEqual(first_fault(left, right, []), Fault(1))
+        self.assertEqual(first_fault(left, right, [(0, 3), (1, 2)]), Fault(1))
+        self.assertEqual(first_fault(left, right, good[::-1]), Fault(1))
+        self.assertEqual(first_fault(left, right, good + [(2, 1)]), Fault(2, 2))
+        self.assertEqual(first_fault(left, right, good + [(0, 8)]), Fault(2, 2))
+        self.assertEqual(first_fault(left, right, good + [(1, 0)]), Fault(3, 2))
+        self.assertEqual(first_fault(left, right, [(0, 1)]), Fault(4, 0, 0, 1))
+
+    def test_listed_set_lies_within(self):
+        left, right = (STAR, A), (STAR, (EITHER, A, A))
+        self.assertEqual(reachable_pairs(left, right), [(0, 1), (1, 6)])
+        self.assertIsNone(first_fault(left, right, [(0, 1), (1, 2)]))
+        self.assertEqual(first_fault(left, right, [(0, 1), (1, 7)]),
+                         Fault(4, 0, 0, 1))
+
+    def test_later_pairs(self):
+        left, right = (STAR, A), (STAR, A)
+        pairs = [(0, 1), (1, 2), (0, 1), (0, 3), (1, 3), (1, 2)]
+        self.assertIsNone(first_fault(left, right, pairs))
+
+    def test_order_of_clause_4(self):
+        left = (EITHER, (LEAF, 0b110), (LEAF, 0b010))
+        self.assertEqual(first_fault(left, ALL, [(0, 1)]), Fault(4, 0, 1, 1))
+        self.assertEqual(first_fault(left, ALL, [(0, 1), (1, 2)]),
+                         Fault(4, 0, 1, 2))
+
+    def test_breadth_first(self):
+        left = (JOIN, (EITHER, B, A), (STAR, B))
+        right = (JOIN, (LEAF, 3), (STAR, (LEAF, ANY)))
+        self.assertEqual(reachable_pairs(left, right),
+                         [(0, 1), (2, 2), (1, 2), (3, 4)])
+
+    def test_void_leaves(self):
+        void = (LEAF, 0)
+        stuck = (JOIN, A, void)
+        self.assertEqual(reachable_pairs(stuck, void), [(0, 1), (1, 0)])
+        self.assertTrue(is_included(stuck, void))
+        self.assertEqual(first_fault(stuck, void, [(0, 1), (1, 0), (2, 0)]),
+                         Fault(3, 2))
+        self.assertIsNone(first_fault(stuck, void, [(0, 1), (1, 0), (2, 2)]))
+
+    def test_inclusion_against_re(self):
+        """A fault of the reachable pairs comes with a word that shows it."""
+        draws, found = Draws(6), Counter()
+        for _ in range(400):
+            left = random_tree(draws, draws.between(1, 4), [0, 1])
+            right = random_tree(draws, draws.between(1, 5), [0, 1])
+            word = witness(left, right)
+            found[word is None] += 1
+            self.assertEqual(is_included(left, right), word is None)
+            if word is not None:
+                self.assertTrue(matches(left, word))
+                self.assertFalse(matches(right, word))
+                continue
+            for inside in condition_cases(draws, left, [0, 1], 3)["yes"]:
+                if is_light(right, inside, 10000):
+                    self.assertTrue(matches(right, inside))
+        self.assertGreater(min(found.values()), 50)
+
+
+def witness(left_tree, right_tree):
+    """A word of the left that is not in the right, or None."""
+    left, right = places_of(left_tree), places_of(right_tree)
+    words = {(0, 1): ()}
+    for pair in (queue := [(0, 1)]):
+        if left.ending >> pair[0] & 1 and not pair[1] & right.ending:
+            return words[pair]
+        for event, follower, stepped in moves(left, right, *pair):
+            if (follower, stepped) not in words:
+                words[follower, stepped] = words[pair] + (event,)
+                queue.append((follower, stepped))
+    return None
+
+
+class Loader(unittest.TestCase):
+    def test_special_sheets(self):
+        for case in special_cases():
+            line = load_line(case.data)
+            self.assertTrue(faults.agrees(case, line), f"{case.label}: {line}")
+
+    def test_faults_by_construction(self):
+        sheets = [sheet for _, sheet in true_sheets(8, 64, 60)]
+        found = Counter()
+        for cases in (faults.certificate_faults(9, sheets, 2),
+                      faults.broken_rules(10, 2),
+                      faults.kept_certificates(11, sheets[:16]),
+                      faults.certificate_counts(12, sheets[:4]),
+                      faults.two_faults(13, sheets[:16])):
+            for case in cases:
+                line = load_line(case.data)
+                self.assertTrue(faults.agrees(case, line),
+                                f"{case.label}: {case.line} {line}")
+                words = line.split()
+                if words[0] == "unproved":
+                    found[int(words[2]), int(words[6])] += 1
+        for rule in range(1, 18):
+            for clause in (5,) if rule in (1, 2, 4) else (1, 2, 3, 4):
+                self.assertGreaterEqual(found[rule, clause], 1)
+
+    def test_word_test_order(self):
+        long = (40,) * 4097
+        self.assertEqual(word_line(b"\x0f", 9, long), "refused 2 at 0")
+        self.assertEqual(word_line(FRONT, 1, long), "refused 14")
+        self.assertEqual(word_line(FRONT, 0, long), "refused 12")
+        self.assertEqual(word_line(FRONT, 0, (0, 40) * 2048), "refused 13 at 1")
+        self.assertEqual(word_line(FRONT, 0, (0,) * 4096), "no")
+        self.assertEqual(word_line(FRONT, 0, ()), "yes")
+
+
+class Runs(unittest.TestCase):
+    def make(self, sheet, *moves_):
+        run = start(sheet)
+        for move in moves_:
+            run = make_move(sheet, run, move)
+        return run
+
+    def test_close_loop(self):
+        sheet = example("close_loop.txt")
+        run = self.make(sheet, Move(0), Move(1, (1,)), Move(0), Move(1, (1,)))
+        self.assertEqual(run.history, (2, 1, 2, 1))
+        self.assertEqual([call.raised for call in run.returned_calls],
+                         [(1,), (1,)])
+        self.assertFalse(run.ended)
+        run = make_move(sheet, run, RETURN)
+        self.assertTrue(run.ended)
+        self.assertIsNone(first_break(sheet, run))
+        for move in (RETURN, Move(0), Move(1, (1,))):
+            self.assertEqual(make_move(sheet, run, move), run)
+
+    def test_impossible_moves(self):
+        sheet = example("close_loop.txt")
+        first, middle = start(sheet), self.make(sheet, Move(0))
+        for move in (Move(1, (1,)), Move(2), Move(-1), Move(999)):
+            self.assertEqual(make_move(sheet, first, move), first)
+        for move in (RETURN, Move(0), Move(1), Move(1, ()), Move(1, (2,)),
+                     Move(1, (1, 1)), Move(1, (200,))):
+            self.assertEqual(make_move(sheet, middle, move), middle)
+        self.assertEqual(self.make(sheet, Move(0, (9, 200))), middle)
+
+    def test_recursion(self):
+        sheet = example("recursion.txt")
+        run = self.make(sheet, Move(0), Move(1), Move(0), Move(1), Move(3))
+        self.assertEqual([call.begun for call in run.open_calls],
+                         [(), (3,), (3, 3)])
+        self.assertEqual([call.step for call in run.open_calls], [None, 1, 1])
+        run = make_move(sheet, run, RETURN)
+        self.assertEqual(run.point, sheet.steps[1].target)
+        for move in (Move(2), RETURN, Move(2), RETURN):
+            self.assertIsNone(first_break(sheet, run))
+            run = make_move(sheet, run, move)
+        self.assertTrue(run.ended)
+        self.assertEqual(run.history, (3, 3, 4, 4))
+        self.assertEqual([call.raised for call in run.returned_calls],
+                         [(), (3, 4), (3, 3, 4, 4)])
+        self.assertEqual(run.point, sheet.methods[0].exit)
+        self.assertIsNone(first_break(sheet, run))
+
+    def test_break_of_a_future(self):
+        """Seen only at the end: after close comes open."""
+        sheet = example("close_loop_open.txt")
+        run = self.make(sheet, Move(0), Move(1, (1,)), Move(0), Move(1, (1,)))
+        self.assertIsNone(first_break(sheet, run))
+        run = make_move(sheet, run, RETURN)
+        call, broken = first_break(sheet, run)
+        self.assertEqual((call.method, call.step, broken), (1, 1, "future"))
+
+    def test_each_rule_counts(self):
+        """Without any one rule, some sheet has a run that breaks demand 3."""
+        parts = {1: "pre", 3: "pre", 7: "pre", 10: "pre", 11: "pre", 15: "pre",
+                 4: "trace", 5: "trace", 8: "trace", 12: "trace", 16: "trace"}
+        found = {}
+        for case in faults.broken_rules(5, 20):
+            walker = Walker(Draws(1), read_sheet(case.data))
+            for _ in range(40):
+                result = walk(walker, Totals(), 0)
+                if result:
+                    number = int(case.label.split()[1])
+                    found.setdefault(number, set()).add(result.broken)
+                    break
+        self.assertEqual(found, {number: {parts.get(number, "future")}
+                                 for number in range(1, 18)})
+
+
+class Texts(unittest.TestCase):
+    def test_expressions(self):
+        names = {"open": 0}
+        any_, rest = (LEAF, ANY), ALL
+        for source, tree in (
+                ("finally({2})", (JOIN, (JOIN, (STAR, (LEAF, ANY & ~4)),
+                                         (LEAF, 4)), rest)),
+                ("globally(open)", (STAR, A)),
+                ("next({0,1})", (JOIN, (JOIN, any_, (LEAF, 3)), rest)),
+                ("empty | {2} any*", (EITHER, NOTHING,
+                                      (JOIN, (LEAF, 4), rest))),
+                ("none**", (STAR, (STAR, (LEAF, 0)))),
+                ("not open", (LEAF, ANY & ~1)), ("{}", (LEAF, 0))):
+            self.assertEqual(parse_expression(source, names), tree)
+        for source in ("", "(", "{0", "{32}", "{0 1}", "a", "{0})", "* {1}",
+                       "finally({0} {1})", "next {1}"):
+            with self.assertRaises(ExpressionError, msg=source):
+                parse_expression(source, names)
+
+    def test_show(self):
+        draws = Draws(7)
+        for _ in range(300):
+            tree = random_tree(draws, draws.between(1, 12), [0, 1, 2], 0.1)
+            self.assertEqual(parse_expression(show(tree), {}), tree)
+
+    def test_errors_have_lines(self):
+        head = ["condition a = empty", "point p past a own a due a"]
+        for line, message in (
+                ("poinr", "unknown statement 'poinr'"),
+                ("condition a = any", "'a' is already defined"),
+                ("condition b = x", "unknown name or sign 'x'"),
+                ("point q past b own a due a", "unknown condition 'b'"),
+                ("method m pre a trace a future a entry q exit p",
+                 "unknown point 'q'"),
+                ("primitive f pre a trace a future a",
+                 "the first method is a primitive"),
+                ("step p -> p event 32", "event 32 is above 31"),
+                ("step p -> p call f", "unknown method 'f'"),
+                ("condition long = " + "any " * 32,
+                 "the condition has 32 leaves, more than 31")):
+            with self.assertRaises(TextError) as caught:
+                assemble("\n".join(head + [line]))
+            self.assertEqual((caught.exception.line, str(caught.exception)),
+                             (3, message))
+
+    def test_disassemble(self):
+        lines = disassemble(M)
+        self.assertEqual(lines[1], "     1  06  end of condition 0: empty")
+        self.assertEqual(lines[-2:], ["    41  end", "accepted 6"])
+        self.assertEqual(disassemble(b"\x02\x06\x07\x01")[-2:],
+                         ["     2  07 01", "refused 3 at 2"])
+        self.assertEqual(disassemble(b""), ["     0  end", "refused 9 at 0"])
+        for case in reading_cases(count=20):
+            if len(case.data) < 500:
+                lines = disassemble(case.data)
+                self.assertEqual(lines[-1], load_line(case.data))
+
+
+class Programs(unittest.TestCase):
+    def run_module(self, *arguments, data=b""):
+        result = subprocess.run([sys.executable, "-m", *arguments], cwd=HERE,
+                                input=data, capture_output=True, check=False)
+        return result.returncode, result.stdout, result.stderr.decode()
+
+    def test_programs(self):
+        self.assertEqual(self.run_module("reference.loader", data=M),
+                         (0, b"accepted 6\n", ""))
+        name = "sheets/examples/minimal.txt"
+        self.assertEqual(self.run_module("sheets.assemble", name), (0, M, ""))
+        code, out, _ = self.run_module("sheets.disassemble", data=M)
+        self.assertEqual((code, out.splitlines()[-1]), (0, b"accepted 6"))
+        code, out, error = self.run_module("sheets.assemble", __file__)
+        self.assertEqual((code, out), (1, b""))
+        self.assertIn("test_reference.py:1: unknown statement", error)
+        path = str(HERE / "vectors" / "words.bin")
+        self.assertEqual(self.run_module("reference.wordtest", path, "0", "1"),
+                         (0, b"refused 1 at 65536\n", ""))
+
+
+class Vectors(unittest.TestCase):
+    """The stored vectors are what the reference says."""
+
+    def lines(self, name):
+        return (HERE / "vectors" / f"{name}.expected").read_text().splitlines()
+
+    def cases(self, name):
+        data, at = (HERE / "vectors" / f"{name}.bin").read_bytes(), 0
+        while at < len(data):
+            size = int.from_bytes(data[at:at + 4], "little")
+            yield data[at + 4:at + 4 + size]
+            at += 4 + size
+
+    def test_reading(self):
+        self.assertEqual([reading_line(data) for data in self.cases("reading")],
+                         self.lines("reading"))
+
+    def test_sheets(self):
+        self.assertEqual([load_line(data) for data in self.cases("sheets")],
+                         self.lines("sheets"))
+
+    def test_words(self):
+        data, at = (HERE / "vectors" / "words.bin").read_bytes(), 0
+
+        def number(width):
+            nonlocal at
+            at += width
+            return int.from_bytes(data[at - width:at], "little")
+
+        def part(size):
+            nonlocal at
+            at += size
+            return data[at - size:at]
+
+        lines = []
+        while at < len(data):
+            sheet = read_sheet(part(number(4)))
+            for _ in range(number(4)):
+                condition = number(2)
+                lines.append(word_line_of(sheet, condition, part(number(2))))
+        self.assertEqual(lines, self.lines("words"))
+
+    def test_refusals_agree(self):
+        """The loader gives refusals 1 to 9 as reading does."""
+        for data in self.cases("reading"):
+            if isinstance(result := read_sheet(data), Refusal):
+                self.assertEqual(verdict(data), result)
+
+
+if __name__ == "__main__":
+    unittest.main()
