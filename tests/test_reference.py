@@ -27,6 +27,7 @@ from sheets.expressions import ExpressionError, parse_expression, show
 from simulate import Totals, Walker, walk
 
 HERE = Path(__file__).resolve().parent
+CRATES = HERE.parent / "crates"
 A, B = (LEAF, 1), (LEAF, 2)
 NOTHING = (EMPTY,)
 ALL = (STAR, (LEAF, ANY))
@@ -478,7 +479,7 @@ class Programs(unittest.TestCase):
         code, out, error = self.run_module("sheets.assemble", __file__)
         self.assertEqual((code, out), (1, b""))
         self.assertIn("test_reference.py:1: unknown statement", error)
-        path = str(HERE / "vectors" / "words.bin")
+        path = str(CRATES / "word_cases" / "stdin")
         self.assertEqual(self.run_module("reference.wordtest", path, "0", "1"),
                          (0, b"refused 1 at 65536\n", ""))
 
@@ -487,25 +488,25 @@ class Vectors(unittest.TestCase):
     """The stored vectors are what the reference says."""
 
     def lines(self, name):
-        return (HERE / "vectors" / f"{name}.expected").read_text().splitlines()
+        return (CRATES / name / "stdout").read_text().splitlines()
 
     def cases(self, name):
-        data, at = (HERE / "vectors" / f"{name}.bin").read_bytes(), 0
+        data, at = (CRATES / name / "stdin").read_bytes(), 0
         while at < len(data):
             size = int.from_bytes(data[at:at + 4], "little")
             yield data[at + 4:at + 4 + size]
             at += 4 + size
 
     def test_reading(self):
-        self.assertEqual([reading_line(data) for data in self.cases("reading")],
-                         self.lines("reading"))
+        self.assertEqual([reading_line(data) for data in self.cases("reading_cases")],
+                         self.lines("reading_cases"))
 
     def test_sheets(self):
-        self.assertEqual([load_line(data) for data in self.cases("sheets")],
-                         self.lines("sheets"))
+        self.assertEqual([load_line(data) for data in self.cases("sheet_cases")],
+                         self.lines("sheet_cases"))
 
     def test_words(self):
-        data, at = (HERE / "vectors" / "words.bin").read_bytes(), 0
+        data, at = (CRATES / "word_cases" / "stdin").read_bytes(), 0
 
         def number(width):
             nonlocal at
@@ -523,11 +524,11 @@ class Vectors(unittest.TestCase):
             for _ in range(number(4)):
                 condition = number(2)
                 lines.append(word_line_of(sheet, condition, part(number(2))))
-        self.assertEqual(lines, self.lines("words"))
+        self.assertEqual(lines, self.lines("word_cases"))
 
     def test_refusals_agree(self):
         """The loader gives refusals 1 to 9 as reading does."""
-        for data in self.cases("reading"):
+        for data in self.cases("reading_cases"):
             if isinstance(result := read_sheet(data), Refusal):
                 self.assertEqual(verdict(data), result)
 
