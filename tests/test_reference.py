@@ -40,7 +40,7 @@ def text(*lines):
 
 
 def example(name):
-    path = HERE / "sheets" / "examples" / name
+    path = HERE.parent / "examples" / name
     return read_sheet(assemble(path.read_text(encoding="utf-8")))
 
 
@@ -472,7 +472,7 @@ class Programs(unittest.TestCase):
     def test_programs(self):
         self.assertEqual(self.run_module("reference.loader", data=M),
                          (0, b"accepted 6\n", ""))
-        name = "sheets/examples/minimal.txt"
+        name = "../examples/minimal.txt"
         self.assertEqual(self.run_module("sheets.assemble", name), (0, M, ""))
         code, out, _ = self.run_module("sheets.disassemble", data=M)
         self.assertEqual((code, out.splitlines()[-1]), (0, b"accepted 6"))

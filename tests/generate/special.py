@@ -10,7 +10,7 @@ from sheets.records import encode, with_certificates
 
 from .refusals import Case
 
-EXAMPLES = Path(__file__).resolve().parent.parent / "sheets" / "examples"
+EXAMPLES = Path(__file__).resolve().parent.parent.parent / "examples"
 ANY_STAR = (STAR, (LEAF, ANY))
 EMPTY_TREE = (EMPTY,)
 M = bytes.fromhex("0206" "07000000000000" "0900000000000000000000"
@@ -18,7 +18,7 @@ M = bytes.fromhex("0206" "07000000000000" "0900000000000000000000"
 
 
 def examples():
-    """The texts beside the assembler; each one's first line has its answer."""
+    """The texts of examples/; each one's first line has its answer."""
     for path in sorted(EXAMPLES.glob("*.txt")):
         text = path.read_text(encoding="utf-8")
         line = text.splitlines()[0].removeprefix("# loader: ")
