@@ -1,5 +1,6 @@
 // The answers of the loader and of the word test, and document 01's numbers for them.
 ghost use mathlib.Core.Path.{_≡_};
+ghost use Prim.Native.Nat.{_≤_};
 ghost use Rattle.records.specs.Refusal.{numberOf, placeOf};
 ghost use Rattle.answers.specs.Answers.{ruleNumber, ruleSubject, placeIn};
 use records::Refusal;
@@ -53,6 +54,7 @@ pub enum Place {
 
 pub fn rule_number(r: Rule) -> usize
     ensures { λ n. ⌜ n ≡ ruleNumber r ⌝ }
+    ensures { λ n. ⌜ n ≤ 17 ⌝ }
 {
     match r {
         Rule::FirstPre(_) => 1,
