@@ -1,5 +1,5 @@
--- The lines as labels and numbers, and as what is put for each.
-use mathlib.Core.Path.{_≡_, refl, sym}
+-- The lines, and the pieces that are put for each.
+use mathlib.Core.Path.{_≡_, refl}
 use mathlib.Core.Bool.{true, false}
 use mathlib.Core.Option.{Option, none, some}
 use mathlib.Core.List.{List, _++_, append-nil}
@@ -18,15 +18,6 @@ pub refused-line : (n : ℕ) (at : Option ℕ) → line (refused n at) ≡ refus
 unfolding line
 refused-line n at = refl
 
-unproved-line : (r k c i e l : ℕ) → line (unproved r k c i e l)
-    ≡ ascii "unproved rule " ++ (decimal r ++ (subjectName r ++ (decimal k
-    ++ (ascii " clause " ++ (decimal c
-    ++ (ascii " pair " ++ (decimal i
-    ++ (ascii " event " ++ (decimal e
-    ++ (ascii " place " ++ decimal l))))))))))
-unfolding line
-unproved-line r k c i e l = refl
-
 pub yes-line : answerLine (tested true) ≡ ascii "yes"
 unfolding answerLine
 yes-line = refl
@@ -39,22 +30,23 @@ pub untested-line : (n : ℕ) (at : Option ℕ) → answerLine (untested n at) �
 unfolding answerLine
 untested-line n at = refl
 
--- Pieces put one behind the other ---------------------------------------------------------------------------------------
-
+-- a refusal's line, with a place and without
 module _ {o o₁ : List ℕ} {a n m : ℕ} {at : Option ℕ} (number : n ≡ m) (first : Put o 0 (ascii "refused " ++ decimal n) o₁ a) where
   pub refused-somewhere : {o₂ : List ℕ} {b k : ℕ} → at ≡ some k → Put o₁ a (ascii " at " ++ decimal k) o₂ b → Put o 0 (refusedLine m at) o₂ b
-  refused-somewhere {k} e p = rw (e, ← number) (and-then (ascii "refused ") (decimal n) first p)
+  refused-somewhere e p = rw (e, ← number) (and-then (ascii "refused ") (decimal n) first p)
 
   pub refused-nowhere : at ≡ none → Put o 0 (refusedLine m at) o₁ a
   refused-nowhere e = rw (e, ← number, append-nil) first
 
+-- an unproved answer's line
 pub unproved-pieces : {o o₁ o₂ o₃ o₄ o₅ o₆ : List ℕ} {a₁ a₂ a₃ a₄ a₅ a₆ : ℕ} {r k r′ k′ : ℕ} (c i e l : ℕ) → r ≡ r′ → k ≡ k′
     → Put o 0 (ascii "unproved rule " ++ decimal r) o₁ a₁ → Put o₁ a₁ (subjectName r ++ decimal k) o₂ a₂
     → Put o₂ a₂ (ascii " clause " ++ decimal c) o₃ a₃ → Put o₃ a₃ (ascii " pair " ++ decimal i) o₄ a₄
     → Put o₄ a₄ (ascii " event " ++ decimal e) o₅ a₅ → Put o₅ a₅ (ascii " place " ++ decimal l) o₆ a₆
     → Put o 0 (line (unproved r′ k′ c i e l)) o₆ a₆
+unfolding line
 unproved-pieces {r} {k} c i e l same-rule same-subject p₁ p₂ p₃ p₄ p₅ p₆ =
-    rw (← same-rule, ← same-subject, unproved-line)
+    rw (← same-rule, ← same-subject)
     (and-then (ascii "unproved rule ") (decimal r) p₁
     (and-then (subjectName r) (decimal k) p₂
     (and-then (ascii " clause ") (decimal c) p₃

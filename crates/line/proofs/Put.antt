@@ -1,10 +1,10 @@
 -- What is put into a buffer, one piece behind the other.
-use mathlib.Core.Path.{_≡_, refl, sym, ap, _∙_}
+use mathlib.Core.Path.{_≡_, refl, _∙_}
 use mathlib.Core.List.{List, [], _∷_, _++_, append-assoc}
 use Prim.Native.Nat.{ℕ, suc, _+_, _/_, _%_, _<_, _≤_}
 use native.Mathlib.Numerals.{add-one}
 use native.Mathlib.Omega.{arith}
-use lib.ListN.{length, length-append, set, take, drop, getD}
+use lib.ListN.{length, length-append, set, take, getD}
 use lib.Seq.{sets, sets-eq, take-all, take-suc}
 use Rattle.verdict.specs.Line.{decimal}
 use Rattle.line.specs.Put.{Put, Begins}
@@ -26,22 +26,20 @@ byte o i v = record { stored = refl; behind = refl }
 
 -- two pieces are one
 pub then : {a b c x y : List ℕ} {i j k : ℕ} → Put a i x b j → Put b j y c k → Put a i (x ++ y) c k
-then {a} {b} {c} {x} {y} {i} {j} {k} p q = record {
+then {a} {x} {y} {i} p q = record {
   stored = q .stored ∙ rw (p .stored, p .behind) (sets-append a i x y);
-  behind = simp length-append (omega (arith, p .behind, q .behind));
+  behind = simp length-append (omega arith);
 }
 
 -- the same, where the first is a label x with its number y
 pub and-then : {a b c z : List ℕ} {i j k : ℕ} (x y : List ℕ) → Put a i (x ++ y) b j → Put b j z c k → Put a i (x ++ (y ++ z)) c k
 and-then x y p q = rw append-assoc at (then p q)
 
--- the line is whole in a buffer that is long enough
+-- a line that is put at the start of a buffer is whole
 pub begins : {a b x : List ℕ} {k : ℕ} → length a ≡ 160 → k ≤ 152 → Put a 0 x b k → Begins a x b k
-begins {a} {b} {x} {k} l h p = record {
-  held = let e : 0 + length x ≡ length x = omega arith in p .stored ∙ sets-eq x a 0 (omega (arith, p .behind)) ∙ rw e;
-  whole = omega (arith, p .behind);
-  short = h;
-}
+begins {a} {x} l h p =
+    let e : 0 + length x ≡ length x = omega arith in
+    record { held = p .stored ∙ sets-eq x a 0 (omega arith) ∙ rw e; whole = omega arith; short = h }
 
 -- A text, byte by byte --------------------------------------------------------------------------------------------------
 
