@@ -1,0 +1,68 @@
+-- Document 01's numbers and values of each answer: "What the loader returns", "Seventeen rules".
+use Prim.Native.Nat.{ℕ}
+use mathlib.Core.Bool.{true, false}
+use mathlib.Core.Option.{Option, none, some}
+use Rattle.verdict.specs.Verdict.{Report, accepted, refused, unproved}
+use Rattle.verdict.specs.WordTest.{Answer, tested, untested}
+use Rattle.records.specs.Refusal.{numberOf, placeOf}
+use Rattle.answers.specs.declared.Rule.{Rule}
+use Rattle.answers.specs.declared.Rule.the-variants.{FirstPre, FirstFuture, EntryPast, EntryOwn, ExitOwn, ExitDue, EventPast, EventOwn, EventDue, CallPre, CallPast, CallOwn, CallFuture, CallDue, PassPast, PassOwn, PassDue}
+use Rattle.answers.specs.declared.Place.{Place}
+use Rattle.answers.specs.declared.Place.the-variants.{At, Nowhere}
+use Rattle.answers.specs.declared.Verdict.{Verdict}
+use Rattle.answers.specs.declared.Verdict.the-variants.{Accepted, Refused as RefusedSheet, Unproved}
+use Rattle.answers.specs.declared.WordAnswer.{WordAnswer}
+use Rattle.answers.specs.declared.WordAnswer.the-variants.{Yes, No, Refused as RefusedWord}
+
+abbrev pub ruleNumber : Rule → ℕ
+ruleNumber (FirstPre k) = 1
+ruleNumber (FirstFuture k) = 2
+ruleNumber (EntryPast k) = 3
+ruleNumber (EntryOwn k) = 4
+ruleNumber (ExitOwn k) = 5
+ruleNumber (ExitDue k) = 6
+ruleNumber (EventPast k) = 7
+ruleNumber (EventOwn k) = 8
+ruleNumber (EventDue k) = 9
+ruleNumber (CallPre k) = 10
+ruleNumber (CallPast k) = 11
+ruleNumber (CallOwn k) = 12
+ruleNumber (CallFuture k) = 13
+ruleNumber (CallDue k) = 14
+ruleNumber (PassPast k) = 15
+ruleNumber (PassOwn k) = 16
+ruleNumber (PassDue k) = 17
+
+-- a rule's method, and from rule 7 on its step
+abbrev pub ruleSubject : Rule → ℕ
+ruleSubject (FirstPre k) = k
+ruleSubject (FirstFuture k) = k
+ruleSubject (EntryPast k) = k
+ruleSubject (EntryOwn k) = k
+ruleSubject (ExitOwn k) = k
+ruleSubject (ExitDue k) = k
+ruleSubject (EventPast k) = k
+ruleSubject (EventOwn k) = k
+ruleSubject (EventDue k) = k
+ruleSubject (CallPre k) = k
+ruleSubject (CallPast k) = k
+ruleSubject (CallOwn k) = k
+ruleSubject (CallFuture k) = k
+ruleSubject (CallDue k) = k
+ruleSubject (PassPast k) = k
+ruleSubject (PassOwn k) = k
+ruleSubject (PassDue k) = k
+
+abbrev pub placeIn : Place → Option ℕ
+placeIn (At k) = some k
+placeIn Nowhere = none
+
+abbrev pub reportOf : Verdict → Report
+reportOf (Accepted n) = accepted n
+reportOf (RefusedSheet x) = refused (numberOf x) (placeOf x)
+reportOf (Unproved r c i e l) = unproved (ruleNumber r) (ruleSubject r) c i e l
+
+abbrev pub answerOf : WordAnswer → Answer
+answerOf Yes = tested true
+answerOf No = tested false
+answerOf (RefusedWord x) = untested (numberOf x) (placeOf x)

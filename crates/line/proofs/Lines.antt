@@ -1,0 +1,54 @@
+-- The lines, and the pieces that are put for each.
+use mathlib.Core.Path.{_≡_, refl}
+use mathlib.Core.Bool.{true, false}
+use mathlib.Core.Option.{Option, none, some}
+use mathlib.Core.List.{List, _++_, append-nil}
+use Prim.Native.Nat.{ℕ}
+use Rattle.verdict.specs.Verdict.{accepted, refused, unproved}
+use Rattle.verdict.specs.WordTest.{tested, untested}
+use Rattle.verdict.specs.Line.{ascii, decimal, subjectName, refusedLine, line, answerLine}
+use Rattle.line.specs.Put.{Put}
+use Rattle.line.proofs.Put.{and-then}
+
+pub accepted-line : (n : ℕ) → line (accepted n) ≡ ascii "accepted " ++ decimal n
+unfolding line
+accepted-line n = refl
+
+pub refused-line : (n : ℕ) (at : Option ℕ) → line (refused n at) ≡ refusedLine n at
+unfolding line
+refused-line n at = refl
+
+pub yes-line : answerLine (tested true) ≡ ascii "yes"
+unfolding answerLine
+yes-line = refl
+
+pub no-line : answerLine (tested false) ≡ ascii "no"
+unfolding answerLine
+no-line = refl
+
+pub untested-line : (n : ℕ) (at : Option ℕ) → answerLine (untested n at) ≡ refusedLine n at
+unfolding answerLine
+untested-line n at = refl
+
+-- a refusal's line, with a place and without
+module _ {o o₁ : List ℕ} {a n m : ℕ} {at : Option ℕ} (number : n ≡ m) (first : Put o 0 (ascii "refused " ++ decimal n) o₁ a) where
+  pub refused-somewhere : {o₂ : List ℕ} {b k : ℕ} → at ≡ some k → Put o₁ a (ascii " at " ++ decimal k) o₂ b → Put o 0 (refusedLine m at) o₂ b
+  refused-somewhere e p = rw (e, ← number) (and-then (ascii "refused ") (decimal n) first p)
+
+  pub refused-nowhere : at ≡ none → Put o 0 (refusedLine m at) o₁ a
+  refused-nowhere e = rw (e, ← number, append-nil) first
+
+-- an unproved answer's line
+pub unproved-pieces : {o o₁ o₂ o₃ o₄ o₅ o₆ : List ℕ} {a₁ a₂ a₃ a₄ a₅ a₆ : ℕ} {r k r′ k′ : ℕ} (c i e l : ℕ) → r ≡ r′ → k ≡ k′
+    → Put o 0 (ascii "unproved rule " ++ decimal r) o₁ a₁ → Put o₁ a₁ (subjectName r ++ decimal k) o₂ a₂
+    → Put o₂ a₂ (ascii " clause " ++ decimal c) o₃ a₃ → Put o₃ a₃ (ascii " pair " ++ decimal i) o₄ a₄
+    → Put o₄ a₄ (ascii " event " ++ decimal e) o₅ a₅ → Put o₅ a₅ (ascii " place " ++ decimal l) o₆ a₆
+    → Put o 0 (line (unproved r′ k′ c i e l)) o₆ a₆
+unfolding line
+unproved-pieces {r} {k} c i e l same-rule same-subject p₁ p₂ p₃ p₄ p₅ p₆ =
+    rw (← same-rule, ← same-subject)
+    (and-then (ascii "unproved rule ") (decimal r) p₁
+    (and-then (subjectName r) (decimal k) p₂
+    (and-then (ascii " clause ") (decimal c) p₃
+    (and-then (ascii " pair ") (decimal i) p₄
+    (and-then (ascii " event ") (decimal e) p₅ p₆)))))

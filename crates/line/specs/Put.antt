@@ -1,0 +1,18 @@
+-- Bytes put into a buffer.
+use Prim.Native.Nat.{ℕ, _+_, _≤_}
+use mathlib.Core.Path.{_≡_}
+use mathlib.Core.List.{List, _++_}
+use lib.ListN.{length, drop}
+use lib.Seq.{sets}
+
+-- `bytes` are stored from `at` on, and `next` is the place behind them
+pub record Put (before : List ℕ) (at : ℕ) (bytes : List ℕ) (after : List ℕ) (next : ℕ) : Type 0 where
+  pub stored : after ≡ sets before at bytes
+  pub behind : next ≡ at + length bytes
+
+-- the buffer begins with the line, of `size` bytes, and holds behind it what it held before
+pub record Begins (before : List ℕ) (line : List ℕ) (after : List ℕ) (size : ℕ) : Type 0 where
+  pub held : after ≡ line ++ drop (length line) before
+  pub whole : size ≡ length line
+  -- 50 bytes of text, a rule's number of two digits and five numbers of 20 digits
+  pub short : size ≤ 152

@@ -1,0 +1,153 @@
+// The line that a program prints, without the newline, written into a buffer.
+ghost use mathlib.Core.Path.{_≡_};
+ghost use mathlib.Core.List.{_++_};
+ghost use Prim.Native.Nat.{_+_, _≤_, _<_};
+ghost use lib.ListN.{length};
+ghost use Rattle.verdict.specs.Verdict.{unproved};
+ghost use Rattle.verdict.specs.Line.{ascii, decimal, subjectName, refusedLine, line, answerLine};
+ghost use Rattle.records.specs.Refusal.{numberOf, placeOf};
+ghost use Rattle.answers.specs.Answers.{ruleNumber, ruleSubject, reportOf, answerOf};
+ghost use Rattle.line.specs.Put.{Put, Begins};
+use answers::Place;
+use answers::Rule;
+use answers::Verdict;
+use answers::WordAnswer;
+use answers::refusal_number;
+use answers::refusal_place;
+use answers::rule_number;
+use answers::rule_subject;
+use records::Refusal;
+
+// A digit in ASCII.
+fn digit(n: usize) -> u8
+    requires { ⌜ n < 10 ⌝ }
+    ensures { λ r. ⌜ r ≡ 48 + n ⌝ }
+{
+    48 + (n as u8)
+}
+
+// A text at a place of the buffer. Each function that puts something returns the place behind it.
+fn put_text(text: &[u8], out: &mut [u8; 160], at: usize) -> usize
+    requires { ⌜ at + length (now text) ≤ 160 ⌝ }
+    ensures { λ r. ⌜ Put (now (out .entry)) at (now (text .entry)) (now (out .exit)) r ⌝ }
+{
+    let mut i = 0;
+    while i < text.len() {
+        out[at + i] = text[i];
+        i += 1;
+    }
+    at + i
+}
+
+// A number in decimal: its last digit goes behind the digits of its tenth.
+fn put_number(n: usize, out: &mut [u8; 160], at: usize) -> usize
+    requires { ⌜ at + length (decimal n) ≤ 160 ⌝ }
+    ensures { λ r. ⌜ Put (now (out .entry)) at (decimal n) (now (out .exit)) r ⌝ }
+{
+    if n < 10 {
+        out[at] = digit(n);
+        return at + 1;
+    }
+    let last = put_number(n / 10, out, at);
+    out[last] = digit(n % 10);
+    last + 1
+}
+
+// A label and a number, which has at most 20 digits.
+fn put_value(label: &[u8], n: usize, out: &mut [u8; 160], at: usize) -> usize
+    requires { ⌜ at + length (now label) + 20 ≤ 160 ⌝ }
+    ensures { λ r. ⌜ Put (now (out .entry)) at (now (label .entry) ++ decimal n) (now (out .exit)) r ⌝ }
+    ensures { λ r. ⌜ r ≤ at + length (now (label .entry)) + 20 ⌝ }
+{
+    let next = put_text(label, out, at);
+    put_number(n, out, next)
+}
+
+// A rule's method or step.
+fn put_subject(rule: usize, k: usize, out: &mut [u8; 160], at: usize) -> usize
+    requires { ⌜ at + 28 ≤ 160 ⌝ }
+    ensures { λ r. ⌜ Put (now (out .entry)) at (subjectName rule ++ decimal k) (now (out .exit)) r ⌝ }
+    ensures { λ r. ⌜ r ≤ at + 28 ⌝ }
+{
+    if rule < 7 {
+        return put_value(b" method ", k, out, at);
+    }
+    put_value(b" step ", k, out, at)
+}
+
+// The line of a refusal.
+fn put_refusal(x: Refusal, out: &mut [u8; 160]) -> usize
+    ensures { λ r. ⌜ Put (now (out .entry)) 0 (refusedLine (numberOf x) (placeOf x)) (now (out .exit)) r ⌝ }
+    ensures { λ r. ⌜ r ≤ 52 ⌝ }
+{
+    let number = refusal_number(x);
+    let found = refusal_place(x);
+    let next = put_value(b"refused ", number, out, 0);
+    match found {
+        Place::At(at) => put_value(b" at ", at, out, next),
+        Place::Nowhere => next,
+    }
+}
+
+// The beginning of an unproved answer's line. A rule's number has at most two digits.
+fn put_rule(number: usize, out: &mut [u8; 160]) -> usize
+    requires { ⌜ number ≤ 17 ⌝ }
+    ensures { λ r. ⌜ Put (now (out .entry)) 0 (ascii "unproved rule " ++ decimal number) (now (out .exit)) r ⌝ }
+    ensures { λ r. ⌜ r ≤ 16 ⌝ }
+{
+    let next = put_text(b"unproved rule ", out, 0);
+    put_number(number, out, next)
+}
+
+// The line of an unproved answer.
+fn put_unproved(
+    rule: Rule,
+    clause: usize,
+    pair: usize,
+    event: usize,
+    place: usize,
+    out: &mut [u8; 160],
+) -> usize
+    ensures { λ r. ⌜ Put (now (out .entry)) 0 (line (unproved (ruleNumber rule) (ruleSubject rule) clause pair event place)) (now (out .exit)) r ⌝ }
+    ensures { λ r. ⌜ r ≤ 152 ⌝ }
+{
+    let number = rule_number(rule);
+    let subject = rule_subject(rule);
+    let a = put_rule(number, out);
+    let b = put_subject(number, subject, out, a);
+    let c = put_value(b" clause ", clause, out, b);
+    let d = put_value(b" pair ", pair, out, c);
+    let e = put_value(b" event ", event, out, d);
+    put_value(b" place ", place, out, e)
+}
+
+// The line of the loading program. That the buffer's list has 160 elements is what its type says, and every caller knows it of its array;
+// behind a reference a contract has to say it.
+pub fn write_line(v: Verdict, out: &mut [u8; 160]) -> usize
+    requires { ⌜ length (now out) ≡ 160 ⌝ }
+    ensures { λ r. ⌜ Begins (now (out .entry)) (line (reportOf v)) (now (out .exit)) r ⌝ }
+{
+    match v {
+        Verdict::Accepted(n) => put_value(b"accepted ", n, out, 0),
+        Verdict::Refused(x) => put_refusal(x, out),
+        Verdict::Unproved {
+            rule,
+            clause,
+            pair,
+            event,
+            place,
+        } => put_unproved(rule, clause, pair, event, place, out),
+    }
+}
+
+// The line of the word test's program.
+pub fn write_answer(a: WordAnswer, out: &mut [u8; 160]) -> usize
+    requires { ⌜ length (now out) ≡ 160 ⌝ }
+    ensures { λ r. ⌜ Begins (now (out .entry)) (answerLine (answerOf a)) (now (out .exit)) r ⌝ }
+{
+    match a {
+        WordAnswer::Yes => put_text(b"yes", out, 0),
+        WordAnswer::No => put_text(b"no", out, 0),
+        WordAnswer::Refused(x) => put_refusal(x, out),
+    }
+}

@@ -1,0 +1,64 @@
+-- The tests of a kind and of the end, in the order of `foundAt`.
+use mathlib.Core.Path.{sym, ap, _∙_}
+use native.Mathlib.Omega.{arith}
+use Rattle.records.proofs.Laws.{inside, next-by, next-le, kind-low, kind-high, body-past-end, whole-record}
+use borrow.Author.Needs.{needs}
+use Rattle.records.proofs.record_at.Statement.{statement}
+use Rattle.records.proofs.record_at.Tie as tie
+
+byte-at-requires : tie.Need-byte-at-requires
+byte-at-requires c κs = search needs
+
+returns : tie.Need-returns
+returns c = sym (kind-low _ _ (omega (arith, c .before .byte-at .ensures)))
+
+returns-2 : tie.Need-returns-2
+returns-2 c = sym (kind-high _ _ (omega (arith, c .before .before .byte-at .ensures)))
+
+add-next : tie.Need-add-next
+add-next c = let a = c .before .before .before .before .args in omega (arith, inside (a .s .now) (a .at) (omega arith))
+
+index-requires : tie.Need-index-requires
+index-requires c κs = search needs
+
+sub-next : tie.Need-sub-next
+sub-next c = search needs
+
+mul-next : tie.Need-mul-next
+mul-next c = search needs
+
+array-read-next : tie.Need-array-read-next
+array-read-next c = search needs
+
+add-next-2 : tie.Need-add-next-2
+add-next-2 c =
+    let a = c .before .before .before .before .before .args in
+    omega (arith, inside (a .s .now) (a .at) (omega arith), next-by (a .s .now) (a .at) (c .index .result) (omega arith) (omega arith), next-le (a .s .now) (a .at))
+
+returns-3 : tie.Need-returns-3
+returns-3 c =
+    let a = c .before .before .before .before .before .before .args in
+    let next = next-by (a .s .now) (a .at) (c .before .index .result) (omega arith) (omega arith) in
+    sym (body-past-end (a .s .now) (a .at) (omega arith) (omega arith) (omega arith))
+
+returns-4 : tie.Need-returns-4
+returns-4 c =
+    let a = c .before .before .before .before .before .before .args in
+    let next = next-by (a .s .now) (a .at) (c .before .index .result) (omega arith) (omega arith) in
+    cc (next, c .before .before .before .before .byte-at .ensures, whole-record (a .s .now) (a .at) (omega arith) (omega arith) (omega arith))
+
+pub record-at-spec : {M : Type 1} → statement M
+record-at-spec =
+    tie.close
+    (tie.spec
+    byte-at-requires
+    returns
+    returns-2
+    add-next
+    index-requires
+    sub-next
+    mul-next
+    array-read-next
+    add-next-2
+    returns-3
+    returns-4)

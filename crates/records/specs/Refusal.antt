@@ -1,0 +1,36 @@
+-- Document 01's number and place of each refusal: "What the loader returns".
+use Prim.Native.Nat.{ℕ}
+use mathlib.Core.Option.{Option, none, some}
+use Rattle.records.specs.declared.Refusal.{Refusal}
+use Rattle.records.specs.declared.Refusal.the-variants.{TooLong, UnknownKind, BodyPastEnd, WrongSection, WrongItems, OverLimit, UnknownName, Unfinished, NoFirstBody, CertificateCount, WordTooLong, StrayEvent, NoSuchCondition}
+
+abbrev pub numberOf : Refusal → ℕ
+numberOf (TooLong at) = 1
+numberOf (UnknownKind at) = 2
+numberOf (BodyPastEnd at) = 3
+numberOf (WrongSection at) = 4
+numberOf (WrongItems at) = 5
+numberOf (OverLimit at) = 6
+numberOf (UnknownName at) = 7
+numberOf (Unfinished at) = 8
+numberOf (NoFirstBody at) = 9
+numberOf (CertificateCount at) = 10
+numberOf WordTooLong = 12
+numberOf (StrayEvent at) = 13
+numberOf NoSuchCondition = 14
+
+-- "place", "offset", "length" or "index", by the refusal; 12 and 14 have none
+abbrev pub placeOf : Refusal → Option ℕ
+placeOf (TooLong at) = some at
+placeOf (UnknownKind at) = some at
+placeOf (BodyPastEnd at) = some at
+placeOf (WrongSection at) = some at
+placeOf (WrongItems at) = some at
+placeOf (OverLimit at) = some at
+placeOf (UnknownName at) = some at
+placeOf (Unfinished at) = some at
+placeOf (NoFirstBody at) = some at
+placeOf (CertificateCount at) = some at
+placeOf WordTooLong = none
+placeOf (StrayEvent at) = some at
+placeOf NoSuchCondition = none
