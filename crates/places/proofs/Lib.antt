@@ -4,3 +4,4 @@ pub mod Filling
 pub mod Turns
 pub mod Reading
 pub mod Midway
+pub mod Sides

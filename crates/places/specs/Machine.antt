@@ -4,11 +4,12 @@ use mathlib.Core.Path.{_≡_}
 use mathlib.Core.Bool.{Bool, true, false, cond}
 use mathlib.Core.List.{List, [], _∷_}
 use Prim.Native.Nat.{ℕ, suc, _+_, _-_, _≤_, _<_}
-use lib.ListN.{length, getD}
+use lib.ListN.{length, getD, set}
 use lib.Bits.{bitOr}
 use Rattle.bits.specs.Bits.{has}
 use Rattle.condition.specs.Condition.{Condition, star}
 use Rattle.condition.specs.Places.{leaves, beside, leafSet, nullable, first, last, follow}
+use Rattle.places.specs.declared.Side.{Side}
 
 -- the test f of leaves that stand behind b others
 abbrev pub behind : ℕ → (ℕ → Bool) → ℕ → Bool
@@ -70,3 +71,9 @@ pub record Linked (lasts firsts : ℕ) (F F′ : List ℕ) : Type 0 where
 pub record Holding (S : List ℕ) (n events : ℕ) (H : List ℕ) : Type 0 where
   pub holding-rows : length H ≡ 64
   pub holding-is : (e q : ℕ) → e < events → 0 < q → q ≤ n → has (getD H e 0) q ≡ has (getD S q 0) e
+
+-- the item of a whole side becomes its tables: row 0 of follow and bit 0 of ends are place 0's
+pub record Settled (n : ℕ) (nulls : Bool) (firsts lasts : ℕ) (side : Side) (F F′ : List ℕ) : Type 0 where
+  pub side-leaves : side .leaves ≡ n
+  pub side-ends : side .ends ≡ bitOr lasts (cond nulls 1 0)
+  pub row-start : F′ ≡ set F 0 firsts

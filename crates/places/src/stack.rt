@@ -178,3 +178,32 @@ pub fn push_condition(
     }
     leaves
 }
+
+// A part of a side, on top of `depth` items with `leaves` leaves. It returns how many leaves there are then.
+pub fn push_part(
+    s: &[u8],
+    part: Part,
+    depth: usize,
+    leaves: usize,
+    nullable: &mut [bool; 97],
+    first: &mut [u64; 97],
+    last: &mut [u64; 97],
+    follow: &mut [u64; 64],
+    sets: &mut [u64; 64],
+) -> usize
+    requires { ⌜ (depth ≤ 1) × (leaves ≤ 31) × Roomy (now nullable) (now first) (now last) × Rows (now follow) (now sets) ⌝ }
+    ensures { λ n. ⌜ Pushed (PartIs (now (s .entry)) part) (now (nullable .entry)) (now (first .entry)) (now (last .entry)) (now (follow .entry)) (now (sets .entry)) (now (nullable .exit)) (now (first .exit)) (now (last .exit)) (now (follow .exit)) (now (sets .exit)) depth leaves n ⌝ }
+{
+    match part {
+        Part::Condition(at) => {
+            push_condition(s, at, depth, leaves, nullable, first, last, follow, sets)
+        }
+        Part::Event(e) => {
+            if 64 <= e {
+                return leaves;
+            }
+            push_leaf(bit(e), depth, leaves, nullable, first, last, follow, sets);
+            leaves + 1
+        }
+    }
+}
