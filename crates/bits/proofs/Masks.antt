@@ -3,13 +3,13 @@ use mathlib.Core.Path.{_≡_, refl, sym, ap, ap₂, _∙_}
 use mathlib.Core.Bool.{Bool, true, false, cond, not, _&&_, _||_, false≢true, true≢false}
 use mathlib.Core.Logic.{_⊎_, inl, inr, ⊎-elim}
 use Prim.Native.Nat.{ℕ, zero, suc, _+_, _/_, _%_, _^_, _<_, min, max, zero-le, suc-le-suc}
-use native.Mathlib.Nat.{pow-suc, lt-of-lt-of-le, lt-of-le-of-lt}
+use native.Mathlib.Nat.{pow-suc, lt-of-lt-of-le}
 use native.Mathlib.Omega.{arith}
-use lib.Dec.{T, not-T, eqb, eqb→eq, eqb-refl, lit<, eqb·zero-suc, eqb·suc-zero, eqb·suc-suc}
-use lib.Bits.{bitAnd, bitOr, and-step, or-step, and-mask, and-le-l}
+use lib.Dec.{T, not-T, eqb, eqb→eq, lit<, eqb·zero-suc, eqb·suc-zero, eqb·suc-suc}
+use lib.Bits.{bitAnd, bitOr, and-step, or-step, and-mask}
 use lib.Pow.{pow-mono, pow-pos}
-use Rattle.bits.specs.Bits.{_⇒_, has, anyBelow, allBelow, setOf}
-use Rattle.bits.proofs.Tests.{and-out, if-in, if-out, T-ext, any-in, any-out, all-in, all-out}
+use Rattle.bits.specs.Bits.{has, anyBelow, setOf}
+use Rattle.bits.proofs.Tests.{T-ext, any-in, any-out}
 use Rattle.bits.proofs.Sets.{has-suc, has-none, has-lt, set-in, set-lt}
 
 -- Digits ----------------------------------------------------------------------------------------------------------------
@@ -141,27 +141,3 @@ nonzero-out x h = go (anyBelow x (λ k. has x k)) refl
         set-ext x x 0 (lt-pow x) (pow-pos x)
         (λ k l. T-ext (has x k) (has 0 k) (λ t. absurd (rw e at (any-in x (λ k. has x k) k l t))) (λ t. absurd (rw (has-none k) at t))) in
         absurd (rw z at h)
-
--- Subsets ---------------------------------------------------------------------------------------------------------------
-
--- every number of s is one of t where the meet of both is s
-and-absorb : (a b : Bool) → (T a → T b) → (a && b) ≡ a
-and-absorb true true h = refl
-and-absorb true false h = absurd (h tt)
-and-absorb false b h = refl
-
-pub within-and : (n s t : ℕ) → s < 2 ^ n → allBelow n (λ k. has s k ⇒ has t k) ≡ eqb (bitAnd s t) s
-within-and n s t h = T-ext (allBelow n (λ k. has s k ⇒ has t k)) (eqb (bitAnd s t) s) to from
-  where
-    to : T (allBelow n (λ k. has s k ⇒ has t k)) → T (eqb (bitAnd s t) s)
-    to a =
-        let e : bitAnd s t ≡ s =
-        set-ext n (bitAnd s t) s (lt-of-le-of-lt (and-le-l s t) h) h
-        (λ k l. has-and s t k ∙ and-absorb (has s k) (has t k) (if-out (has s k) (has t k) (all-out n (λ k. has s k ⇒ has t k) a k l))) in
-        rw e (eqb-refl s)
-
-    from : T (eqb (bitAnd s t) s) → T (allBelow n (λ k. has s k ⇒ has t k))
-    from z =
-        let e : bitAnd s t ≡ s = eqb→eq (bitAnd s t) s z in
-        all-in n (λ k. has s k ⇒ has t k)
-        (λ k l. if-in (has s k) (has t k) (λ x. and-out (has s k) (has t k) (rw (← has-and s t k, e) x) .1))

@@ -1,7 +1,7 @@
 -- The stack on which the places of a condition are found from its postfix form. It has an item for each condition that is not yet part of a
 -- larger one; the leaves of an item stand behind those of the items below it.
 use mathlib.Core.Path.{_≡_}
-use mathlib.Core.Bool.{Bool, true, false, cond}
+use mathlib.Core.Bool.{Bool, false, cond}
 use mathlib.Core.List.{List, [], _∷_}
 use Prim.Native.Nat.{ℕ, suc, _+_, _-_, _≤_, _<_}
 use lib.ListN.{length, getD, set}

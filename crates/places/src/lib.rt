@@ -5,13 +5,14 @@ ghost use lib.ListN.{length, getD};
 ghost use Rattle.condition.specs.Condition.{Condition, join};
 ghost use Rattle.condition.specs.Places.{accepts};
 ghost use Rattle.places.specs.Tables.{Tables, StandsAt, PartIs};
-ghost use Rattle.places.specs.Machine.{ItemIs, RowsAre, Rows, Settled};
+ghost use Rattle.places.specs.Machine.{Rows, Settled};
 use fields::index;
 use masks::chosen;
 use masks::fill_holding;
 use masks::gather;
 use stack::join_top;
 use stack::push_part;
+
 pub mod masks; // masks.rt: sets of places and of events as words
 pub mod stack; // stack.rt: the stack by which a postfix form is read
 
@@ -44,35 +45,41 @@ pub fn side_of(s: &[u8], part: Part, follow: &mut [u64; 64], sets: &mut [u64; 64
     requires { ⌜ Rows (now follow) (now sets) ⌝ }
     ensures few { λ side. ⌜ side .leaves ≤ 62 ⌝ }
     ensures rows { λ _. ⌜ Rows (now (follow .exit)) (now (sets .exit)) ⌝ }
-    ensures tables { λ side. ⌜ ((r : Condition) → PartIs (now (s .entry)) part r → Tables r side (now (follow .exit)) (now (sets .exit))) ⌝ }
+    ensures tables { λ side. ⌜ ((r : Condition) → PartIs (now (s .entry)) part r →
+        Tables r side (now (follow .exit)) (now (sets .exit))) ⌝ }
 {
-    let mut nullable: [bool; 97] = [false; 97];
+    let mut nulls: [bool; 97] = [false; 97];
     let mut first: [u64; 97] = [0; 97];
     let mut last: [u64; 97] = [0; 97];
-    let leaves = push_part(s, part, 0, 0, &mut nullable, &mut first, &mut last, follow, sets);
-    settle(leaves, nullable[0], first[0], last[0], follow)
+    let leaves = push_part(
+        s,
+        part,
+        0,
+        0,
+        &mut nulls,
+        &mut first,
+        &mut last,
+        follow,
+        sets,
+    );
+    settle(leaves, nulls[0], first[0], last[0], follow)
 }
 
 // The side of two parts, one after the other.
-pub fn joined_side(
-    s: &[u8],
-    a: Part,
-    b: Part,
-    follow: &mut [u64; 64],
-    sets: &mut [u64; 64],
-) -> Side
+pub fn joined_side(s: &[u8], a: Part, b: Part, follow: &mut [u64; 64], sets: &mut [u64; 64]) -> Side
     requires { ⌜ Rows (now follow) (now sets) ⌝ }
     ensures few { λ side. ⌜ side .leaves ≤ 62 ⌝ }
     ensures rows { λ _. ⌜ Rows (now (follow .exit)) (now (sets .exit)) ⌝ }
-    ensures tables { λ side. ⌜ ((r t : Condition) → PartIs (now (s .entry)) a r → PartIs (now (s .entry)) b t → Tables (join r t) side (now (follow .exit)) (now (sets .exit))) ⌝ }
+    ensures tables { λ side. ⌜ ((r t : Condition) → PartIs (now (s .entry)) a r → PartIs (now (s .entry)) b t →
+        Tables (join r t) side (now (follow .exit)) (now (sets .exit))) ⌝ }
 {
-    let mut nullable: [bool; 97] = [false; 97];
+    let mut nulls: [bool; 97] = [false; 97];
     let mut first: [u64; 97] = [0; 97];
     let mut last: [u64; 97] = [0; 97];
-    let m = push_part(s, a, 0, 0, &mut nullable, &mut first, &mut last, follow, sets);
-    let n = push_part(s, b, 1, m, &mut nullable, &mut first, &mut last, follow, sets);
-    join_top(2, &mut nullable, &mut first, &mut last, follow);
-    settle(n, nullable[0], first[0], last[0], follow)
+    let m = push_part(s, a, 0, 0, &mut nulls, &mut first, &mut last, follow, sets);
+    let n = push_part(s, b, 1, m, &mut nulls, &mut first, &mut last, follow, sets);
+    join_top(2, &mut nulls, &mut first, &mut last, follow);
+    settle(n, nulls[0], first[0], last[0], follow)
 }
 
 // The condition at an offset holds the word: the places after each event are the followers of those before that hold it.

@@ -1,12 +1,12 @@
 // The stack of items by which a condition's places are found from its postfix form. Item i says of a condition whether it is nullable, and has
 // its first and its last leaves; `follow` and `sets` have the rows of the leaves of all items.
 ghost use mathlib.Core.Path.{_≡_};
-ghost use mathlib.Core.List.{List, _∷_};
+ghost use mathlib.Core.List.{List};
 ghost use Prim.Native.Nat.{ℕ, _+_, _-_, _<_, _≤_};
 ghost use lib.ListN.{length};
-ghost use Rattle.condition.specs.Condition.{Condition, leaf, empty, join, either, star};
+ghost use Rattle.condition.specs.Condition.{Condition, leaf, empty, join, either};
 ghost use Rattle.places.specs.Tables.{StandsAt, PartIs};
-ghost use Rattle.places.specs.Machine.{Stacked, Roomy, Rows, Pushed, Starred, Merged};
+ghost use Rattle.places.specs.Machine.{Roomy, Rows, Pushed, Starred, Merged};
 use crate::Part;
 use crate::masks::bit;
 use crate::masks::both;
@@ -28,7 +28,9 @@ pub fn push_leaf(
     sets: &mut [u64; 64],
 )
     requires { ⌜ (depth < 97) × (leaves < 62) × Roomy (now nullable) (now first) (now last) × Rows (now follow) (now sets) ⌝ }
-    ensures { λ _. ⌜ Pushed (λ r. r ≡ leaf set) (now (nullable .entry)) (now (first .entry)) (now (last .entry)) (now (follow .entry)) (now (sets .entry)) (now (nullable .exit)) (now (first .exit)) (now (last .exit)) (now (follow .exit)) (now (sets .exit)) depth leaves (leaves + 1) ⌝ }
+    ensures { λ _. ⌜ Pushed (λ r. r ≡ leaf set)
+        (now (nullable .entry)) (now (first .entry)) (now (last .entry)) (now (follow .entry)) (now (sets .entry))
+        (now (nullable .exit)) (now (first .exit)) (now (last .exit)) (now (follow .exit)) (now (sets .exit)) depth leaves (leaves + 1) ⌝ }
 {
     let place = leaves + 1;
     follow[place] = 0;
@@ -46,7 +48,10 @@ pub fn push_empty(
     last: &mut [u64; 97],
 )
     requires { ⌜ (depth < 97) × Roomy (now nullable) (now first) (now last) ⌝ }
-    ensures { λ _. ⌜ ((F S : List ℕ) (m : ℕ) → Rows F S → Pushed (λ r. r ≡ empty) (now (nullable .entry)) (now (first .entry)) (now (last .entry)) F S (now (nullable .exit)) (now (first .exit)) (now (last .exit)) F S depth m m) ⌝ }
+    ensures { λ _. ⌜ ((F S : List ℕ) (m : ℕ) → Rows F S →
+        Pushed (λ r. r ≡ empty)
+        (now (nullable .entry)) (now (first .entry)) (now (last .entry)) F S
+        (now (nullable .exit)) (now (first .exit)) (now (last .exit)) F S depth m m) ⌝ }
 {
     nullable[depth] = true;
     first[depth] = 0;
@@ -64,7 +69,9 @@ pub fn join_top(
     requires { ⌜ (2 ≤ depth) × (depth ≤ 97) × Roomy (now nullable) (now first) (now last) × (length (now follow) ≡ 64) ⌝ }
     ensures room { λ _. ⌜ Roomy (now (nullable .exit)) (now (first .exit)) (now (last .exit)) ⌝ }
     ensures rows { λ _. ⌜ length (now (follow .exit)) ≡ 64 ⌝ }
-    ensures merged { λ _. ⌜ Merged join (now (nullable .entry)) (now (first .entry)) (now (last .entry)) (now (follow .entry)) (now (nullable .exit)) (now (first .exit)) (now (last .exit)) (now (follow .exit)) depth ⌝ }
+    ensures merged { λ _. ⌜ Merged join
+        (now (nullable .entry)) (now (first .entry)) (now (last .entry)) (now (follow .entry))
+        (now (nullable .exit)) (now (first .exit)) (now (last .exit)) (now (follow .exit)) depth ⌝ }
 {
     let top = depth - 1;
     let under = top - 1;
@@ -83,7 +90,9 @@ pub fn either_top(
 )
     requires { ⌜ (2 ≤ depth) × (depth ≤ 97) × Roomy (now nullable) (now first) (now last) ⌝ }
     ensures room { λ _. ⌜ Roomy (now (nullable .exit)) (now (first .exit)) (now (last .exit)) ⌝ }
-    ensures merged { λ _. ⌜ ((F : List ℕ) → Merged either (now (nullable .entry)) (now (first .entry)) (now (last .entry)) F (now (nullable .exit)) (now (first .exit)) (now (last .exit)) F depth) ⌝ }
+    ensures merged { λ _. ⌜ ((F : List ℕ) → Merged either
+        (now (nullable .entry)) (now (first .entry)) (now (last .entry)) F
+        (now (nullable .exit)) (now (first .exit)) (now (last .exit)) F depth) ⌝ }
 {
     let top = depth - 1;
     let under = top - 1;
@@ -103,7 +112,9 @@ pub fn star_top(
     requires { ⌜ (1 ≤ depth) × (depth ≤ 97) × Roomy (now nullable) (now first) (now last) × (length (now follow) ≡ 64) ⌝ }
     ensures room { λ _. ⌜ Roomy (now (nullable .exit)) (now (first .entry)) (now (last .entry)) ⌝ }
     ensures rows { λ _. ⌜ length (now (follow .exit)) ≡ 64 ⌝ }
-    ensures starred { λ _. ⌜ Starred (now (nullable .entry)) (now (first .entry)) (now (last .entry)) (now (follow .entry)) (now (nullable .exit)) (now (follow .exit)) depth ⌝ }
+    ensures starred { λ _. ⌜ Starred
+        (now (nullable .entry)) (now (first .entry)) (now (last .entry)) (now (follow .entry))
+        (now (nullable .exit)) (now (follow .exit)) depth ⌝ }
 {
     let top = depth - 1;
     link(last[top], first[top], follow);
@@ -123,7 +134,9 @@ pub fn push_condition(
     sets: &mut [u64; 64],
 ) -> usize
     requires { ⌜ (floor ≤ 1) × (base ≤ 31) × Roomy (now nullable) (now first) (now last) × Rows (now follow) (now sets) ⌝ }
-    ensures { λ n. ⌜ Pushed (StandsAt (now (s .entry)) from) (now (nullable .entry)) (now (first .entry)) (now (last .entry)) (now (follow .entry)) (now (sets .entry)) (now (nullable .exit)) (now (first .exit)) (now (last .exit)) (now (follow .exit)) (now (sets .exit)) floor base n ⌝ }
+    ensures { λ n. ⌜ Pushed (StandsAt (now (s .entry)) from)
+        (now (nullable .entry)) (now (first .entry)) (now (last .entry)) (now (follow .entry)) (now (sets .entry))
+        (now (nullable .exit)) (now (first .exit)) (now (last .exit)) (now (follow .exit)) (now (sets .exit)) floor base n ⌝ }
 {
     let mut depth = floor;
     let mut leaves = base;
@@ -136,7 +149,8 @@ pub fn push_condition(
             if base + 31 <= leaves {
                 return leaves;
             }
-            push_leaf(set_at(s, at + 1), depth, leaves, nullable, first, last, follow, sets);
+            let set = set_at(s, at + 1);
+            push_leaf(set, depth, leaves, nullable, first, last, follow, sets);
             depth += 1;
             leaves += 1;
             at += 5;
@@ -192,7 +206,9 @@ pub fn push_part(
     sets: &mut [u64; 64],
 ) -> usize
     requires { ⌜ (depth ≤ 1) × (leaves ≤ 31) × Roomy (now nullable) (now first) (now last) × Rows (now follow) (now sets) ⌝ }
-    ensures { λ n. ⌜ Pushed (PartIs (now (s .entry)) part) (now (nullable .entry)) (now (first .entry)) (now (last .entry)) (now (follow .entry)) (now (sets .entry)) (now (nullable .exit)) (now (first .exit)) (now (last .exit)) (now (follow .exit)) (now (sets .exit)) depth leaves n ⌝ }
+    ensures { λ n. ⌜ Pushed (PartIs (now (s .entry)) part)
+        (now (nullable .entry)) (now (first .entry)) (now (last .entry)) (now (follow .entry)) (now (sets .entry))
+        (now (nullable .exit)) (now (first .exit)) (now (last .exit)) (now (follow .exit)) (now (sets .exit)) depth leaves n ⌝ }
 {
     match part {
         Part::Condition(at) => {

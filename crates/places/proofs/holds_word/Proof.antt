@@ -9,12 +9,6 @@ use Rattle.places.proofs.Sides.{word-none, word-more, word-all}
 use borrow.Author.Needs.{needs}
 use Rattle.places.proofs.holds_word.Statement.{statement}
 use Rattle.places.proofs.holds_word.Tie as tie
-use Rattle.places.proofs.holds_word.Reads as reads
-use Rattle.places.proofs.holds_word.Lts as lts
-use Rattle.fields.proofs.index.Reads as index-reads
-use Rattle.places.proofs.masks.fill_holding.Reads as fill-holding-reads
-use Rattle.places.proofs.masks.gather.Reads as gather-reads
-use Rattle.places.proofs.side_of.Reads as side-of-reads
 
 abbrev Inv-loop : tie.InvT-loop
 Inv-loop s at events word follow holding leaves ends places₀ i₀ places i = (r : Condition) → StandsAt s at r → places ≡ stepAll r 1 (take i word)
@@ -22,51 +16,39 @@ Inv-loop s at events word follow holding leaves ends places₀ i₀ places i = (
 abbrev μ-loop : tie.MeasureT-loop
 μ-loop s at events word follow holding leaves ends places₀ i₀ places i = length word - i
 
--- src/lib.rt:86:9
 side-of-requires : tie.Need-side-of-requires Inv-loop μ-loop
 side-of-requires c κs = search needs
 
--- src/lib.rt:89:5
 fill-holding-requires : tie.Need-fill-holding-requires Inv-loop μ-loop
 fill-holding-requires c κs = search needs
 
--- src/lib.rt:92:5
 loop-holds : tie.Need-loop-holds Inv-loop μ-loop
 loop-holds c = λ r h. word-none r (c .before .before .before .before .before .before .before .before .args .word .now)
 
--- src/lib.rt:93:23
 shared-slice-read-index : tie.Need-shared-slice-read-index Inv-loop μ-loop
 shared-slice-read-index c = search needs
 
--- src/lib.rt:93:13
 index-requires : tie.Need-index-requires Inv-loop μ-loop
 index-requires c κs = search needs
 
--- src/lib.rt:94:34
 add-gather : tie.Need-add-gather Inv-loop μ-loop
 add-gather c = search needs
 
--- src/lib.rt:94:18
 gather-requires : tie.Need-gather-requires Inv-loop μ-loop
 gather-requires c κs = search needs
 
--- src/lib.rt:94:56
 mul-places : tie.Need-mul-places Inv-loop μ-loop
 mul-places c = let h = c .before .before .before .before .before .before .before .before .before .before .before .before .before .before .pre .1 (c .before .before .before .before .before .loop .i) (c .before .before .before .before .loop-test .taken) in let e = c .before .before .index .ensures in search needs
 
--- src/lib.rt:94:56
 array-read-places : tie.Need-array-read-places Inv-loop μ-loop
 array-read-places c = let h = c .before .before .before .before .before .before .before .before .before .before .before .before .before .before .pre .1 (c .before .before .before .before .before .loop .i) (c .before .before .before .before .loop-test .taken) in let e = c .before .before .index .ensures in search needs
 
--- src/lib.rt:95:9
 add-i : tie.Need-add-i Inv-loop μ-loop
 add-i c = search needs
 
--- src/lib.rt:92:5
 loop-less : tie.Need-loop-less Inv-loop μ-loop
 loop-less c = search needs
 
--- src/lib.rt:92:5
 loop-again : tie.Need-loop-again Inv-loop μ-loop
 loop-again c = let g = c .before .before .before .before .before .loop in
     let held = c .before .before .before .before .before .before .fill-holding in
@@ -75,7 +57,6 @@ loop-again c = let g = c .before .before .before .before .before .loop in
     ∙ word-more (c .before .before .before .before .before .before .before .before .before .side-of .ensures .1 .1 r h) (held .ensures) (c .before .before .before .before .before .before .before .before .before .before .before .before .before .before .args .word .now) (g .i) (g .places) (c .gather .result)
     (c .before .before .before .before .loop-test .taken) (c .before .before .before .before .before .before .before .before .before .before .before .before .before .before .pre .1 (g .i) (c .before .before .before .before .loop-test .taken)) (g .inv r h) (c .gather .ensures)
 
--- src/lib.rt:79:1
 returns : tie.Need-returns Inv-loop μ-loop
 returns c = λ r h. word-all (c .before .before .before .before .before .side-of .ensures .1 .1 r h) (c .before .before .before .before .before .before .before .before .before .before .args .word .now) (c .before .loop .i) (c .before .loop .places) (c .loop-test .left) (c .before .loop .inv r h)
 

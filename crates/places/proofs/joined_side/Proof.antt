@@ -6,41 +6,28 @@ use Rattle.places.proofs.Sides.{settled-rows, tables}
 use borrow.Author.Needs.{needs}
 use Rattle.places.proofs.joined_side.Statement.{statement}
 use Rattle.places.proofs.joined_side.Tie as tie
-use Rattle.places.proofs.joined_side.Reads as reads
-use Rattle.places.proofs.joined_side.Lts as lts
-use Rattle.places.proofs.settle.Reads as settle-reads
-use Rattle.places.proofs.stack.join_top.Reads as join-top-reads
-use Rattle.places.proofs.stack.push_part.Reads as push-part-reads
 
--- src/lib.rt:72:9
 push-part-requires : tie.Need-push-part-requires
 push-part-requires c κs = search needs
 
--- src/lib.rt:73:9
 push-part-requires-2 : tie.Need-push-part-requires-2
 push-part-requires-2 c κs = search needs
 
--- src/lib.rt:74:5
 join-top-requires : tie.Need-join-top-requires
 join-top-requires c κs = search needs
 
--- src/lib.rt:75:15
 array-read-settle : tie.Need-array-read-settle
 array-read-settle c = search needs
 
--- src/lib.rt:75:28
 array-read-settle-2 : tie.Need-array-read-settle-2
 array-read-settle-2 c = search needs
 
--- src/lib.rt:75:38
 array-read-settle-3 : tie.Need-array-read-settle-3
 array-read-settle-3 c = search needs
 
--- src/lib.rt:75:5
 settle-requires : tie.Need-settle-requires
 settle-requires c κs = search needs
 
--- src/lib.rt:57:1
 returns : tie.Need-returns
 returns c = let p = c .before .before .before .before .before .before .before .before .before .before .before .before .before .push-part .ensures in
     let q = c .before .before .before .before .before .before .before .push-part2 .ensures in
@@ -48,12 +35,15 @@ returns c = let p = c .before .before .before .before .before .before .before .b
     let e = c .settle .ensures in
     let few = p .few in
     let few′ = q .few in
-    let n = e .side-leaves in
-    (omega arith,
-    (settled-rows e (record { rows-follow = j .1 .0; rows-sets = q .rows .rows-sets }),
-    λ r t h k.
-    tables e (j .1 .0) (omega arith)
-    (j .1 .1 _ r t [] _ (omega arith) (q .pushed t k (r ∷ []) (p .pushed r h [] (bottom refl refl))))))
+    let n = e .side-leaves in (
+      omega arith,
+      (
+        settled-rows e (record { rows-follow = j .1 .0; rows-sets = q .rows .rows-sets }),
+        λ r t h k.
+            tables e (j .1 .0) (omega arith)
+            (j .1 .1 _ r t [] _ (omega arith) (q .pushed t k (r ∷ []) (p .pushed r h [] (bottom refl refl)))),
+      ),
+    )
 
 pub joined-side-spec : {M : Type 1} → statement M
 joined-side-spec =

@@ -4,19 +4,13 @@ use lib.Bits.{bitOr}
 use borrow.Author.Needs.{needs}
 use Rattle.places.proofs.settle.Statement.{statement}
 use Rattle.places.proofs.settle.Tie as tie
-use Rattle.places.proofs.settle.Reads as reads
-use Rattle.places.proofs.settle.Lts as lts
-use Rattle.places.proofs.masks.chosen.Reads as chosen-reads
 
--- src/lib.rt:35:5
 element-write-follow : tie.Need-element-write-follow
 element-write-follow c = search needs
 
--- src/lib.rt:38:22
 chosen-requires : tie.Need-chosen-requires
 chosen-requires c κs = search needs
 
--- src/lib.rt:31:1
 returns : tie.Need-returns
 returns c = record { side-leaves = refl; side-ends = ap (λ (x : ℕ). bitOr (c .before .args .last) x) (c .chosen .ensures); row-start = refl }
 

@@ -6,40 +6,33 @@ use Rattle.places.proofs.Sides.{settled-rows, tables}
 use borrow.Author.Needs.{needs}
 use Rattle.places.proofs.side_of.Statement.{statement}
 use Rattle.places.proofs.side_of.Tie as tie
-use Rattle.places.proofs.side_of.Reads as reads
-use Rattle.places.proofs.side_of.Lts as lts
-use Rattle.places.proofs.settle.Reads as settle-reads
-use Rattle.places.proofs.stack.push_part.Reads as push-part-reads
 
--- src/lib.rt:52:9
 push-part-requires : tie.Need-push-part-requires
 push-part-requires c κs = search needs
 
--- src/lib.rt:53:20
 array-read-settle : tie.Need-array-read-settle
 array-read-settle c = search needs
 
--- src/lib.rt:53:33
 array-read-settle-2 : tie.Need-array-read-settle-2
 array-read-settle-2 c = search needs
 
--- src/lib.rt:53:43
 array-read-settle-3 : tie.Need-array-read-settle-3
 array-read-settle-3 c = search needs
 
--- src/lib.rt:53:5
 settle-requires : tie.Need-settle-requires
 settle-requires c κs = search needs
 
--- src/lib.rt:43:1
 returns : tie.Need-returns
 returns c = let p = c .before .before .push-part .ensures in
     let e = c .settle .ensures in
     let few = p .few in
-    let n = e .side-leaves in
-    (omega arith,
-    (settled-rows e (p .rows),
-    λ r h. tables e (p .rows .rows-follow) (omega arith) (p .pushed r h [] (bottom refl refl))))
+    let n = e .side-leaves in (
+      omega arith,
+      (
+        settled-rows e (p .rows),
+        λ r h. tables e (p .rows .rows-follow) (omega arith) (p .pushed r h [] (bottom refl refl)),
+      ),
+    )
 
 pub side-of-spec : {M : Type 1} → statement M
 side-of-spec =

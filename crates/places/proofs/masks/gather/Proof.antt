@@ -9,10 +9,6 @@ use Rattle.places.proofs.Filling.{gathered-more}
 use borrow.Author.Needs.{needs}
 use Rattle.places.proofs.masks.gather.Statement.{statement}
 use Rattle.places.proofs.masks.gather.Tie as tie
-use Rattle.places.proofs.masks.gather.Reads as reads
-use Rattle.places.proofs.masks.gather.Lts as lts
-use Rattle.places.proofs.masks.chosen.Reads as chosen-reads
-use Rattle.places.proofs.masks.member.Reads as member-reads
 
 abbrev Inv-loop : tie.InvT-loop
 Inv-loop follow n set found₀ p₀ found p = (p ≤ n) × ((q : ℕ) → has found q ≡ anyBelow p (λ i. has set i && has (getD follow i 0) q))
@@ -20,43 +16,35 @@ Inv-loop follow n set found₀ p₀ found p = (p ≤ n) × ((q : ℕ) → has fo
 abbrev μ-loop : tie.MeasureT-loop
 μ-loop follow n set found₀ p₀ found p = n - p
 
--- src/masks.rt:63:5
 loop-holds : tie.Need-loop-holds Inv-loop μ-loop
 unfolding anyBelow
 loop-holds c = (zero-le, λ q. has-none q)
 
--- src/masks.rt:64:32
 member-requires : tie.Need-member-requires Inv-loop μ-loop
 member-requires c κs = search needs
 
--- src/masks.rt:64:48
 mul-chosen : tie.Need-mul-chosen Inv-loop μ-loop
 mul-chosen c = search needs
 
--- src/masks.rt:64:48
 element-copy-out-chosen : tie.Need-element-copy-out-chosen Inv-loop μ-loop
 element-copy-out-chosen c = search needs
 
--- src/masks.rt:64:25
 chosen-requires : tie.Need-chosen-requires Inv-loop μ-loop
 chosen-requires c κs = search needs
 
--- src/masks.rt:65:9
 add-p : tie.Need-add-p Inv-loop μ-loop
 add-p c = search needs
 
--- src/masks.rt:63:5
 loop-less : tie.Need-loop-less Inv-loop μ-loop
 loop-less c = search needs
 
--- src/masks.rt:63:5
 loop-again : tie.Need-loop-again Inv-loop μ-loop
-loop-again c = let a = c .before .before .before .before .before .args in
-    (omega arith,
-    gathered-more (a .set) (λ i. getD (a .follow .now) i 0) (c .before .before .before .before .loop .p) (c .before .before .before .before .loop .found) (c .before .before .before .before .loop .inv .1)
-    (c .chosen .ensures ∙ ap (λ (x : Bool). cond x (getD (a .follow .now) (c .before .before .before .before .loop .p) 0) 0) (c .before .before .member .ensures)))
+loop-again c = let a = c .before .before .before .before .before .args in (
+  omega arith,
+  gathered-more (a .set) (λ i. getD (a .follow .now) i 0) (c .before .before .before .before .loop .p) (c .before .before .before .before .loop .found) (c .before .before .before .before .loop .inv .1)
+      (c .chosen .ensures ∙ ap (λ (x : Bool). cond x (getD (a .follow .now) (c .before .before .before .before .loop .p) 0) 0) (c .before .before .member .ensures)),
+)
 
--- src/masks.rt:57:1
 returns : tie.Need-returns Inv-loop μ-loop
 returns c = λ q.
     let n : c .before .loop .p ≡ c .before .before .args .n = omega arith in

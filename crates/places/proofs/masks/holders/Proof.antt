@@ -6,11 +6,6 @@ use Rattle.places.proofs.Filling.{Holders, holders-none, holders-more}
 use borrow.Author.Needs.{needs}
 use Rattle.places.proofs.masks.holders.Statement.{statement}
 use Rattle.places.proofs.masks.holders.Tie as tie
-use Rattle.places.proofs.masks.holders.Reads as reads
-use Rattle.places.proofs.masks.holders.Lts as lts
-use Rattle.places.proofs.masks.bit.Reads as bit-reads
-use Rattle.places.proofs.masks.chosen.Reads as chosen-reads
-use Rattle.places.proofs.masks.member.Reads as member-reads
 
 abbrev Inv-loop : tie.InvT-loop
 Inv-loop sets n event found₀ q₀ found q = Holders sets n event found q
@@ -18,44 +13,34 @@ Inv-loop sets n event found₀ q₀ found q = Holders sets n event found q
 abbrev μ-loop : tie.MeasureT-loop
 μ-loop sets n event found₀ q₀ found q = n + 1 - q
 
--- src/masks.rt:77:5
 loop-holds : tie.Need-loop-holds Inv-loop μ-loop
 loop-holds c = holders-none (c .args .sets .now) (c .args .n) (c .args .event)
 
--- src/masks.rt:78:39
 mul-member : tie.Need-mul-member Inv-loop μ-loop
 mul-member c = search needs
 
--- src/masks.rt:78:39
 element-copy-out-member : tie.Need-element-copy-out-member Inv-loop μ-loop
 element-copy-out-member c = search needs
 
--- src/masks.rt:78:32
 member-requires : tie.Need-member-requires Inv-loop μ-loop
 member-requires c κs = search needs
 
--- src/masks.rt:78:56
 bit-requires : tie.Need-bit-requires Inv-loop μ-loop
 bit-requires c κs = search needs
 
--- src/masks.rt:78:25
 chosen-requires : tie.Need-chosen-requires Inv-loop μ-loop
 chosen-requires c κs = search needs
 
--- src/masks.rt:79:9
 add-q : tie.Need-add-q Inv-loop μ-loop
 add-q c = search needs
 
--- src/masks.rt:77:5
 loop-less : tie.Need-loop-less Inv-loop μ-loop
 loop-less c = search needs
 
--- src/masks.rt:77:5
 loop-again : tie.Need-loop-again Inv-loop μ-loop
 loop-again c = holders-more (c .before .before .before .before .before .loop .inv) (c .before .before .before .before .loop-test .taken)
     (c .chosen .ensures ∙ ap₂ (λ (x : Bool) (y : ℕ). cond x y 0) (c .before .before .member .ensures) (c .before .bit .ensures))
 
--- src/masks.rt:71:1
 returns : tie.Need-returns Inv-loop μ-loop
 returns c = λ q h l. c .before .loop .inv .below q h (omega arith)
 

@@ -5,10 +5,6 @@ use Rattle.places.proofs.Filling.{Linking, linking-more, linking-all}
 use borrow.Author.Needs.{needs}
 use Rattle.places.proofs.masks.link.Statement.{statement}
 use Rattle.places.proofs.masks.link.Tie as tie
-use Rattle.places.proofs.masks.link.Reads as reads
-use Rattle.places.proofs.masks.link.Lts as lts
-use Rattle.places.proofs.masks.chosen.Reads as chosen-reads
-use Rattle.places.proofs.masks.member.Reads as member-reads
 
 abbrev Inv-loop : tie.InvT-loop
 Inv-loop lasts firsts follow₀ p₀ follow p = Linking lasts firsts follow₀ follow p
@@ -16,49 +12,38 @@ Inv-loop lasts firsts follow₀ p₀ follow p = Linking lasts firsts follow₀ f
 abbrev μ-loop : tie.MeasureT-loop
 μ-loop lasts firsts follow₀ p₀ follow p = 64 - p
 
--- src/masks.rt:50:5
 loop-holds : tie.Need-loop-holds Inv-loop μ-loop
 loop-holds c = search needs
 
--- src/masks.rt:51:21
 mul-follow : tie.Need-mul-follow Inv-loop μ-loop
 mul-follow c = search needs
 
--- src/masks.rt:51:21
 element-copy-out-follow : tie.Need-element-copy-out-follow Inv-loop μ-loop
 element-copy-out-follow c = search needs
 
--- src/masks.rt:51:40
 member-requires : tie.Need-member-requires Inv-loop μ-loop
 member-requires c κs = search needs
 
--- src/masks.rt:51:33
 chosen-requires : tie.Need-chosen-requires Inv-loop μ-loop
 chosen-requires c κs = search needs
 
--- src/masks.rt:51:9
 mul-follow-2 : tie.Need-mul-follow-2 Inv-loop μ-loop
 mul-follow-2 c = search needs
 
--- src/masks.rt:51:9
 element-write-follow : tie.Need-element-write-follow Inv-loop μ-loop
 element-write-follow c = search needs
 
--- src/masks.rt:52:9
 add-p : tie.Need-add-p Inv-loop μ-loop
 add-p c = search needs
 
--- src/masks.rt:50:5
 loop-less : tie.Need-loop-less Inv-loop μ-loop
 loop-less c = search needs
 
--- src/masks.rt:50:5
 loop-again : tie.Need-loop-again Inv-loop μ-loop
 loop-again c = let a = c .before .before .before .before .before .args in
     linking-more (c .before .before .before .before .loop .inv) (c .before .before .before .loop-test .taken)
     (c .chosen .ensures ∙ ap (λ (x : Bool). cond x (a .firsts) 0) (c .before .member .ensures))
 
--- src/masks.rt:45:1
 returns : tie.Need-returns Inv-loop μ-loop
 returns c = linking-all (c .before .loop .inv) (c .loop-test .left)
 

@@ -2,14 +2,10 @@ use Rattle.bits.proofs.Masks.{has-test}
 use borrow.Author.Needs.{needs}
 use Rattle.places.proofs.masks.member.Statement.{statement}
 use Rattle.places.proofs.masks.member.Tie as tie
-use Rattle.places.proofs.masks.member.Reads as reads
-use Rattle.places.proofs.masks.member.Lts as lts
 
--- src/masks.rt:14:6
 shr-result : tie.Need-shr-result
 shr-result c = search needs
 
--- src/masks.rt:10:1
 returns : tie.Need-returns
 returns c = has-test (c .args .set) (c .args .k)
 

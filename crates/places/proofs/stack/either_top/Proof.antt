@@ -2,83 +2,61 @@ use Rattle.places.proofs.Turns.{room-item, either-top}
 use borrow.Author.Needs.{needs}
 use Rattle.places.proofs.stack.either_top.Statement.{statement}
 use Rattle.places.proofs.stack.either_top.Tie as tie
-use Rattle.places.proofs.stack.either_top.Reads as reads
-use Rattle.places.proofs.stack.either_top.Lts as lts
-use Rattle.places.proofs.masks.one_of.Reads as one-of-reads
 
--- src/stack.rt:88:15
 sub-top : tie.Need-sub-top
 sub-top c = search needs
 
--- src/stack.rt:89:17
 sub-under : tie.Need-sub-under
 sub-under c = search needs
 
--- src/stack.rt:90:20
 mul-first : tie.Need-mul-first
 mul-first c = search needs
 
--- src/stack.rt:90:20
 element-copy-out-first : tie.Need-element-copy-out-first
 element-copy-out-first c = search needs
 
--- src/stack.rt:90:35
 mul-first-2 : tie.Need-mul-first-2
 mul-first-2 c = search needs
 
--- src/stack.rt:90:35
 element-copy-out-first-2 : tie.Need-element-copy-out-first-2
 element-copy-out-first-2 c = search needs
 
--- src/stack.rt:90:5
 mul-first-3 : tie.Need-mul-first-3
 mul-first-3 c = search needs
 
--- src/stack.rt:90:5
 element-write-first : tie.Need-element-write-first
 element-write-first c = search needs
 
--- src/stack.rt:91:19
 mul-last : tie.Need-mul-last
 mul-last c = search needs
 
--- src/stack.rt:91:19
 element-copy-out-last : tie.Need-element-copy-out-last
 element-copy-out-last c = search needs
 
--- src/stack.rt:91:33
 mul-last-2 : tie.Need-mul-last-2
 mul-last-2 c = search needs
 
--- src/stack.rt:91:33
 element-copy-out-last-2 : tie.Need-element-copy-out-last-2
 element-copy-out-last-2 c = search needs
 
--- src/stack.rt:91:5
 mul-last-3 : tie.Need-mul-last-3
 mul-last-3 c = search needs
 
--- src/stack.rt:91:5
 element-write-last : tie.Need-element-write-last
 element-write-last c = search needs
 
--- src/stack.rt:92:30
 element-copy-out-one-of : tie.Need-element-copy-out-one-of
 element-copy-out-one-of c = search needs
 
--- src/stack.rt:92:47
 element-copy-out-one-of-2 : tie.Need-element-copy-out-one-of-2
 element-copy-out-one-of-2 c = search needs
 
--- src/stack.rt:92:23
 one-of-requires : tie.Need-one-of-requires
 one-of-requires c κs = search needs
 
--- src/stack.rt:92:5
 element-write-nullable : tie.Need-element-write-nullable
 element-write-nullable c = search needs
 
--- src/stack.rt:78:1
 returns : tie.Need-returns
 returns c = let h = c .before .before .before .before .before .before .before .pre in (room-item (h .2) _ _ _ _, λ F. either-top (h .2) (h .1) (c .one-of .ensures))
 

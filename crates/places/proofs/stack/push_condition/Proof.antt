@@ -6,15 +6,6 @@ use Rattle.places.proofs.Midway.{Going, going-start, going-leaf, going-
 use borrow.Author.Needs.{needs}
 use Rattle.places.proofs.stack.push_condition.Statement.{statement}
 use Rattle.places.proofs.stack.push_condition.Tie as tie
-use Rattle.places.proofs.stack.push_condition.Reads as reads
-use Rattle.places.proofs.stack.push_condition.Lts as lts
-use Rattle.fields.proofs.byte_at.Reads as byte-at-reads
-use Rattle.fields.proofs.set_at.Reads as set-at-reads
-use Rattle.places.proofs.stack.either_top.Reads as either-top-reads
-use Rattle.places.proofs.stack.join_top.Reads as join-top-reads
-use Rattle.places.proofs.stack.push_empty.Reads as push-empty-reads
-use Rattle.places.proofs.stack.push_leaf.Reads as push-leaf-reads
-use Rattle.places.proofs.stack.star_top.Reads as star-top-reads
 
 abbrev Inv-loop : tie.InvT-loop
 Inv-loop s from floor base nullable₀ first₀ last₀ follow₀ sets₀ depth₀ leaves₀ at₀ n₀ nullable first last follow sets depth leaves at n = Going s from (λ rs. Stacked nullable₀ first₀ last₀ follow₀ sets₀ floor base rs) nullable first last follow sets floor base depth leaves at n
@@ -22,169 +13,129 @@ Inv-loop s from floor base nullable₀ first₀ last₀ follow₀ sets₀ depth�
 abbrev μ-loop : tie.MeasureT-loop
 μ-loop s from floor base nullable₀ first₀ last₀ follow₀ sets₀ depth₀ leaves₀ at₀ n₀ nullable first last follow sets depth leaves at n = 96 - n
 
--- src/stack.rt:132:5
 loop-holds : tie.Need-loop-holds Inv-loop μ-loop
 loop-holds c = let h = c .before .pre in going-start (c .before .args .s .now) (c .before .args .from) (c .before .args .floor) (c .before .args .base) (h .2) (h .3)
 
--- src/stack.rt:133:13
 byte-at-requires : tie.Need-byte-at-requires Inv-loop μ-loop
 byte-at-requires c κs = search needs
 
--- src/stack.rt:134:9
 add-n : tie.Need-add-n Inv-loop μ-loop
 add-n c = search needs
 
--- src/stack.rt:136:16
 add-if2 : tie.Need-add-if2 Inv-loop μ-loop
 add-if2 c = search needs
 
--- src/stack.rt:137:17
 returns : tie.Need-returns Inv-loop μ-loop
 returns c = out-leaf (c .before .before .before .before .loop .inv) (sym (c .before .before .byte-at .ensures) ∙ c .before .if1 .taken) (c .if2 .taken)
 
--- src/stack.rt:139:33
 add-set-at : tie.Need-add-set-at Inv-loop μ-loop
 add-set-at c = let h = byte-inside (c .before .before .before .before .before .before .args .s .now) (c .before .before .before .before .loop .at) 0 (sym (c .before .before .byte-at .ensures) ∙ c .before .if1 .taken) in search needs
 
--- src/stack.rt:139:23
 set-at-requires : tie.Need-set-at-requires Inv-loop μ-loop
 set-at-requires c κs = search needs
 
--- src/stack.rt:139:13
 push-leaf-requires : tie.Need-push-leaf-requires Inv-loop μ-loop
 push-leaf-requires c κs = search needs
 
--- src/stack.rt:140:13
 add-depth : tie.Need-add-depth Inv-loop μ-loop
 add-depth c = search needs
 
--- src/stack.rt:141:13
 add-leaves : tie.Need-add-leaves Inv-loop μ-loop
 add-leaves c = search needs
 
--- src/stack.rt:142:13
 add-at : tie.Need-add-at Inv-loop μ-loop
 add-at c = let h = byte-inside (c .before .before .before .before .before .before .before .before .before .before .before .before .before .args .s .now) (c .before .before .before .before .before .before .before .before .before .before .before .loop .at) 0 (sym (c .before .before .before .before .before .before .before .before .before .byte-at .ensures) ∙ c .before .before .before .before .before .before .before .before .if1 .taken) in search needs
 
--- src/stack.rt:132:5
 loop-less : tie.Need-loop-less Inv-loop μ-loop
 loop-less c = search needs
 
--- src/stack.rt:132:5
 loop-again : tie.Need-loop-again Inv-loop μ-loop
 loop-again c = going-leaf (c .before .before .before .before .before .before .before .before .before .before .before .loop .inv) (sym (c .before .before .before .before .before .before .before .before .before .byte-at .ensures) ∙ c .before .before .before .before .before .before .before .before .if1 .taken) (c .before .before .before .before .before .before .before .if2 .left) (c .before .before .before .before .before .before .set-at .ensures) (c .push-leaf .ensures)
 
--- src/stack.rt:146:13
 push-empty-requires : tie.Need-push-empty-requires Inv-loop μ-loop
 push-empty-requires c κs = search needs
 
--- src/stack.rt:147:13
 add-depth-2 : tie.Need-add-depth-2 Inv-loop μ-loop
 add-depth-2 c = search needs
 
--- src/stack.rt:148:13
 add-at-2 : tie.Need-add-at-2 Inv-loop μ-loop
 add-at-2 c = let h = byte-inside (c .before .before .before .before .before .before .before .before .before .before .args .s .now) (c .before .before .before .before .before .before .before .before .loop .at) 1 (sym (c .before .before .before .before .before .before .byte-at .ensures) ∙ c .before .before .before .before .if3 .taken) in search needs
 
--- src/stack.rt:132:5
 loop-less-2 : tie.Need-loop-less-2 Inv-loop μ-loop
 loop-less-2 c = search needs
 
--- src/stack.rt:132:5
 loop-again-2 : tie.Need-loop-again-2 Inv-loop μ-loop
 loop-again-2 c = let g = c .before .before .before .before .before .before .before .before .loop .inv in
     going-empty g (sym (c .before .before .before .before .before .before .byte-at .ensures) ∙ c .before .before .before .before .if3 .taken) (c .push-empty .ensures _ _ (c .before .before .before .before .before .before .before .before .loop .leaves) (g .rows))
 
--- src/stack.rt:152:24
 add-if5 : tie.Need-add-if5 Inv-loop μ-loop
 add-if5 c = search needs
 
--- src/stack.rt:153:17
 returns-2 : tie.Need-returns-2 Inv-loop μ-loop
 returns-2 c = out-join (c .before .before .before .before .before .before .loop .inv) (sym (c .before .before .before .before .byte-at .ensures) ∙ c .before .if4 .taken) (c .if5 .taken)
 
--- src/stack.rt:155:13
 join-top-requires : tie.Need-join-top-requires Inv-loop μ-loop
 join-top-requires c κs = search needs
 
--- src/stack.rt:156:13
 sub-depth : tie.Need-sub-depth Inv-loop μ-loop
 sub-depth c = search needs
 
--- src/stack.rt:157:13
 add-at-3 : tie.Need-add-at-3 Inv-loop μ-loop
 add-at-3 c = let h = byte-inside (c .before .before .before .before .before .before .before .before .before .before .before .before .before .args .s .now) (c .before .before .before .before .before .before .before .before .before .before .before .loop .at) 2 (sym (c .before .before .before .before .before .before .before .before .before .byte-at .ensures) ∙ c .before .before .before .before .before .before .if4 .taken) in search needs
 
--- src/stack.rt:132:5
 loop-less-3 : tie.Need-loop-less-3 Inv-loop μ-loop
 loop-less-3 c = search needs
 
--- src/stack.rt:132:5
 loop-again-3 : tie.Need-loop-again-3 Inv-loop μ-loop
 loop-again-3 c = let e = c .join-top .ensures in
     going-join (c .before .before .before .before .before .before .before .before .before .before .before .loop .inv) (sym (c .before .before .before .before .before .before .before .before .before .byte-at .ensures) ∙ c .before .before .before .before .before .before .if4 .taken) (c .before .before .before .before .before .before .before .before .before .before .before .before .before .pre .1) (e .0) (e .1 .0) (e .1 .1)
 
--- src/stack.rt:161:24
 add-if7 : tie.Need-add-if7 Inv-loop μ-loop
 add-if7 c = search needs
 
--- src/stack.rt:162:17
 returns-3 : tie.Need-returns-3 Inv-loop μ-loop
 returns-3 c = out-either (c .before .before .before .before .before .before .before .loop .inv) (sym (c .before .before .before .before .before .byte-at .ensures) ∙ c .before .if6 .taken) (c .if7 .taken)
 
--- src/stack.rt:164:13
 either-top-requires : tie.Need-either-top-requires Inv-loop μ-loop
 either-top-requires c κs = search needs
 
--- src/stack.rt:165:13
 sub-depth-2 : tie.Need-sub-depth-2 Inv-loop μ-loop
 sub-depth-2 c = search needs
 
--- src/stack.rt:166:13
 add-at-4 : tie.Need-add-at-4 Inv-loop μ-loop
 add-at-4 c = let h = byte-inside (c .before .before .before .before .before .before .before .before .before .before .before .before .before .args .s .now) (c .before .before .before .before .before .before .before .before .before .before .before .loop .at) 3 (sym (c .before .before .before .before .before .before .before .before .before .byte-at .ensures) ∙ c .before .before .before .before .before .if6 .taken) in search needs
 
--- src/stack.rt:132:5
 loop-less-4 : tie.Need-loop-less-4 Inv-loop μ-loop
 loop-less-4 c = search needs
 
--- src/stack.rt:132:5
 loop-again-4 : tie.Need-loop-again-4 Inv-loop μ-loop
 loop-again-4 c = let e = c .either-top .ensures in
     going-either (c .before .before .before .before .before .before .before .before .before .before .before .loop .inv) (sym (c .before .before .before .before .before .before .before .before .before .byte-at .ensures) ∙ c .before .before .before .before .before .if6 .taken) (c .before .before .before .before .before .before .before .before .before .before .before .before .before .pre .1) (e .0) (e .1 _)
 
--- src/stack.rt:170:24
 add-if9 : tie.Need-add-if9 Inv-loop μ-loop
 add-if9 c = search needs
 
--- src/stack.rt:171:17
 returns-4 : tie.Need-returns-4 Inv-loop μ-loop
 returns-4 c = out-star (c .before .before .before .before .before .before .before .before .loop .inv) (sym (c .before .before .before .before .before .before .byte-at .ensures) ∙ c .before .if8 .taken) (c .if9 .taken)
 
--- src/stack.rt:173:13
 star-top-requires : tie.Need-star-top-requires Inv-loop μ-loop
 star-top-requires c κs = search needs
 
--- src/stack.rt:174:13
 add-at-5 : tie.Need-add-at-5 Inv-loop μ-loop
 add-at-5 c = let h = byte-inside (c .before .before .before .before .before .before .before .before .before .before .before .before .before .before .before .args .s .now) (c .before .before .before .before .before .before .before .before .before .before .before .before .before .loop .at) 4 (sym (c .before .before .before .before .before .before .before .before .before .before .before .byte-at .ensures) ∙ c .before .before .before .before .before .before .if8 .taken) in search needs
 
--- src/stack.rt:132:5
 loop-less-5 : tie.Need-loop-less-5 Inv-loop μ-loop
 loop-less-5 c = search needs
 
--- src/stack.rt:132:5
 loop-again-5 : tie.Need-loop-again-5 Inv-loop μ-loop
 loop-again-5 c = let e = c .star-top .ensures in
     going-star (c .before .before .before .before .before .before .before .before .before .before .before .before .before .loop .inv) (sym (c .before .before .before .before .before .before .before .before .before .before .before .byte-at .ensures) ∙ c .before .before .before .before .before .before .if8 .taken) (c .before .before .before .before .before .before .before .before .before .before .before .before .before .before .before .pre .1) (e .0) (e .1 .0) (e .1 .1)
 
--- src/stack.rt:177:9
 returns-5 : tie.Need-returns-5 Inv-loop μ-loop
 returns-5 c = let k = c .before .before .before .before .before .byte-at .ensures in
     out-end (c .before .before .before .before .before .before .before .loop .inv)
     (λ z. c .before .before .before .before .if1 .left (k ∙ z), λ z. c .before .before .before .if3 .left (k ∙ z), λ z. c .before .before .if4 .left (k ∙ z), λ z. c .before .if6 .left (k ∙ z), λ z. c .if8 .left (k ∙ z))
 
--- src/stack.rt:114:1
 returns-6 : tie.Need-returns-6 Inv-loop μ-loop
 returns-6 c = out-full (c .before .loop .inv) (c .loop-test .left)
 

@@ -6,25 +6,16 @@ use Rattle.places.proofs.Sides.{pushed-as, condition-part, event-part}
 use borrow.Author.Needs.{needs}
 use Rattle.places.proofs.stack.push_part.Statement.{statement}
 use Rattle.places.proofs.stack.push_part.Tie as tie
-use Rattle.places.proofs.stack.push_part.Reads as reads
-use Rattle.places.proofs.stack.push_part.Lts as lts
-use Rattle.places.proofs.masks.bit.Reads as bit-reads
-use Rattle.places.proofs.stack.push_condition.Reads as push-condition-reads
-use Rattle.places.proofs.stack.push_leaf.Reads as push-leaf-reads
 
--- src/stack.rt:198:25
 enum-known-part : tie.Need-enum-known-part
 enum-known-part c = search needs
 
--- src/stack.rt:199:13
 push-condition-requires : tie.Need-push-condition-requires
 push-condition-requires c κs = search needs
 
--- src/stack.rt:201:21
 enum-known-part-2 : tie.Need-enum-known-part-2
 enum-known-part-2 c = search needs
 
--- src/stack.rt:203:17
 returns : tie.Need-returns
 returns c = let h = c .before .before .before .before .before .pre in
     record {
@@ -34,23 +25,18 @@ returns c = let h = c .before .before .before .before .before .pre in
       pushed = λ r p. let l = event-part (c .before .before .before .before .before .args .s .now) (c .before .before .part2 .given .1) r p .1 in absurd (omega arith);
     }
 
--- src/stack.rt:205:23
 bit-requires : tie.Need-bit-requires
 bit-requires c κs = search needs
 
--- src/stack.rt:205:13
 push-leaf-requires : tie.Need-push-leaf-requires
 push-leaf-requires c κs = search needs
 
--- src/stack.rt:206:13
 add-result : tie.Need-add-result
 add-result c = search needs
 
--- src/stack.rt:183:1
 returns-2 : tie.Need-returns-2
 returns-2 c = pushed-as (condition-part (c .before .before .before .before .before .before .before .before .before .before .args .s .now) (c .before .before .before .before .before .before .before .part .given .1)) (c .push-condition .ensures)
 
--- src/stack.rt:183:1
 returns-3 : tie.Need-returns-3
 returns-3 c = pushed-as
     (λ r p. event-part (c .before .before .before .before .before .before .before .before .before .before .before .before .args .s .now) (c .before .before .before .before .before .before .before .before .before .part2 .given .1) r p .0 ∙ ap (λ (x : ℕ). leaf x) (sym (c .before .before .before .before .before .before .bit .ensures)))
