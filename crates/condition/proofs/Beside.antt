@@ -27,7 +27,7 @@ module _ {A : Type 0} (m : ℕ) (f g : ℕ → A) where
       rw (lt-leb (suc (m + k)) m b, beside) (ap g d)
 
 -- a place of the first side, or a leaf of the second
-side : (m k : ℕ) → (k ≤ m) ⊎ ((j : ℕ) × (k ≡ suc (m + j)))
+pub side : (m k : ℕ) → (k ≤ m) ⊎ ((j : ℕ) × (k ≡ suc (m + j)))
 side m k = go (decLe k m)
   where
     go : Dec (k ≤ m) → (k ≤ m) ⊎ ((j : ℕ) × (k ≡ suc (m + j)))
@@ -44,7 +44,7 @@ beside-out m f g k t =
 
 -- Followers are leaves --------------------------------------------------------------------------------------------------
 
-abbrev IsLeaf : Condition → ℕ → Type 0
+abbrev pub IsLeaf : Condition → ℕ → Type 0
 IsLeaf r k = (0 < k) × (k ≤ leaves r)
 
 module _ (a b : Condition) where
@@ -68,7 +68,7 @@ module _ (a b : Condition) where
       (λ h. beside-leaf (λ j. false) (λ j. g (suc (h .0)) j) (λ j k. absurd k) (r (suc (h .0))) q (h .2))
       (beside-out (leaves a) _ _ p t)
 
-first-leaf : (r : Condition) (k : ℕ) → T (first r k) → IsLeaf r k
+pub first-leaf : (r : Condition) (k : ℕ) → T (first r k) → IsLeaf r k
 unfolding first leaves
 first-leaf (leaf s) k t = let e = eqb→eq k 1 t in omega arith
 first-leaf empty k t = absurd t
@@ -78,7 +78,16 @@ first-leaf (join a b) k t =
 first-leaf (either a b) k t = beside-leaf a b (λ i. first a i) (λ i. first b i) (first-leaf a) (first-leaf b) k t
 first-leaf (star a) k t = first-leaf a k t
 
-follow-leaf : (r : Condition) (p q : ℕ) → T (follow r p q) → IsLeaf r q
+pub last-leaf : (r : Condition) (k : ℕ) → T (last r k) → IsLeaf r k
+unfolding last leaves
+last-leaf (leaf s) k t = let e = eqb→eq k 1 t in omega arith
+last-leaf empty k t = absurd t
+last-leaf (join a b) k t =
+    beside-leaf a b (λ i. last a i && nullable b) (λ i. last b i) (λ j h. last-leaf a j (and-out (last a j) (nullable b) h .0)) (last-leaf b) k t
+last-leaf (either a b) k t = beside-leaf a b (λ i. last a i) (λ i. last b i) (last-leaf a) (last-leaf b) k t
+last-leaf (star a) k t = last-leaf a k t
+
+pub follow-leaf : (r : Condition) (p q : ℕ) → T (follow r p q) → IsLeaf r q
 unfolding follow leaves
 follow-leaf (leaf s) p q t = absurd t
 follow-leaf empty p q t = absurd t

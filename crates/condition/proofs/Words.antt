@@ -108,7 +108,7 @@ module _ (r : Condition) where
 
 -- The word test ---------------------------------------------------------------------------------------------------------
 
-accepts-is : (r : Condition) (w : Word) → accepts r w ≡ someEnds r (stepAll r 1 w)
+pub accepts-is : (r : Condition) (w : Word) → accepts r w ≡ someEnds r (stepAll r 1 w)
 unfolding accepts
 accepts-is r w = refl
 

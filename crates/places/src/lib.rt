@@ -1,4 +1,20 @@
 // The places of a condition, or of two joined, as tables: from the postfix records in the sheet's bytes.
+ghost use mathlib.Core.Path.{_≡_};
+ghost use Prim.Native.Nat.{ℕ, _<_, _≤_};
+ghost use lib.ListN.{length, getD};
+ghost use Rattle.condition.specs.Condition.{Condition, join};
+ghost use Rattle.condition.specs.Places.{accepts};
+ghost use Rattle.places.specs.Tables.{Tables, StandsAt, PartIs};
+ghost use Rattle.places.specs.Machine.{Rows, Settled};
+use fields::index;
+use masks::chosen;
+use masks::fill_holding;
+use masks::gather;
+use stack::join_top;
+use stack::push_part;
+
+pub mod masks; // masks.rt: sets of places and of events as words
+pub mod stack; // stack.rt: the stack by which a postfix form is read
 
 // A side's places besides its tables: how many leaves it has, and the set of places that end a word.
 pub struct Side {
@@ -10,4 +26,80 @@ pub struct Side {
 pub enum Part {
     Condition(usize),
     Event(usize),
+}
+
+// Place 0 is folded in: its followers are the first leaves, and it ends a word where the side is nullable.
+fn settle(leaves: usize, nullable: bool, first: u64, last: u64, follow: &mut [u64; 64]) -> Side
+    requires { ⌜ length (now follow) ≡ 64 ⌝ }
+    ensures { λ r. ⌜ Settled leaves nullable first last r (now (follow .entry)) (now (follow .exit)) ⌝ }
+{
+    follow[0] = first;
+    Side {
+        leaves,
+        ends: last | chosen(nullable, 1),
+    }
+}
+
+// The side of one part.
+pub fn side_of(s: &[u8], part: Part, follow: &mut [u64; 64], sets: &mut [u64; 64]) -> Side
+    requires { ⌜ Rows (now follow) (now sets) ⌝ }
+    ensures few { λ side. ⌜ side .leaves ≤ 62 ⌝ }
+    ensures rows { λ _. ⌜ Rows (now (follow .exit)) (now (sets .exit)) ⌝ }
+    ensures tables { λ side. ⌜ ((r : Condition) → PartIs (now (s .entry)) part r →
+        Tables r side (now (follow .exit)) (now (sets .exit))) ⌝ }
+{
+    let mut nulls: [bool; 97] = [false; 97];
+    let mut first: [u64; 97] = [0; 97];
+    let mut last: [u64; 97] = [0; 97];
+    let leaves = push_part(
+        s,
+        part,
+        0,
+        0,
+        &mut nulls,
+        &mut first,
+        &mut last,
+        follow,
+        sets,
+    );
+    settle(leaves, nulls[0], first[0], last[0], follow)
+}
+
+// The side of two parts, one after the other.
+pub fn joined_side(s: &[u8], a: Part, b: Part, follow: &mut [u64; 64], sets: &mut [u64; 64]) -> Side
+    requires { ⌜ Rows (now follow) (now sets) ⌝ }
+    ensures few { λ side. ⌜ side .leaves ≤ 62 ⌝ }
+    ensures rows { λ _. ⌜ Rows (now (follow .exit)) (now (sets .exit)) ⌝ }
+    ensures tables { λ side. ⌜ ((r t : Condition) → PartIs (now (s .entry)) a r → PartIs (now (s .entry)) b t →
+        Tables (join r t) side (now (follow .exit)) (now (sets .exit))) ⌝ }
+{
+    let mut nulls: [bool; 97] = [false; 97];
+    let mut first: [u64; 97] = [0; 97];
+    let mut last: [u64; 97] = [0; 97];
+    let m = push_part(s, a, 0, 0, &mut nulls, &mut first, &mut last, follow, sets);
+    let n = push_part(s, b, 1, m, &mut nulls, &mut first, &mut last, follow, sets);
+    join_top(2, &mut nulls, &mut first, &mut last, follow);
+    settle(n, nulls[0], first[0], last[0], follow)
+}
+
+// The condition at an offset holds the word: the places after each event are the followers of those before that hold it.
+pub fn holds_word(s: &[u8], at: usize, events: usize, word: &[u8]) -> bool
+    requires { ⌜ (events ≤ 64) × ((i : ℕ) → i < length (now word) → getD (now word) i 0 < events) ⌝ }
+    ensures { λ b. ⌜ ((r : Condition) → StandsAt (now (s .entry)) at r → b ≡ accepts r (now (word .entry))) ⌝ }
+{
+    let mut follow: [u64; 64] = [0; 64];
+    let mut sets: [u64; 64] = [0; 64];
+    let mut holding: [u64; 64] = [0; 64];
+    let side = side_of(s, Part::Condition(at), &mut follow, &mut sets);
+    let leaves = side.leaves;
+    let ends = side.ends;
+    fill_holding(&sets, leaves, events, &mut holding);
+    let mut places: u64 = 1;
+    let mut i: usize = 0;
+    while i < word.len() {
+        let e = index(word[i]);
+        places = gather(&follow, leaves + 1, places) & holding[e];
+        i += 1;
+    }
+    places & ends != 0
 }

@@ -1,0 +1,133 @@
+-- The loops over sets and rows, one turn at a time.
+use mathlib.Core.Path.{_≡_, refl, sym, ap, ap₂, _∙_}
+use mathlib.Core.Bool.{Bool, true, false, cond, _&&_, _||_, or-false, and-false}
+use mathlib.Core.Logic.{_⊎_, inl, inr}
+use mathlib.Core.List.{List}
+use Prim.Native.Nat.{ℕ, suc, _+_, _*_, _%_, _^_, _≤_, _<_, zero-le}
+use native.Mathlib.Omega.{arith}
+use native.Mathlib.Nat.{one-mul, eq-or-lt-of-le, le-of-suc-le-suc}
+use native.Mathlib.Numerals.{add-one}
+use lib.ListN.{length, getD, set, length-set}
+use lib.Seq.{getD-set-same, getD-set-other}
+use lib.Dec.{eqb}
+use lib.Bits.{bitOr}
+use lib.Pow.{shl-exact}
+use borrow.Author.Tests.{eq-eqb, ne-eqb}
+use Rattle.bits.specs.Bits.{has, anyBelow}
+use Rattle.bits.proofs.Sets.{has-none}
+use Rattle.bits.proofs.Masks.{has-or, has-cond, has-one}
+use Rattle.places.specs.Machine.{Linked, Holding}
+
+pub one-shifted : (k : ℕ) → k < 64 → 1 * 2 ^ k % 2 ^ 64 ≡ 2 ^ k
+one-shifted k h = shl-exact 1 k 64 (omega arith) (omega arith) ∙ one-mul (2 ^ k)
+
+-- the numbers below p + 1: those below p, and p
+below-next : {k p : ℕ} → k < p + 1 → (k ≡ p) ⊎ (k < p)
+below-next {k} {p} h = eq-or-lt-of-le (le-of-suc-le-suc (rw (add-one p) at h))
+
+-- Linking: the rows below p are linked ----------------------------------------------------------------------------------
+
+pub record Linking (lasts firsts : ℕ) (F₀ F : List ℕ) (p : ℕ) : Type 0 where
+  pub bound : p ≤ 64
+  pub long : length F ≡ 64
+  pub done : (k : ℕ) → k < p → getD F k 0 ≡ bitOr (getD F₀ k 0) (cond (has lasts k) firsts 0)
+  pub rest : (k : ℕ) → p ≤ k → getD F k 0 ≡ getD F₀ k 0
+
+module _ {lasts firsts : ℕ} {F₀ F : List ℕ} {p : ℕ} (l : Linking lasts firsts F₀ F p) where
+  pub linking-more : {more : ℕ} → p < 64 → more ≡ cond (has lasts p) firsts 0
+      → Linking lasts firsts F₀ (set F p (bitOr (getD F p 0) more)) (p + 1)
+  linking-more {more} h e =
+      record {
+        bound = omega arith;
+        long = length-set F p row ∙ l .long;
+        done = λ k m. at k (below-next m);
+        rest = λ k m. getD-set-other F p k row 0 (λ (z : k ≡ p). omega arith) ∙ l .rest k (omega arith);
+      }
+    where
+      row : ℕ
+      row = bitOr (getD F p 0) more
+
+      at : (k : ℕ) → (k ≡ p) ⊎ (k < p) → getD (set F p row) k 0 ≡ bitOr (getD F₀ k 0) (cond (has lasts k) firsts 0)
+      at k (inl z) =
+          let y = l .long in
+          rw z (getD-set-same F p row 0 (omega arith) ∙ ap₂ (λ (u v : ℕ). bitOr u v) (l .rest p (omega arith)) e)
+      at k (inr z) = getD-set-other F p k row 0 (λ (y : k ≡ p). omega arith) ∙ l .done k z
+
+  pub linking-all : 64 ≤ p → Linked lasts firsts F₀ F
+  linking-all h = record { linked-rows = l .long; linked-is = λ k m. l .done k (omega arith) }
+
+-- Gathering: the union of the rows f p of the places below p -------------------------------------------------------------
+
+pub gathered-more : (set : ℕ) (f : ℕ → ℕ) (p found : ℕ) → ((q : ℕ) → has found q ≡ anyBelow p (λ i. has set i && has (f i) q)) → {more : ℕ}
+    → more ≡ cond (has set p) (f p) 0 → (q : ℕ) → has (bitOr found more) q ≡ anyBelow (p + 1) (λ i. has set i && has (f i) q)
+unfolding anyBelow
+gathered-more set f p found h {more} e q =
+    rw (add-one p)
+    (has-or found more q ∙ ap₂ (λ (x y : Bool). x || y) (h q) (ap (λ (x : ℕ). has x q) e ∙ has-cond (has set p) (f p) q))
+
+-- Holders: the leaves below q whose set has the event e ------------------------------------------------------------------
+
+pub record Holders (S : List ℕ) (n e found q : ℕ) : Type 0 where
+  pub low : 1 ≤ q
+  pub high : q ≤ n + 1
+  pub below : (k : ℕ) → 0 < k → k < q → has found k ≡ has (getD S k 0) e
+  pub above : (k : ℕ) → q ≤ k → has found k ≡ false
+
+pub holders-none : (S : List ℕ) (n e : ℕ) → Holders S n e 0 1
+holders-none S n e = record { low = omega arith; high = omega arith; below = λ k h l. absurd (omega arith); above = λ k h. has-none k }
+
+module _ {S : List ℕ} {n e found q : ℕ} (h : Holders S n e found q) where
+  pub holders-more : {more : ℕ} → q ≤ n → more ≡ cond (has (getD S q 0) e) (2 ^ q) 0 → Holders S n e (bitOr found more) (q + 1)
+  holders-more {more} l z =
+      let g = h .low in
+      record {
+        low = omega arith;
+        high = omega arith;
+        below = λ k a b. at k a (below-next b);
+        above = λ k a.
+            bits k ∙ ap₂ (λ (u v : Bool). u || (held && v)) (h .above k (omega arith)) (ne-eqb k q (λ (y : k ≡ q). omega arith)) ∙ and-false held;
+      }
+    where
+      held : Bool
+      held = has (getD S q 0) e
+
+      bits : (k : ℕ) → has (bitOr found more) k ≡ (has found k || (held && eqb k q))
+      bits k =
+          has-or found more k
+          ∙ ap (λ (v : Bool). has found k || v)
+          (ap (λ (v : ℕ). has v k) z ∙ has-cond held (2 ^ q) k ∙ ap (λ (v : Bool). held && v) (has-one q k))
+
+      and-true : (b : Bool) → (b && true) ≡ b
+      and-true true = refl
+      and-true false = refl
+
+      at : (k : ℕ) → 0 < k → (k ≡ q) ⊎ (k < q) → has (bitOr found more) k ≡ has (getD S k 0) e
+      at k a (inl y) =
+          bits k
+          ∙ ap₂ (λ (u v : Bool). u || (held && v)) (h .above k (omega arith)) (eq-eqb k q y)
+          ∙ and-true held
+          ∙ ap (λ (i : ℕ). has (getD S i 0) e) (sym y)
+      at k a (inr y) =
+          bits k
+          ∙ ap₂ (λ (u v : Bool). u || (held && v)) (h .below k a y) (ne-eqb k q (λ (i : k ≡ q). omega arith))
+          ∙ ap (λ (v : Bool). has (getD S k 0) e || v) (and-false held)
+          ∙ or-false _
+
+-- The table of holders, by event ----------------------------------------------------------------------------------------
+
+pub holding-none : (S : List ℕ) (n : ℕ) (H : List ℕ) → length H ≡ 64 → Holding S n 0 H
+holding-none S n H h = record { holding-rows = h; holding-is = λ e q l. absurd (omega arith) }
+
+pub holding-more : {S : List ℕ} {n e : ℕ} {H : List ℕ} (x : ℕ) → Holding S n e H → e < 64
+    → ((q : ℕ) → 0 < q → q ≤ n → has x q ≡ has (getD S q 0) e) → Holding S n (e + 1) (set H e x)
+holding-more {S} {n} {e} {H} x h l f =
+    record {
+      holding-rows = length-set H e x ∙ h .holding-rows;
+      holding-is = λ i q a b c. at i q b c (below-next a);
+    }
+  where
+    at : (i q : ℕ) → 0 < q → q ≤ n → (i ≡ e) ⊎ (i < e) → has (getD (set H e x) i 0) q ≡ has (getD S q 0) i
+    at i q b c (inl y) =
+        let g = h .holding-rows in
+        rw y (ap (λ (v : ℕ). has v q) (getD-set-same H e x 0 (omega arith)) ∙ f q b c)
+    at i q b c (inr y) = ap (λ (v : ℕ). has v q) (getD-set-other H e i x 0 (λ (z : i ≡ e). omega arith)) ∙ h .holding-is i q y b c

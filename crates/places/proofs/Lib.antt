@@ -1,0 +1,7 @@
+pub mod Behind
+pub mod Items
+pub mod Filling
+pub mod Turns
+pub mod Reading
+pub mod Midway
+pub mod Sides

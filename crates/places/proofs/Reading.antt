@@ -1,0 +1,152 @@
+-- Reading a condition from its records: the items so far, and the symbols to come.
+use mathlib.Core.Path.{_≡_, refl, sym, ap, _∙_, subst}
+use mathlib.Core.Bool.{Bool, true, false}
+use mathlib.Core.Option.{Option, none, some}
+use mathlib.Core.List.{List, [], _∷_, _++_, append-assoc, append-nil}
+use Prim.Native.Nat.{ℕ, zero, suc, _+_, _-_, _≤_, _<_, zero-le}
+use native.Mathlib.Omega.{arith}
+use lib.ListN.{length, getD, List·getD-eq-default}
+use lib.Dec.{leb}
+use borrow.Author.Tests.{leb-true, leb-false}
+use Rattle.condition.specs.Condition.{Condition, leaf, empty, join, either, star}
+use Rattle.condition.specs.Places.{leaves}
+use Rattle.sheet.specs.Each.{Each, nil, cons}
+use Rattle.sheet.proofs.Each.{each-getD}
+use Rattle.sheet.specs.Record.{Symbol, leaf-symbol, empty-symbol, join-symbol, either-symbol, star-symbol, Record, byteAt, setAt, bodyLength, nextAt, recordAt, recordsByKind}
+use Rattle.sheet.specs.Decode.{symbolIn, symbolsOn, symbolsAt, postfix}
+use Rattle.places.specs.Tables.{StandsAt}
+use Rattle.places.specs.Machine.{Stacked, Roomy, Rows, Pushed, Starred, Merged}
+
+-- The records of symbols ------------------------------------------------------------------------------------------------
+
+module _ (s : List ℕ) (at : ℕ) where
+  pub leaf-here : byteAt s at ≡ 1 → symbolIn (recordAt s at) ≡ some (leaf-symbol (setAt s (at + 1)))
+  unfolding recordAt
+  leaf-here k = simp k
+
+  pub empty-here : byteAt s at ≡ 2 → symbolIn (recordAt s at) ≡ some empty-symbol
+  unfolding recordAt
+  empty-here k = simp k
+
+  pub join-here : byteAt s at ≡ 3 → symbolIn (recordAt s at) ≡ some join-symbol
+  unfolding recordAt
+  join-here k = simp k
+
+  pub either-here : byteAt s at ≡ 4 → symbolIn (recordAt s at) ≡ some either-symbol
+  unfolding recordAt
+  either-here k = simp k
+
+  pub star-here : byteAt s at ≡ 5 → symbolIn (recordAt s at) ≡ some star-symbol
+  unfolding recordAt
+  star-here k = simp k
+
+  -- a record of another kind is no symbol
+  abbrev pub Other : ℕ → Type 0
+  Other k = (k ≡ 1 → ⊥) × (k ≡ 2 → ⊥) × (k ≡ 3 → ⊥) × (k ≡ 4 → ⊥) × (k ≡ 5 → ⊥)
+
+  other-kind : (k : ℕ) → Other k → symbolIn (getD (recordsByKind s at) k none) ≡ none
+  other-kind zero h = refl
+  other-kind (suc zero) h = absurd (h .0 refl)
+  other-kind (suc (suc zero)) h = absurd (h .1 refl)
+  other-kind (suc (suc (suc zero))) h = absurd (h .2 refl)
+  other-kind (suc (suc (suc (suc zero)))) h = absurd (h .3 refl)
+  other-kind (suc (suc (suc (suc (suc zero))))) h = absurd (h .4 refl)
+  other-kind (suc (suc (suc (suc (suc (suc k)))))) h =
+      each-getD (λ x. symbolIn x ≡ none)
+      (cons refl (cons refl (cons refl (cons refl (cons refl (cons refl (cons refl (cons refl (cons refl nil)))))))))
+      none
+      refl
+      k
+
+  pub no-symbol : Other (byteAt s at) → (fuel : ℕ) → symbolsOn s fuel at ≡ []
+  unfolding symbolsOn recordAt
+  no-symbol h zero = refl
+  no-symbol h (suc fuel) = rw (other-kind (byteAt s at) h)
+
+  pub next-is : (k : ℕ) → byteAt s at ≡ k → nextAt s at ≡ at + 1 + bodyLength k
+  unfolding nextAt
+  next-is k e = ap (λ (x : ℕ). at + 1 + bodyLength x) e
+
+  pub next-above : at < nextAt s at
+  unfolding nextAt
+  next-above = omega arith
+
+  -- a byte that is not 0 stands in the sheet
+  pub byte-inside : (k : ℕ) → byteAt s at ≡ suc k → at < length s
+  unfolding byteAt
+  byte-inside k e = go (leb (length s) at) refl
+    where
+      go : (b : Bool) → leb (length s) at ≡ b → at < length s
+      go true h = let z = List·getD-eq-default s 0 {n = at} (leb-true (length s) at h) in absurd (omega arith)
+      go false h = leb-false (length s) at h
+
+-- Reducing a postfix form -----------------------------------------------------------------------------------------------
+
+-- the symbols, from the items on, leave the one item r
+pub data Reduces : List Symbol → List Condition → Condition → Type 0 where
+  done : {r : Condition} → Reduces [] (r ∷ []) r
+  leaf-first : {x : ℕ} {ys : List Symbol} {rs : List Condition} {r : Condition} → Reduces ys (leaf x ∷ rs) r → Reduces (leaf-symbol x ∷ ys) rs r
+  empty-first : {ys : List Symbol} {rs : List Condition} {r : Condition} → Reduces ys (empty ∷ rs) r → Reduces (empty-symbol ∷ ys) rs r
+  join-first : {a b : Condition} {ys : List Symbol} {rs : List Condition} {r : Condition}
+      → Reduces ys (join a b ∷ rs) r → Reduces (join-symbol ∷ ys) (b ∷ a ∷ rs) r
+  either-first : {a b : Condition} {ys : List Symbol} {rs : List Condition} {r : Condition}
+      → Reduces ys (either a b ∷ rs) r → Reduces (either-symbol ∷ ys) (b ∷ a ∷ rs) r
+  star-first : {a : Condition} {ys : List Symbol} {rs : List Condition} {r : Condition} → Reduces ys (star a ∷ rs) r → Reduces (star-symbol ∷ ys) (a ∷ rs) r
+
+-- the postfix form of q adds the item q
+reduces-form : (q : Condition) {ys : List Symbol} {rs : List Condition} {r : Condition} → Reduces ys (q ∷ rs) r → Reduces (postfix q ++ ys) rs r
+unfolding postfix
+reduces-form (leaf x) h = leaf-first h
+reduces-form empty h = empty-first h
+reduces-form (join a b) h = simp append-assoc (reduces-form a (reduces-form b (join-first h)))
+reduces-form (either a b) h = simp append-assoc (reduces-form a (reduces-form b (either-first h)))
+reduces-form (star a) h = simp append-assoc (reduces-form a (star-first h))
+
+pub reduces-postfix : (r : Condition) → Reduces (postfix r) [] r
+reduces-postfix r = subst (λ (ys : List Symbol). Reduces ys [] r) (append-nil (postfix r)) (reduces-form r done)
+
+-- the leaves of the items
+abbrev pub total : List Condition → ℕ
+total [] = 0
+total (r ∷ rs) = total rs + leaves r
+
+pub reduces-leaves : {ys : List Symbol} {rs : List Condition} {r : Condition} → Reduces ys rs r → total rs ≤ leaves r
+unfolding leaves
+reduces-leaves done = omega arith
+reduces-leaves (leaf-first h) = let l = reduces-leaves h in omega arith
+reduces-leaves (empty-first h) = let l = reduces-leaves h in omega arith
+reduces-leaves (join-first h) = let l = reduces-leaves h in omega arith
+reduces-leaves (either-first h) = let l = reduces-leaves h in omega arith
+reduces-leaves (star-first h) = let l = reduces-leaves h in omega arith
+
+-- the items that a first symbol takes
+pub record TakesOne (op : Condition → Condition) (ys : List Symbol) (items : List Condition) (r : Condition) : Type 0 where
+  pub a : Condition
+  pub under : List Condition
+  pub items-are : items ≡ a ∷ under
+  pub reduced : Reduces ys (op a ∷ under) r
+
+pub record TakesTwo (op : Condition → Condition → Condition) (ys : List Symbol) (items : List Condition) (r : Condition) : Type 0 where
+  pub a : Condition
+  pub b : Condition
+  pub under : List Condition
+  pub items-are : items ≡ b ∷ a ∷ under
+  pub reduced : Reduces ys (op a b ∷ under) r
+
+pub leaf-taken : {x : ℕ} {ys : List Symbol} {items : List Condition} {r : Condition} → Reduces (leaf-symbol x ∷ ys) items r → Reduces ys (leaf x ∷ items) r
+leaf-taken (leaf-first h) = h
+
+pub empty-taken : {ys : List Symbol} {items : List Condition} {r : Condition} → Reduces (empty-symbol ∷ ys) items r → Reduces ys (empty ∷ items) r
+empty-taken (empty-first h) = h
+
+pub join-taken : {ys : List Symbol} {items : List Condition} {r : Condition} → Reduces (join-symbol ∷ ys) items r → TakesTwo (λ a b. join a b) ys items r
+join-taken (join-first {a = a} {b = b} {rs = rs} h) = record { a = a; b = b; under = rs; items-are = refl; reduced = h }
+
+pub either-taken : {ys : List Symbol} {items : List Condition} {r : Condition} → Reduces (either-symbol ∷ ys) items r → TakesTwo (λ a b. either a b) ys items r
+either-taken (either-first {a = a} {b = b} {rs = rs} h) = record { a = a; b = b; under = rs; items-are = refl; reduced = h }
+
+pub star-taken : {ys : List Symbol} {items : List Condition} {r : Condition} → Reduces (star-symbol ∷ ys) items r → TakesOne (λ a. star a) ys items r
+star-taken (star-first {a = a} {rs = rs} h) = record { a = a; under = rs; items-are = refl; reduced = h }
+
+pub done-taken : {items : List Condition} {r : Condition} → Reduces [] items r → items ≡ r ∷ []
+done-taken done = refl

@@ -1,0 +1,157 @@
+-- From the stack to the tables of a side, and from these to stepping a word.
+use mathlib.Core.Path.{_≡_, refl, sym, ap, ap₂, _∙_, subst}
+use mathlib.Core.Bool.{Bool, true, false, cond, not, _&&_, _||_, or-false, and-false}
+use mathlib.Core.List.{List, [], _∷_}
+use Prim.Native.Nat.{ℕ, zero, suc, _+_, _^_, _≤_, _<_, zero-le}
+use native.Mathlib.Omega.{arith}
+use native.Mathlib.Nat.{le-of-suc-le-suc}
+use native.Mathlib.Numerals.{add-one}
+use lib.ListN.{length, getD, set, take, length-set}
+use lib.Seq.{getD-set-same, getD-set-other, take-all}
+use lib.Dec.{T, eqb}
+use lib.Bits.{bitAnd, bitOr}
+use Rattle.bits.specs.Bits.{has, anyBelow}
+use Rattle.bits.proofs.Tests.{T-true, any-cong}
+use Rattle.bits.proofs.Sets.{start-has, has-start}
+use Rattle.bits.proofs.Masks.{has-or, has-cond}
+use Rattle.condition.specs.Condition.{Condition, leaf}
+use Rattle.condition.specs.Places.{leaves, places, leafSet, leafHolds, nullable, first, last, follow, follows, ends, step, stepAll, someEnds, accepts}
+use Rattle.condition.proofs.Beside.{first-leaf, last-leaf, follow-leaf}
+use Rattle.condition.proofs.Words.{accepts-is}
+use Rattle.condition.proofs.Steps.{step-mask, ends-mask, stepAll-take}
+use Rattle.places.specs.declared.Side.{Side}
+use Rattle.places.specs.declared.Part.{Part}
+use Rattle.places.specs.declared.Part.the-variants.{Condition as ConditionAt, Event}
+use Rattle.places.specs.Tables.{Tables, StandsAt, PartIs}
+use Rattle.places.specs.Machine.{ItemIs, RowsAre, Stacked, bottom, above, Rows, Pushed, Settled, Holding}
+use Rattle.places.proofs.Behind.{fails, behind-zero}
+
+-- Parts -----------------------------------------------------------------------------------------------------------------
+
+pub pushed-as : {Is Is′ : Condition → Type 0} {N : List Bool} {A L F S : List ℕ} {N′ : List Bool} {A′ L′ F′ S′ : List ℕ} {d m m′ : ℕ}
+    → ((r : Condition) → Is′ r → Is r) → Pushed Is N A L F S N′ A′ L′ F′ S′ d m m′ → Pushed Is′ N A L F S N′ A′ L′ F′ S′ d m m′
+pushed-as f p = record { few = p .few; room = p .room; rows = p .rows; pushed = λ r h. p .pushed r (f r h) }
+
+pub condition-part : (s : List ℕ) {part : Part} {at : ℕ} → part ≡ ConditionAt at → (r : Condition) → PartIs s part r → StandsAt s at r
+condition-part s e r h = rw e at h
+
+pub event-part : (s : List ℕ) {part : Part} {e : ℕ} → part ≡ Event e → (r : Condition) → PartIs s part r → (r ≡ leaf (2 ^ e)) × (e < 64)
+event-part s e r h = rw e at h
+
+-- Tables ----------------------------------------------------------------------------------------------------------------
+
+first-zero : (r : Condition) → first r 0 ≡ false
+first-zero r = fails (first r 0) (λ t. let i = first-leaf r 0 t in absurd (omega arith))
+
+last-zero : (r : Condition) → last r 0 ≡ false
+last-zero r = fails (last r 0) (λ t. let i = last-leaf r 0 t in absurd (omega arith))
+
+follow-zero : (r : Condition) (p : ℕ) → follow r p 0 ≡ false
+follow-zero r p = fails (follow r p 0) (λ t. let i = follow-leaf r p 0 t in absurd (omega arith))
+
+module _ {r : Condition} {nulls : Bool} {firsts lasts : ℕ} (i : ItemIs r 0 nulls firsts lasts) where
+  ends-are : (p : ℕ) → has (bitOr lasts (cond nulls 1 0)) p ≡ ends r p
+  unfolding ends
+  ends-are zero =
+      has-or lasts (cond nulls 1 0) 0
+      ∙ ap₂ (λ (u v : Bool). u || v) (i .last-is 0 ∙ behind-zero (λ k. last r k) (last-zero r) 0 ∙ last-zero r)
+      (has-cond nulls 1 0 ∙ ap₂ (λ (u v : Bool). u && v) (i .null-is) (T-true (has 1 0) start-has) ∙ and-true (nullable r))
+    where
+      and-true : (b : Bool) → (b && true) ≡ b
+      and-true true = refl
+      and-true false = refl
+  ends-are (suc p) =
+      has-or lasts (cond nulls 1 0) (suc p)
+      ∙ ap₂ (λ (u v : Bool). u || v) (i .last-is (suc p) ∙ behind-zero (λ k. last r k) (last-zero r) (suc p))
+      (has-cond nulls 1 (suc p)
+      ∙ ap (λ (v : Bool). nulls && v) (fails (has 1 (suc p)) (λ h. let z = has-start (suc p) h in absurd (omega arith)))
+      ∙ and-false nulls)
+      ∙ or-false (last r (suc p))
+
+  follows-are : {F S : List ℕ} → RowsAre r 0 F S → length F ≡ 64 → (p q : ℕ) → p ≤ leaves r → has (getD (set F 0 firsts) p 0) q ≡ follows r p q
+  unfolding follows
+  follows-are {F} {S} w l zero q h =
+      ap (λ (x : ℕ). has x q) (getD-set-same F 0 firsts 0 (omega arith)) ∙ i .first-is q ∙ behind-zero (λ k. first r k) (first-zero r) q
+  follows-are {F} {S} w l (suc j) q h =
+      let z : suc j ≡ suc (0 + j) = omega arith in
+      ap (λ (x : ℕ). has x q) (getD-set-other F 0 (suc j) firsts 0 (λ (e : suc j ≡ 0). omega arith))
+      ∙ ap (λ (x : ℕ). has (getD F x 0) q) z
+      ∙ w .follow-is j q h
+      ∙ behind-zero (λ k. follow r (suc j) k) (follow-zero r (suc j)) q
+
+sets-are : {r : Condition} {F S : List ℕ} → RowsAre r 0 F S → (q : ℕ) → 0 < q → q ≤ leaves r → getD S q 0 ≡ leafSet r q
+sets-are w zero a b = absurd (omega arith)
+sets-are {r} {F} {S} w (suc j) a b = let z : suc j ≡ suc (0 + j) = omega arith in ap (λ (x : ℕ). getD S x 0) z ∙ w .sets-is j b
+
+-- the only item of the stack
+record Alone (N : List Bool) (A L F S : List ℕ) (m : ℕ) (r : Condition) : Type 0 where
+  count : m ≡ leaves r
+  item : ItemIs r 0 (getD N 0 false) (getD A 0 0) (getD L 0 0)
+  rows : RowsAre r 0 F S
+
+alone : {N : List Bool} {A L F S : List ℕ} {m : ℕ} {r : Condition} → Stacked N A L F S 1 m (r ∷ []) → Alone N A L F S m r
+alone {N} {A} {L} {F} {S} {m} {r} (above {d = d₀} {m = m₀} t x y i w) = go t
+  where
+    go : Stacked N A L F S d₀ m₀ [] → Alone N A L F S m r
+    go (bottom a b) = record {
+      count = omega arith;
+      item = subst (λ (k : ℕ). ItemIs r k (getD N 0 false) (getD A 0 0) (getD L 0 0)) b
+          (subst (λ (k : ℕ). ItemIs r m₀ (getD N k false) (getD A k 0) (getD L k 0)) a i);
+      rows = subst (λ (k : ℕ). RowsAre r k F S) b w;
+    }
+
+pub tables : {r : Condition} {N : List Bool} {A L F F′ S : List ℕ} {m : ℕ} {side : Side} → Settled m (getD N 0 false) (getD A 0 0) (getD L 0 0) side F F′
+    → length F ≡ 64 → m ≤ 62 → Stacked N A L F S 1 m (r ∷ []) → Tables r side F′ S
+tables {r} {N} {A} {L} {F} {F′} {S} {m} {side} e l few t =
+    let g = alone t in
+    let n = g .count in
+    record {
+      few = omega arith;
+      leaves-is = e .side-leaves ∙ n;
+      ends-is = λ p. ap (λ (x : ℕ). has x p) (e .side-ends) ∙ ends-are (g .item) p;
+      follow-is = λ p q h. ap (λ (x : List ℕ). has (getD x p 0) q) (e .row-start) ∙ follows-are (g .item) (g .rows) l p q h;
+      sets-is = sets-are (g .rows);
+    }
+
+pub settled-rows : {n : ℕ} {nulls : Bool} {firsts lasts : ℕ} {side : Side} {F F′ S : List ℕ} → Settled n nulls firsts lasts side F F′ → Rows F S → Rows F′ S
+settled-rows {firsts = firsts} {F = F} e w = record {
+  rows-follow = ap length (e .row-start) ∙ length-set F 0 firsts ∙ w .rows-follow;
+  rows-sets = w .rows-sets;
+}
+
+-- The word test ---------------------------------------------------------------------------------------------------------
+
+module _ {r : Condition} {side : Side} {F S H : List ℕ} {events : ℕ} (t : Tables r side F S) (h : Holding S (side .leaves) events H) where
+  stepped : (s e u : ℕ) → e < events → ((q : ℕ) → has u q ≡ anyBelow (side .leaves + 1) (λ p. has s p && has (getD F p 0) q))
+      → bitAnd u (getD H e 0) ≡ step r s e
+  unfolding places leafHolds
+  stepped s e u l f =
+      let n = t .leaves-is in
+      let k : side .leaves + 1 ≡ suc (leaves r) = omega arith in
+      step-mask r s e u (getD H e 0)
+      (λ q.
+      f q
+      ∙ ap (λ (x : ℕ). anyBelow x (λ p. has s p && has (getD F p 0) q)) k
+      ∙ any-cong (suc (leaves r)) _ _ (λ p i. ap (λ (x : Bool). has s p && x) (t .follow-is p q (le-of-suc-le-suc i))))
+      (λ q a b. h .holding-is e q l a (omega arith) ∙ ap (λ (x : ℕ). has x e) (t .sets-is q a b))
+
+  -- one event more
+  pub word-more : (w : List ℕ) (i s u : ℕ) → i < length w → getD w i 0 < events → s ≡ stepAll r 1 (take i w)
+      → ((q : ℕ) → has u q ≡ anyBelow (side .leaves + 1) (λ p. has s p && has (getD F p 0) q))
+      → bitAnd u (getD H (getD w i 0) 0) ≡ stepAll r 1 (take (i + 1) w)
+  word-more w i s u l b e f =
+      stepped s (getD w i 0) u b f
+      ∙ ap (λ (x : ℕ). step r x (getD w i 0)) e
+      ∙ sym (stepAll-take r 1 w i l)
+      ∙ ap (λ (x : ℕ). stepAll r 1 (take x w)) (sym (add-one i))
+
+pub word-none : (r : Condition) (w : List ℕ) → 1 ≡ stepAll r 1 (take 0 w)
+unfolding stepAll
+word-none r w = refl
+
+pub word-all : {r : Condition} {side : Side} {F S : List ℕ} → Tables r side F S → (w : List ℕ) (i s : ℕ) → length w ≤ i → s ≡ stepAll r 1 (take i w)
+    → not (eqb (bitAnd s (side .ends)) 0) ≡ accepts r w
+word-all {r} {side} t w i s l e =
+    ends-mask r s (side .ends) (t .ends-is)
+    ∙ ap (λ (x : ℕ). someEnds r x) (e ∙ ap (λ (x : List ℕ). stepAll r 1 x) (take-all i w l))
+    ∙ sym (accepts-is r w)

@@ -1,0 +1,81 @@
+use Prim.Native.Nat.{ℕ, _-_}
+use mathlib.Core.Path.{_≡_, ap, _∙_}
+use lib.ListN.{length, take, getD}
+use lib.Bits.{bitAnd}
+use Rattle.condition.specs.Condition.{Condition}
+use Rattle.condition.specs.Places.{stepAll}
+use Rattle.places.specs.Tables.{StandsAt}
+use Rattle.places.proofs.Sides.{word-none, word-more, word-all}
+use borrow.Author.Needs.{needs}
+use Rattle.places.proofs.holds_word.Statement.{statement}
+use Rattle.places.proofs.holds_word.Tie as tie
+
+abbrev Inv-loop : tie.InvT-loop
+Inv-loop s at events word follow holding leaves ends places₀ i₀ places i = (r : Condition) → StandsAt s at r → places ≡ stepAll r 1 (take i word)
+
+abbrev μ-loop : tie.MeasureT-loop
+μ-loop s at events word follow holding leaves ends places₀ i₀ places i = length word - i
+
+side-of-requires : tie.Need-side-of-requires Inv-loop μ-loop
+side-of-requires c κs = search needs
+
+fill-holding-requires : tie.Need-fill-holding-requires Inv-loop μ-loop
+fill-holding-requires c κs = search needs
+
+loop-holds : tie.Need-loop-holds Inv-loop μ-loop
+loop-holds c = λ r h. word-none r (c .before .before .before .before .before .before .before .before .args .word .now)
+
+shared-slice-read-index : tie.Need-shared-slice-read-index Inv-loop μ-loop
+shared-slice-read-index c = search needs
+
+index-requires : tie.Need-index-requires Inv-loop μ-loop
+index-requires c κs = search needs
+
+add-gather : tie.Need-add-gather Inv-loop μ-loop
+add-gather c = search needs
+
+gather-requires : tie.Need-gather-requires Inv-loop μ-loop
+gather-requires c κs = search needs
+
+mul-places : tie.Need-mul-places Inv-loop μ-loop
+mul-places c = let h = c .before .before .before .before .before .before .before .before .before .before .before .before .before .before .pre .1 (c .before .before .before .before .before .loop .i) (c .before .before .before .before .loop-test .taken) in let e = c .before .before .index .ensures in search needs
+
+array-read-places : tie.Need-array-read-places Inv-loop μ-loop
+array-read-places c = let h = c .before .before .before .before .before .before .before .before .before .before .before .before .before .before .pre .1 (c .before .before .before .before .before .loop .i) (c .before .before .before .before .loop-test .taken) in let e = c .before .before .index .ensures in search needs
+
+add-i : tie.Need-add-i Inv-loop μ-loop
+add-i c = search needs
+
+loop-less : tie.Need-loop-less Inv-loop μ-loop
+loop-less c = search needs
+
+loop-again : tie.Need-loop-again Inv-loop μ-loop
+loop-again c = let g = c .before .before .before .before .before .loop in
+    let held = c .before .before .before .before .before .before .fill-holding in
+    λ r h.
+    ap (λ (x : ℕ). bitAnd (c .gather .result) (getD (held .last .1 .1 .1 .0) x 0)) (c .before .before .index .ensures)
+    ∙ word-more (c .before .before .before .before .before .before .before .before .before .side-of .ensures .1 .1 r h) (held .ensures) (c .before .before .before .before .before .before .before .before .before .before .before .before .before .before .args .word .now) (g .i) (g .places) (c .gather .result)
+    (c .before .before .before .before .loop-test .taken) (c .before .before .before .before .before .before .before .before .before .before .before .before .before .before .pre .1 (g .i) (c .before .before .before .before .loop-test .taken)) (g .inv r h) (c .gather .ensures)
+
+returns : tie.Need-returns Inv-loop μ-loop
+returns c = λ r h. word-all (c .before .before .before .before .before .side-of .ensures .1 .1 r h) (c .before .before .before .before .before .before .before .before .before .before .args .word .now) (c .before .loop .i) (c .before .loop .places) (c .loop-test .left) (c .before .loop .inv r h)
+
+pub holds-word-spec : {M : Type 1} → statement M
+holds-word-spec =
+    tie.close
+    (tie.spec
+    Inv-loop
+    μ-loop
+    side-of-requires
+    fill-holding-requires
+    loop-holds
+    shared-slice-read-index
+    index-requires
+    add-gather
+    gather-requires
+    mul-places
+    array-read-places
+    add-i
+    loop-less
+    loop-again
+    returns)

@@ -1,0 +1,13 @@
+use Rattle.places.proofs.Filling.{one-shifted}
+use borrow.Author.Needs.{needs}
+use Rattle.places.proofs.masks.bit.Statement.{statement}
+use Rattle.places.proofs.masks.bit.Tie as tie
+
+shl-result : tie.Need-shl-result
+shl-result c = search needs
+
+returns : tie.Need-returns
+returns c = one-shifted (c .args .k) (c .pre)
+
+pub bit-spec : {M : Type 1} → statement M
+bit-spec = tie.close (tie.spec shl-result returns)

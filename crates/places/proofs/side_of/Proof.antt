@@ -1,0 +1,46 @@
+use mathlib.Core.Path.{refl}
+use mathlib.Core.List.{[]}
+use native.Mathlib.Omega.{arith}
+use Rattle.places.specs.Machine.{bottom}
+use Rattle.places.proofs.Sides.{settled-rows, tables}
+use borrow.Author.Needs.{needs}
+use Rattle.places.proofs.side_of.Statement.{statement}
+use Rattle.places.proofs.side_of.Tie as tie
+
+push-part-requires : tie.Need-push-part-requires
+push-part-requires c κs = search needs
+
+array-read-settle : tie.Need-array-read-settle
+array-read-settle c = search needs
+
+array-read-settle-2 : tie.Need-array-read-settle-2
+array-read-settle-2 c = search needs
+
+array-read-settle-3 : tie.Need-array-read-settle-3
+array-read-settle-3 c = search needs
+
+settle-requires : tie.Need-settle-requires
+settle-requires c κs = search needs
+
+returns : tie.Need-returns
+returns c = let p = c .before .before .push-part .ensures in
+    let e = c .settle .ensures in
+    let few = p .few in
+    let n = e .side-leaves in (
+      omega arith,
+      (
+        settled-rows e (p .rows),
+        λ r h. tables e (p .rows .rows-follow) (omega arith) (p .pushed r h [] (bottom refl refl)),
+      ),
+    )
+
+pub side-of-spec : {M : Type 1} → statement M
+side-of-spec =
+    tie.close
+    (tie.spec
+    push-part-requires
+    array-read-settle
+    array-read-settle-2
+    array-read-settle-3
+    settle-requires
+    returns)
