@@ -1,0 +1,112 @@
+//! Timings of the loaders on the same families, in turn, in processor time.
+use crate::answer::Doors;
+use crate::clock;
+use crate::sheets;
+use std::hint::black_box;
+use std::time::Duration;
+
+const ROUNDS: usize = 7;
+/// Each measurement repeats its work for about this long.
+const SPAN: Duration = Duration::from_millis(20);
+
+/// One family: its name and its work for one loader.
+struct Family {
+    name: String,
+    work: Box<dyn Fn(&Doors)>,
+    /// Loads, readings or word tests done by one call of the work.
+    parts: usize,
+}
+
+pub fn bench(all: &[Doors]) {
+    let names: Vec<&str> = all.iter().map(|doors| doors.name).collect();
+    let ratio = all.len() == 2;
+    print!("| family | {} |", names.join(" | "));
+    println!("{}", if ratio { " ratio |" } else { "" });
+    println!("|---|{}", "---|".repeat(all.len() + ratio as usize));
+    for family in families() {
+        let times = medians(&family, all);
+        let cells: Vec<String> = times.iter().map(|&time| shown(time)).collect();
+        print!("| {} | {} |", family.name, cells.join(" | "));
+        println!(
+            "{}",
+            if ratio { format!(" {:.2} |", times[1] / times[0]) } else { String::new() }
+        );
+    }
+}
+
+fn families() -> Vec<Family> {
+    let small = sheets::small_honest(200);
+    let bytes: usize = small.iter().map(Vec::len).sum();
+    let name = format!("small honest sheet, {} bytes on average", bytes / small.len());
+    let parts = small.len();
+    let work = Box::new(move |doors: &Doors| {
+        for sheet in &small {
+            black_box((doors.load)(black_box(sheet)));
+        }
+    });
+    let (sheet, word) = sheets::long_word();
+    let word_work = Box::new(move |doors: &Doors| {
+        black_box((doors.word_test)(black_box(&sheet), 1, black_box(&word)));
+    });
+    let read_sheet = sheets::many_rules();
+    let read_name = format!("reading alone, {} bytes", read_sheet.len());
+    let read_work = Box::new(move |doors: &Doors| {
+        black_box((doors.read)(black_box(&read_sheet)).is_ok());
+    });
+    let word_name = "word of 4,096 events, 31 leaves".to_string();
+    vec![
+        Family { name, work, parts },
+        one_load("as many rules as fit", sheets::many_rules()),
+        one_load("large honest certificate", sheets::large_certificate()),
+        one_load("hostile certificate", sheets::hostile()),
+        Family { name: word_name, work: word_work, parts: 1 },
+        Family { name: read_name, work: read_work, parts: 1 },
+    ]
+}
+
+fn one_load(name: &str, sheet: Vec<u8>) -> Family {
+    let pairs = sheets::pairs(&sheet);
+    let name = format!("{name}, {} bytes, {pairs} pairs", sheet.len());
+    let work = Box::new(move |doors: &Doors| {
+        black_box((doors.load)(black_box(&sheet)));
+    });
+    Family { name, work, parts: 1 }
+}
+
+/// Median nanoseconds of one part, for each loader.
+fn medians(family: &Family, all: &[Doors]) -> Vec<f64> {
+    let repeats: Vec<usize> = all.iter().map(|doors| repeats(family, doors)).collect();
+    let mut times = vec![vec![]; all.len()];
+    for _ in 0..ROUNDS {
+        for (i, doors) in all.iter().enumerate() {
+            let start = clock::now();
+            for _ in 0..repeats[i] {
+                (family.work)(doors);
+            }
+            let parts = (repeats[i] * family.parts) as f64;
+            times[i].push((clock::now() - start).as_nanos() as f64 / parts);
+        }
+    }
+    times.iter_mut().map(|list| median(list)).collect()
+}
+
+/// How often the work is done in one measurement.
+fn repeats(family: &Family, doors: &Doors) -> usize {
+    let start = clock::now();
+    (family.work)(doors);
+    let once = (clock::now() - start).max(Duration::from_nanos(100));
+    (SPAN.as_nanos() / once.as_nanos()).max(1) as usize
+}
+
+fn median(list: &mut [f64]) -> f64 {
+    list.sort_by(f64::total_cmp);
+    list[list.len() / 2]
+}
+
+fn shown(nanoseconds: f64) -> String {
+    match nanoseconds {
+        n if n < 10_000.0 => format!("{n:.0} ns"),
+        n if n < 10_000_000.0 => format!("{:.1} us", n / 1e3),
+        n => format!("{:.1} ms", n / 1e6),
+    }
+}

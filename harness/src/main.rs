@@ -1,0 +1,93 @@
+//! Compares the sheet loader with a reference, runs stored cases, and measures.
+
+mod answer;
+mod bench;
+mod clock;
+mod compare;
+mod library;
+mod naive;
+mod random;
+mod reference;
+mod sheets;
+mod stack;
+#[cfg(test)]
+mod tests;
+mod tree;
+mod vectors;
+
+use answer::Doors;
+use std::io::Read;
+use std::process::ExitCode;
+
+const USAGE: &str = "commands:
+  compare N --seed S      N sheets: library against reference, or reference against naive
+  self-check N --seed S   N sheets: reference against naive
+  vectors CRATES          stored cases of the gate's programs
+  bench                   timings
+  stack                   stack used by one call
+  load                    the line for the sheet on standard input";
+
+fn main() -> ExitCode {
+    let arguments: Vec<String> = std::env::args().skip(1).collect();
+    let words: Vec<&str> = arguments.iter().map(String::as_str).collect();
+    match run(&words) {
+        Ok(0) => ExitCode::SUCCESS,
+        Ok(_) => ExitCode::FAILURE,
+        Err(message) => {
+            eprintln!("{message}");
+            ExitCode::from(2)
+        }
+    }
+}
+
+/// Runs a command; returns the differences it found.
+fn run(words: &[&str]) -> Result<usize, String> {
+    match words {
+        ["compare", rest @ ..] => {
+            let (sheets, seed) = numbers(rest)?;
+            Ok(match library::doors() {
+                Some(library) => compare::compare(&reference::DOORS, &library, sheets, seed),
+                None => compare::compare(&reference::DOORS, &naive::DOORS, sheets, seed),
+            })
+        }
+        ["self-check", rest @ ..] => {
+            let (sheets, seed) = numbers(rest)?;
+            Ok(compare::compare(&reference::DOORS, &naive::DOORS, sheets, seed))
+        }
+        ["vectors", folder] => vectors::run(folder, &loaders()),
+        ["bench"] => {
+            bench::bench(&loaders());
+            Ok(0)
+        }
+        ["stack"] => {
+            stack::stack(&loaders());
+            Ok(0)
+        }
+        ["load"] => load(),
+        _ => Err(USAGE.to_string()),
+    }
+}
+
+/// The reference and, if it is linked, the library.
+fn loaders() -> Vec<Doors> {
+    [Some(reference::DOORS), library::doors()].into_iter().flatten().collect()
+}
+
+/// The number of sheets and the seed.
+fn numbers(words: &[&str]) -> Result<(usize, u64), String> {
+    let number = |word: &str| word.parse::<u64>().map_err(|_| USAGE.to_string());
+    match words {
+        [sheets] => Ok((number(sheets)? as usize, 1)),
+        [sheets, "--seed", seed] => Ok((number(sheets)? as usize, number(seed)?)),
+        _ => Err(USAGE.to_string()),
+    }
+}
+
+fn load() -> Result<usize, String> {
+    let mut sheet = vec![];
+    std::io::stdin().read_to_end(&mut sheet).map_err(|error| error.to_string())?;
+    for doors in loaders() {
+        println!("{}: {}", doors.name, (doors.load)(&sheet));
+    }
+    Ok(0)
+}

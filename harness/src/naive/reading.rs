@@ -1,0 +1,228 @@
+//! Reading by looking back over the list of records before each record.
+use crate::answer::Refusal;
+use crate::tree::Tree;
+
+const BODY_LENGTHS: [usize; 14] = [4, 0, 0, 0, 0, 0, 6, 6, 10, 5, 6, 4, 5, 0];
+
+struct Record<'a> {
+    offset: usize,
+    kind: u8,
+    body: &'a [u8],
+}
+
+#[derive(Clone, Copy)]
+pub struct Point {
+    pub past: usize,
+    pub own: usize,
+    pub due: usize,
+}
+
+pub struct Method {
+    pub pre: usize,
+    pub trace: usize,
+    pub future: usize,
+    pub body: Option<(usize, usize)>,
+}
+
+pub enum Act {
+    Event(u8),
+    Call(usize),
+    Pass,
+}
+
+pub struct Step {
+    pub from: usize,
+    pub to: usize,
+    pub act: Act,
+}
+
+#[derive(Default)]
+pub struct Sheet {
+    pub conditions: Vec<Tree>,
+    pub points: Vec<Point>,
+    pub methods: Vec<Method>,
+    pub steps: Vec<Step>,
+    pub certificates: Vec<Vec<(usize, u32)>>,
+}
+
+pub fn read(bytes: &[u8]) -> Result<Sheet, Refusal> {
+    if bytes.len() > 65_536 {
+        return Err(Refusal::at(1, 65_536));
+    }
+    let (records, cut) = split(bytes);
+    for (i, record) in records.iter().enumerate() {
+        if let Some(number) = refusal(&records[..i], record) {
+            return Err(Refusal::at(number, record.offset));
+        }
+    }
+    if let Some(refusal) = cut {
+        return Err(refusal);
+    }
+    let last = records.last().map_or(0, |record| record.kind);
+    if (1..=5).contains(&last) || last == 13 {
+        return Err(Refusal::at(8, bytes.len()));
+    }
+    if count(&records, &[8, 9]) == 0 {
+        return Err(Refusal::at(9, bytes.len()));
+    }
+    Ok(build(&records))
+}
+
+/// The records, and refusal 2 or 3 where they stop early.
+fn split(bytes: &[u8]) -> (Vec<Record<'_>>, Option<Refusal>) {
+    let mut records = vec![];
+    let mut rest = bytes;
+    while let Some((&kind, after)) = rest.split_first() {
+        let offset = bytes.len() - rest.len();
+        if !(1..=14).contains(&kind) {
+            return (records, Some(Refusal::at(2, offset)));
+        }
+        let length = BODY_LENGTHS[kind as usize - 1];
+        if after.len() < length {
+            return (records, Some(Refusal::at(3, offset)));
+        }
+        records.push(Record { offset, kind, body: &after[..length] });
+        rest = &after[length..];
+    }
+    (records, None)
+}
+
+/// The first of 4 to 7 and 9 that applies to a record.
+fn refusal(before: &[Record], record: &Record) -> Option<usize> {
+    type Test = fn(&[Record], &Record) -> bool;
+    let tests: [(usize, Test); 5] =
+        [(4, misplaced), (5, malformed), (6, too_many), (7, misnamed), (9, primitive_first)];
+    tests.iter().find(|(_, test)| test(before, record)).map(|(number, _)| *number)
+}
+
+fn section(kind: u8) -> usize {
+    let sections: [&[u8]; 5] = [&[1, 2, 3, 4, 5, 6], &[7], &[8, 9], &[10, 11, 12], &[13, 14]];
+    sections.iter().position(|kinds| kinds.contains(&kind)).unwrap()
+}
+
+fn count(records: &[Record], kinds: &[u8]) -> usize {
+    records.iter().filter(|record| kinds.contains(&record.kind)).count()
+}
+
+/// The records of the condition that is open, if any.
+fn open_condition<'a, 'b>(before: &'b [Record<'a>]) -> &'b [Record<'a>] {
+    let start = before.iter().rposition(|record| record.kind > 5).map_or(0, |i| i + 1);
+    &before[start..]
+}
+
+fn misplaced(before: &[Record], record: &Record) -> bool {
+    let Some(last) = before.last() else {
+        return false;
+    };
+    let open = (1..=5).contains(&last.kind);
+    section(last.kind) > section(record.kind) || (open && record.kind > 6)
+}
+
+fn malformed(before: &[Record], record: &Record) -> bool {
+    if record.kind > 6 {
+        return false;
+    }
+    let open = open_condition(before);
+    let items = count(open, &[1, 2]) - count(open, &[3, 4]);
+    match record.kind {
+        3 | 4 => items < 2,
+        5 => items < 1,
+        6 => items != 1,
+        _ => false,
+    }
+}
+
+fn too_many(before: &[Record], record: &Record) -> bool {
+    match record.kind {
+        1 if count(open_condition(before), &[1]) + 1 > 31 => true,
+        1..=5 => open_condition(before).len() + 1 > 96,
+        6 => count(before, &[6]) + 1 > 256,
+        7 => count(before, &[7]) + 1 > 512,
+        8 | 9 => count(before, &[8, 9]) + 1 > 64,
+        10..=12 => count(before, &[10, 11, 12]) + 1 > 512,
+        _ => false,
+    }
+}
+
+fn name(body: &[u8], index: usize) -> usize {
+    body[2 * index] as usize + 256 * body[2 * index + 1] as usize
+}
+
+fn misnamed(before: &[Record], record: &Record) -> bool {
+    let body = record.body;
+    let any = |indices: &[usize], kinds: &[u8]| {
+        let bound = count(before, kinds);
+        indices.iter().any(|&i| name(body, i) >= bound)
+    };
+    match record.kind {
+        7 | 8 => any(&[0, 1, 2], &[6]),
+        9 => any(&[0, 1, 2], &[6]) || any(&[3, 4], &[7]),
+        10 => any(&[0, 1], &[7]) || body[4] > 31,
+        11 => any(&[0, 1], &[7]) || any(&[2], &[8, 9]),
+        12 => any(&[0, 1], &[7]),
+        _ => false,
+    }
+}
+
+fn primitive_first(before: &[Record], record: &Record) -> bool {
+    record.kind == 8 && count(before, &[8, 9]) == 0
+}
+
+/// The parts of a sheet whose records are all in order.
+fn build(records: &[Record]) -> Sheet {
+    let mut sheet = Sheet::default();
+    let mut items: Vec<Tree> = vec![];
+    let mut pairs = vec![];
+    for record in records {
+        let body = record.body;
+        match record.kind {
+            1..=5 => token(record, &mut items),
+            6 => sheet.conditions.push(items.pop().unwrap()),
+            7 => {
+                let (past, own, due) = (name(body, 0), name(body, 1), name(body, 2));
+                sheet.points.push(Point { past, own, due });
+            }
+            8 | 9 => sheet.methods.push(method(record)),
+            10..=12 => sheet.steps.push(step(record)),
+            13 => {
+                let set = [body[1], body[2], body[3], body[4]];
+                pairs.push((body[0] as usize, u32::from_le_bytes(set)));
+            }
+            _ => sheet.certificates.push(std::mem::take(&mut pairs)),
+        }
+    }
+    sheet
+}
+
+fn token(record: &Record, items: &mut Vec<Tree>) {
+    let tree = match record.kind {
+        1 => Tree::Leaf(name(record.body, 0) as u32 + 65_536 * name(record.body, 1) as u32),
+        2 => Tree::Empty,
+        5 => items.pop().unwrap().star(),
+        kind => {
+            let (second, first) = (items.pop().unwrap(), items.pop().unwrap());
+            if kind == 3 {
+                first.join(second)
+            } else {
+                first.either(second)
+            }
+        }
+    };
+    items.push(tree);
+}
+
+fn method(record: &Record) -> Method {
+    let body = record.body;
+    let points = (record.kind == 9).then(|| (name(body, 3), name(body, 4)));
+    Method { pre: name(body, 0), trace: name(body, 1), future: name(body, 2), body: points }
+}
+
+fn step(record: &Record) -> Step {
+    let body = record.body;
+    let act = match record.kind {
+        10 => Act::Event(body[4]),
+        11 => Act::Call(name(body, 2)),
+        _ => Act::Pass,
+    };
+    Step { from: name(body, 0), to: name(body, 1), act }
+}

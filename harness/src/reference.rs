@@ -1,0 +1,60 @@
+//! A reference loader in safe Rust.
+#![forbid(unsafe_code)]
+
+mod clauses;
+mod places;
+mod reading;
+mod rules;
+
+use crate::answer::{Answer, Counts, Doors, Refusal, Verdict};
+use places::Side;
+use reading::Sheet;
+
+const LONGEST_WORD: usize = 4_096;
+
+pub const DOORS: Doors = Doors { name: "reference", load, word_test, read };
+
+/// Reading alone: refusals 1 to 9, or the tally.
+pub fn read(sheet: &[u8]) -> Result<Counts, Refusal> {
+    Sheet::read(sheet).map(|sheet| sheet.counts)
+}
+
+/// The verdict on a sheet.
+pub fn load(sheet: &[u8]) -> Verdict {
+    let length = sheet.len();
+    let sheet = match Sheet::read(sheet) {
+        Ok(sheet) => sheet,
+        Err(refusal) => return Verdict::Refused(refusal),
+    };
+    if sheet.counts.certificates != sheet.certificates_needed() {
+        return Verdict::Refused(Refusal::at(10, length));
+    }
+    match rules::test(&sheet) {
+        Ok(()) => Verdict::Accepted(sheet.count()),
+        Err(verdict) => verdict,
+    }
+}
+
+/// Whether a condition of the sheet holds a word.
+pub fn word_test(sheet: &[u8], condition: usize, word: &[u8]) -> Answer {
+    let sheet = match Sheet::read(sheet) {
+        Ok(sheet) => sheet,
+        Err(refusal) => return Answer::Refused(refusal),
+    };
+    if condition >= sheet.counts.conditions {
+        return Answer::Refused(Refusal::bare(14));
+    }
+    if word.len() > LONGEST_WORD {
+        return Answer::Refused(Refusal::bare(12));
+    }
+    if let Some(index) = word.iter().position(|&event| event > 31) {
+        return Answer::Refused(Refusal::at(13, index));
+    }
+    let mut side = Side::new();
+    side.whole(sheet.condition(condition));
+    if side.holds(word) {
+        Answer::Yes
+    } else {
+        Answer::No
+    }
+}

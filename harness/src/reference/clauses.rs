@@ -1,0 +1,78 @@
+//! Clauses 1 to 4 of one certificate.
+use super::places::{members, Side};
+use crate::answer::Fault;
+
+/// No side has this place, so it stands for every place too large.
+const NOWHERE: u8 = 63;
+
+/// A pair, with the events that every place of its set holds.
+#[derive(Clone, Copy)]
+pub struct Pair {
+    place: u8,
+    set: u32,
+    shared: u32,
+}
+
+/// Reads the certificate at an offset; returns the offset after it.
+pub fn read(bytes: &[u8], mut at: usize, right: &Side, pairs: &mut Vec<Pair>) -> usize {
+    pairs.clear();
+    while bytes[at] == 13 {
+        let set = [bytes[at + 2], bytes[at + 3], bytes[at + 4], bytes[at + 5]];
+        let set = u32::from_le_bytes(set);
+        let shared = members(set as u64).fold(u32::MAX, |all, k| all & right.sets[k]);
+        pairs.push(Pair { place: bytes[at + 1].min(NOWHERE), set, shared });
+        at += 6;
+    }
+    at + 1
+}
+
+/// The first fault of a certificate for left in right.
+pub fn check(left: &Side, right: &Side, pairs: &[Pair]) -> Result<(), Fault> {
+    match pairs.first() {
+        Some(first) if first.place == 0 && first.set == 1 => {}
+        _ => return Err(Fault::of(1, 0)),
+    }
+    for (index, pair) in pairs.iter().enumerate() {
+        let place = pair.place as usize;
+        if place >= left.places || pair.set as u64 >> right.places != 0 {
+            return Err(Fault::of(2, index));
+        }
+        if left.ends >> place & 1 == 1 && right.ends & pair.set as u64 == 0 {
+            return Err(Fault::of(3, index));
+        }
+        let union = right.followers(pair.set as u64) as u32;
+        if let Some((event, place)) = unserved(left, left.follow[place], union, pairs) {
+            return Err(Fault { clause: 4, pair: index, event, place });
+        }
+    }
+    Ok(())
+}
+
+/// Clause 4 of a pair, given the followers of its place and of its set. A
+/// listed set serves an event if it lies within the followers of the pair's
+/// set and each of its places holds the event.
+fn unserved(left: &Side, follow: u64, union: u32, pairs: &[Pair]) -> Option<(usize, usize)> {
+    let mut missing = [0u32; 64];
+    let mut open = 0;
+    for place in members(follow) {
+        missing[place] = left.sets[place];
+        open += (left.sets[place] != 0) as usize;
+    }
+    if open == 0 {
+        return None;
+    }
+    for pair in pairs {
+        let wanted = &mut missing[(pair.place & 63) as usize];
+        if *wanted & pair.shared != 0 && pair.set & !union == 0 {
+            *wanted &= !pair.shared;
+            if *wanted == 0 {
+                open -= 1;
+                if open == 0 {
+                    return None;
+                }
+            }
+        }
+    }
+    let first = |place: usize| (missing[place].trailing_zeros() as usize, place);
+    members(follow).map(first).min()
+}

@@ -1,0 +1,48 @@
+//! Seeded sheets and words to try.
+
+mod draft;
+mod families;
+mod honest;
+mod mutate;
+mod stray;
+mod words;
+
+use crate::naive;
+use crate::random::Random;
+#[cfg(test)]
+pub use draft::{certificate, Draft, Step};
+pub use families::{hostile, large_certificate, long_word, many_rules, small_honest};
+#[cfg(test)]
+pub use stray::{least, row};
+pub use words::{words, Test};
+
+/// One sheet of a random sort.
+pub fn sheet(random: &mut Random) -> Vec<u8> {
+    match random.below(100) {
+        0..=4 => stray::bytes(random),
+        5..=19 => stray::records(random),
+        20..=21 => stray::at_a_limit(random),
+        22..=24 => honest::wild(random),
+        25..=39 => honest::honest(random).certified(),
+        40..=59 => {
+            let mut draft = honest::honest(random);
+            honest::spoil(&mut draft, random);
+            draft.certified()
+        }
+        60..=61 => honest::large(random).certified(),
+        62..=65 => mutate::mutate(&honest::large(random).certified(), random),
+        _ => {
+            let mut sheet = honest::honest(random).certified();
+            for _ in 0..1 + random.below(2) {
+                sheet = mutate::mutate(&sheet, random);
+            }
+            sheet
+        }
+    }
+}
+
+/// The pairs of a well formed sheet.
+pub fn pairs(sheet: &[u8]) -> usize {
+    let certificates = naive::read_sheet(sheet).map_or(vec![], |sheet| sheet.certificates);
+    certificates.iter().map(Vec::len).sum()
+}

@@ -1,0 +1,150 @@
+//! A sheet in parts, and its certificates of reachable pairs.
+use crate::naive::{self, Ask, Side};
+use crate::tree::Tree;
+use std::collections::HashSet;
+
+/// Pairs in one made certificate, so that a sheet stays short.
+const MOST_PAIRS: usize = 400;
+
+#[derive(Clone)]
+pub enum Step {
+    Event(usize, usize, u8),
+    Call(usize, usize, usize),
+    Pass(usize, usize),
+}
+
+#[derive(Clone, Default)]
+pub struct Draft {
+    pub conditions: Vec<Tree>,
+    pub points: Vec<[usize; 3]>,
+    /// Three names for a primitive, five for a method with body.
+    pub methods: Vec<Vec<usize>>,
+    pub steps: Vec<Step>,
+}
+
+impl Draft {
+    /// The number of a condition, added if it is new.
+    pub fn condition(&mut self, tree: &Tree) -> usize {
+        if let Some(number) = self.conditions.iter().position(|old| old == tree) {
+            return number;
+        }
+        self.conditions.push(tree.clone());
+        self.conditions.len() - 1
+    }
+
+    pub fn point(&mut self, past: &Tree, own: &Tree, due: &Tree) -> usize {
+        let names = [self.condition(past), self.condition(own), self.condition(due)];
+        self.points.push(names);
+        self.points.len() - 1
+    }
+
+    /// The records before the certificates.
+    pub fn bytes(&self) -> Vec<u8> {
+        let mut out = vec![];
+        for tree in &self.conditions {
+            tree.write(&mut out);
+            out.push(6);
+        }
+        for point in &self.points {
+            out.push(7);
+            names(&mut out, point);
+        }
+        for method in &self.methods {
+            out.push(if method.len() == 3 { 8 } else { 9 });
+            names(&mut out, method);
+        }
+        for step in &self.steps {
+            match *step {
+                Step::Event(from, to, event) => {
+                    out.push(10);
+                    names(&mut out, &[from, to]);
+                    out.push(event);
+                }
+                Step::Call(from, to, method) => {
+                    out.push(11);
+                    names(&mut out, &[from, to, method]);
+                }
+                Step::Pass(from, to) => {
+                    out.push(12);
+                    names(&mut out, &[from, to]);
+                }
+            }
+        }
+        out
+    }
+
+    /// The whole sheet.
+    pub fn certified(&self) -> Vec<u8> {
+        certify(self.bytes(), MOST_PAIRS)
+    }
+}
+
+fn names(out: &mut Vec<u8>, names: &[usize]) {
+    for &name in names {
+        out.extend_from_slice(&(name as u16).to_le_bytes());
+    }
+}
+
+/// Adds the certificates that the rules of a sheet need.
+pub fn certify(mut bytes: Vec<u8>, most: usize) -> Vec<u8> {
+    let Ok(sheet) = naive::read_sheet(&bytes) else {
+        return bytes;
+    };
+    // Rules that ask the same are given the same pairs.
+    let mut made: Vec<(Ask, Vec<(usize, u32)>)> = vec![];
+    for rule in naive::rules(&sheet) {
+        let known = made.iter().position(|(ask, _)| *ask == rule.ask);
+        let index = known.unwrap_or(made.len());
+        if let Ask::Within(left, right) = &rule.ask {
+            if known.is_none() {
+                let pairs = reachable(left, right, most);
+                made.push((rule.ask, pairs));
+            }
+            certificate(&mut bytes, &made[index].1);
+        }
+    }
+    bytes
+}
+
+pub fn certificate(out: &mut Vec<u8>, pairs: &[(usize, u32)]) {
+    for &(place, set) in pairs {
+        out.push(13);
+        out.push(place as u8);
+        out.extend_from_slice(&set.to_le_bytes());
+    }
+    out.push(14);
+}
+
+/// The reachable pairs in the order in which they are met, up to a number.
+pub fn reachable(left: &Tree, right: &Tree, most: usize) -> Vec<(usize, u32)> {
+    let (left, right) = (Side::new(left), Side::new(right));
+    let follow: Vec<u32> = (0..right.places()).map(|k| mask(right.follow(k))).collect();
+    let holding: Vec<u32> = (0..32).map(|event| holding(&right, event)).collect();
+    let mut pairs = vec![(0, 1)];
+    let mut met: HashSet<(usize, u32)> = pairs.iter().copied().collect();
+    let mut next = 0;
+    while next < pairs.len() {
+        let (place, set) = pairs[next];
+        next += 1;
+        let union = (0..follow.len()).filter(|k| set >> k & 1 == 1);
+        let union = union.fold(0, |all, k| all | follow[k]);
+        for (event, holders) in holding.iter().enumerate() {
+            for &l in left.follow(place).iter().filter(|&&l| left.leaf_holds(l, event)) {
+                let pair = (l, union & holders);
+                if pairs.len() < most && met.insert(pair) {
+                    pairs.push(pair);
+                }
+            }
+        }
+    }
+    pairs
+}
+
+fn mask(places: &[usize]) -> u32 {
+    places.iter().fold(0, |set, place| set | 1 << place)
+}
+
+fn holding(side: &Side, event: usize) -> u32 {
+    let places: Vec<usize> = (1..side.places()).filter(|&k| side.leaf_holds(k, event)).collect();
+    mask(&places)
+}

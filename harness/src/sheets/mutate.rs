@@ -1,0 +1,174 @@
+//! Small changes to a sheet.
+use super::stray::BODY;
+use crate::random::Random;
+
+type Records = Vec<Vec<u8>>;
+
+pub fn mutate(sheet: &[u8], random: &mut Random) -> Vec<u8> {
+    let mut records = split(sheet);
+    match random.below(15) {
+        0 => return change_bytes(sheet, random),
+        1 => return sheet[..random.below(sheet.len())].to_vec(),
+        2 => change_name(&mut records, random),
+        3 => swap(&mut records, random),
+        4 => drop_or_repeat(&mut records, random),
+        5 => certificates_more_or_fewer(&mut records, random),
+        6 => events_at_the_bound(&mut records, random),
+        kind => change_certificate(&mut records, random, kind),
+    }
+    records.concat()
+}
+
+/// The records of a sheet; what follows a fault is one piece.
+fn split(sheet: &[u8]) -> Records {
+    let mut records = vec![];
+    let mut at = 0;
+    while at < sheet.len() {
+        let length = match sheet[at] {
+            kind @ 1..=14 => 1 + BODY[kind as usize],
+            _ => sheet.len(),
+        };
+        let next = (at + length).min(sheet.len());
+        records.push(sheet[at..next].to_vec());
+        at = next;
+    }
+    records
+}
+
+fn change_bytes(sheet: &[u8], random: &mut Random) -> Vec<u8> {
+    let mut out = sheet.to_vec();
+    for _ in 0..1 + random.below(3) {
+        if out.is_empty() {
+            break;
+        }
+        let at = random.below(out.len());
+        out[at] = match random.below(3) {
+            0 => random.byte(),
+            1 => random.below(16) as u8,
+            _ => out[at] ^ 1 << random.below(8),
+        };
+    }
+    out
+}
+
+/// Another name, event or leaf in a record of kinds 1 to 12.
+fn change_name(records: &mut Records, random: &mut Random) {
+    let named: Vec<usize> =
+        (0..records.len()).filter(|&i| records[i][0] < 13 && records[i].len() > 1).collect();
+    if named.is_empty() {
+        return;
+    }
+    let record = &mut records[named[random.below(named.len())]];
+    let at = 1 + random.below(record.len() - 1);
+    let top = if random.once_in(2) { 4 } else { 34 };
+    record[at] = random.below(top) as u8;
+}
+
+/// Event steps get one of the last events, or the number after them.
+fn events_at_the_bound(records: &mut Records, random: &mut Random) {
+    for record in records.iter_mut().filter(|record| record[0] == 10) {
+        if record.len() == 6 && random.once_in(2) {
+            record[5] = 30 + random.below(3) as u8;
+        }
+    }
+}
+
+fn swap(records: &mut Records, random: &mut Random) {
+    let (a, b) = (random.below(records.len()), random.below(records.len()));
+    if !records.is_empty() {
+        let near = (a + 1) % records.len();
+        let b = if random.once_in(2) { b } else { near };
+        records.swap(a, b);
+    }
+}
+
+fn drop_or_repeat(records: &mut Records, random: &mut Random) {
+    if records.is_empty() {
+        return;
+    }
+    let which = random.below(records.len());
+    if random.once_in(2) {
+        records.remove(which);
+    } else {
+        let again = records[which].clone();
+        records.insert(which, again);
+    }
+}
+
+fn certificates_more_or_fewer(records: &mut Records, random: &mut Random) {
+    let all = certificates(records);
+    if all.is_empty() || random.once_in(2) {
+        records.push(vec![14]);
+    } else {
+        let (start, end) = all[random.below(all.len())];
+        records.drain(start..=end);
+    }
+}
+
+/// First pair and end record of each certificate.
+fn certificates(records: &Records) -> Vec<(usize, usize)> {
+    let mut found = vec![];
+    let mut start = None;
+    for (i, record) in records.iter().enumerate() {
+        match record[0] {
+            13 => start = start.or(Some(i)),
+            14 => found.push((start.take().unwrap_or(i), i)),
+            _ => {}
+        }
+    }
+    found
+}
+
+fn change_certificate(records: &mut Records, random: &mut Random, kind: usize) {
+    let all = certificates(records);
+    if all.is_empty() {
+        return;
+    }
+    let (start, end) = all[random.below(all.len())];
+    if start == end {
+        return;
+    }
+    let which = start + random.below(end - start);
+    match kind {
+        7 => random.shuffle(&mut records[start..end]),
+        8 => random.shuffle(&mut records[start + 1..end]),
+        9 => {
+            records.remove(which);
+        }
+        10 => change_place(&mut records[which], random),
+        11 => change_set(&mut records[which], random),
+        12 | 13 => {
+            // A pair with more right places is as good as the one it is made of.
+            let mut more = records[which].clone();
+            if more.len() == 6 {
+                more[2] |= random.byte() & random.byte();
+            }
+            records.insert(start + 1 + random.below(end - start), more);
+        }
+        _ => {
+            let mut other = records[which].clone();
+            change_place(&mut other, random);
+            change_set(&mut other, random);
+            records.insert(start + 1 + random.below(end - start), other);
+        }
+    }
+}
+
+fn change_place(pair: &mut [u8], random: &mut Random) {
+    if pair.len() == 6 {
+        let top = if random.once_in(8) { 256 } else { 6 };
+        pair[1] = random.below(top) as u8;
+    }
+}
+
+fn change_set(pair: &mut [u8], random: &mut Random) {
+    if pair.len() == 6 {
+        match random.below(5) {
+            0 => pair[5] ^= 0x80,
+            1 => pair[2] &= random.byte(),
+            2 => pair[2..].fill(0),
+            3 => pair[2 + random.below(4)] ^= 1 << random.below(8),
+            _ => pair[2] ^= 1 << random.below(4),
+        }
+    }
+}

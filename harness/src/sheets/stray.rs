@@ -1,0 +1,119 @@
+//! Bytes and records at random, and sheets at or over a limit.
+use super::draft::{Draft, Step};
+use crate::answer::Refusal;
+use crate::random::Random;
+use crate::reference;
+use crate::tree::Tree;
+
+pub const BODY: [usize; 15] = [0, 4, 0, 0, 0, 0, 0, 6, 6, 10, 5, 6, 4, 5, 0];
+
+pub fn bytes(random: &mut Random) -> Vec<u8> {
+    let length = random.below(40);
+    let top = if random.once_in(2) { 256 } else { 16 };
+    (0..length).map(|_| random.below(top) as u8).collect()
+}
+
+/// Records with kinds mostly ascending and names mostly small.
+pub fn records(random: &mut Random) -> Vec<u8> {
+    let mut out = vec![];
+    for _ in 0..random.below(5) {
+        tokens(random, &mut out);
+    }
+    let mut kinds: Vec<u8> = (0..random.below(12)).map(|_| 7 + random.below(8) as u8).collect();
+    kinds.sort_by_key(|kind| [0, 0, 0, 0, 0, 0, 0, 1, 2, 2, 3, 3, 3, 4, 4][*kind as usize]);
+    if random.once_in(6) {
+        random.shuffle(&mut kinds);
+    }
+    for kind in kinds {
+        out.push(kind);
+        for i in 0..BODY[kind as usize] {
+            let top = if random.once_in(40) { 256 } else { 2 };
+            let low = i % 2 == 0;
+            out.push(if low { random.below(top) as u8 } else { 0 });
+        }
+    }
+    if random.once_in(8) {
+        out.truncate(random.below(out.len()));
+    }
+    out
+}
+
+/// A condition record by record, now and then at fault.
+fn tokens(random: &mut Random, out: &mut Vec<u8>) {
+    let mut items = 0;
+    for _ in 0..random.below(12) {
+        let kind = match (items, random.below(40)) {
+            (_, 0) => 1 + random.below(14) as u8,
+            (0 | 1, _) => 1 + random.below(2) as u8,
+            _ => 1 + random.below(5) as u8,
+        };
+        out.push(kind);
+        out.extend((0..BODY[kind as usize]).map(|_| random.byte()));
+        match kind {
+            1 | 2 => items += 1,
+            3 | 4 => items -= 1,
+            _ => {}
+        }
+    }
+    while items > 1 && !random.once_in(30) {
+        out.push(4);
+        items -= 1;
+    }
+    if items > 0 && !random.once_in(30) {
+        out.push(6);
+    }
+}
+
+/// The least sheet that is accepted.
+pub fn least() -> Draft {
+    let mut draft = Draft::default();
+    draft.point(&Tree::Empty, &Tree::Empty, &Tree::Empty);
+    draft.methods.push(vec![0; 5]);
+    draft
+}
+
+/// A sheet at a limit; one over it may have a second fault in that record.
+pub fn at_a_limit(random: &mut Random) -> Vec<u8> {
+    let mut sheet = many(random);
+    if let Err(Refusal { number: 6, place: Some(at) }) = reference::read(&sheet) {
+        if random.once_in(3) {
+            let at = if sheet[at] < 7 { at } else { at + 1 };
+            sheet[at] = 3;
+        }
+    }
+    sheet
+}
+
+/// A sheet with exactly as many of something as is allowed, or one more.
+fn many(random: &mut Random) -> Vec<u8> {
+    let over = random.below(2);
+    let mut draft = least();
+    match random.below(9) {
+        0 => draft.conditions.resize(256 + over, Tree::Empty),
+        1 => draft.conditions.push((0..95 + over).fold(Tree::Empty, |tree, _| tree.star())),
+        2 => draft.conditions.push(row(31 + over)),
+        3 => draft.points.resize(512 + over, [0; 3]),
+        4 => draft.methods.resize(64 + over, vec![0; 3 + 2 * random.below(2)]),
+        5 => draft.steps.resize(512 + over, Step::Pass(0, 0)),
+        6 => draft.steps.resize(512 + over, Step::Call(0, 0, 0)),
+        7 => return long(draft, 65_536 + over),
+        _ => return vec![random.below(8) as u8; 65_536 + over],
+    }
+    draft.certified()
+}
+
+/// As many leaves, one or the other.
+pub fn row(leaves: usize) -> Tree {
+    (1..leaves).fold(Tree::Leaf(u32::MAX), |tree, _| tree.either(Tree::Leaf(u32::MAX)))
+}
+
+/// A sheet with pairs up to a length.
+fn long(draft: Draft, length: usize) -> Vec<u8> {
+    let mut out = draft.certified();
+    out.pop();
+    while out.len() + 7 <= length {
+        out.extend_from_slice(&[13, 0, 1, 0, 0, 0]);
+    }
+    out.resize(length, 14);
+    out
+}

@@ -1,0 +1,83 @@
+//! The stack that one call of a loader uses: the stack below the caller is
+//! painted before the call, and the lowest byte that changed is found after.
+use crate::answer::Doors;
+use crate::sheets;
+use std::hint::black_box;
+use std::thread;
+
+const THREAD: usize = 16 << 20;
+/// Painted bytes.
+const AREA: usize = 8 << 20;
+/// Bytes just below the caller that the painter itself stands on.
+const GAP: usize = 1_024;
+const PAINT: u8 = 0xA5;
+
+/// Prints a table for some loaders.
+pub fn stack(all: &[Doors]) {
+    println!("| call | loader | bytes of stack |");
+    println!("|---|---|---|");
+    let (word_sheet, word) = sheets::long_word();
+    let loads = [
+        ("load, as many rules as fit", sheets::many_rules()),
+        ("load, hostile certificate", sheets::hostile()),
+    ];
+    for &doors in all {
+        for (name, sheet) in &loads {
+            let sheet = sheet.clone();
+            row(name, doors.name, move || {
+                black_box((doors.load)(black_box(&sheet)));
+            });
+        }
+        let (sheet, word) = (word_sheet.clone(), word.clone());
+        row("word test, 4,096 events, 31 leaves", doors.name, move || {
+            black_box((doors.word_test)(black_box(&sheet), 1, black_box(&word)));
+        });
+    }
+}
+
+fn row(call: &str, loader: &str, work: impl Fn() + Send + 'static) {
+    match used(work) {
+        Some(bytes) if bytes <= GAP => println!("| {call} | {loader} | at most {GAP} |"),
+        Some(bytes) => println!("| {call} | {loader} | {bytes} |"),
+        None => println!("| {call} | {loader} | at least {AREA} |"),
+    }
+}
+
+/// The bytes of stack that some work changes, if it stays in the painted area.
+pub fn used(work: impl Fn() + Send + 'static) -> Option<usize> {
+    let thread = thread::Builder::new().stack_size(THREAD);
+    let measured = thread.spawn(move || {
+        work();
+        measure(&work)
+    });
+    measured.expect("a thread starts").join().expect("the work ends")
+}
+
+#[inline(never)]
+fn measure(work: &dyn Fn()) -> Option<usize> {
+    let marker = 0u8;
+    let top = black_box(&marker) as *const u8 as usize;
+    paint(top - AREA, top - GAP);
+    work();
+    lowest_changed(top - AREA, top - GAP).map(|address| top - address)
+}
+
+#[inline(never)]
+fn paint(from: usize, to: usize) {
+    for address in from..to {
+        // This thread's own stack, below every frame in use and above its end.
+        unsafe { (address as *mut u8).write_volatile(PAINT) };
+    }
+}
+
+/// The lowest changed byte, or the top; none if the lowest byte of all changed.
+#[inline(never)]
+fn lowest_changed(from: usize, to: usize) -> Option<usize> {
+    // The same bytes that were painted.
+    let changed = |address: &usize| unsafe { (*address as *const u8).read_volatile() != PAINT };
+    match (from..to).find(changed) {
+        Some(address) if address == from => None,
+        Some(address) => Some(address),
+        None => Some(to),
+    }
+}

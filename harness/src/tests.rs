@@ -1,0 +1,77 @@
+//! The starred cases of the document, and more.
+mod certificates;
+mod reading;
+mod tools;
+
+use crate::answer::Doors;
+use crate::{naive, reference};
+
+const BOTH: [Doors; 2] = [reference::DOORS, naive::DOORS];
+
+fn hex(text: &str) -> Vec<u8> {
+    let digits: Vec<char> = text.chars().filter(|c| !c.is_whitespace()).collect();
+    let byte = |pair: &[char]| u8::from_str_radix(&pair.iter().collect::<String>(), 16).unwrap();
+    digits.chunks(2).map(byte).collect()
+}
+
+/// Both loaders print this line for a sheet.
+fn loads(sheet: &[u8], line: &str) {
+    for doors in BOTH {
+        assert_eq!((doors.load)(sheet).to_string(), line, "{}", doors.name);
+    }
+}
+
+/// Both loaders print this line for a word.
+fn tests(sheet: &[u8], condition: usize, word: &[u8], line: &str) {
+    for doors in BOTH {
+        assert_eq!((doors.word_test)(sheet, condition, word).to_string(), line, "{}", doors.name);
+    }
+}
+
+const POINT: &str = "07 0000 0000 0000";
+const BODY: &str = "09 0000 0000 0000 0000 0000";
+const PAIR: &str = "0D 00 01000000";
+
+/// The sheet M of the document.
+fn least() -> Vec<u8> {
+    let certificate = format!("{PAIR} 0E");
+    hex(&format!("02 06 {POINT} {BODY} {certificate} {certificate} {certificate}"))
+}
+
+#[test]
+fn starred_refusals() {
+    loads(&[], "refused 9 at 0");
+    loads(&hex("0F"), "refused 2 at 0");
+    loads(&hex("01"), "refused 3 at 0");
+    loads(&hex("03"), "refused 5 at 0");
+    loads(&hex("02 06 07 01 00 00 00 00 00"), "refused 7 at 2");
+}
+
+#[test]
+fn starred_least_sheet() {
+    let sheet = least();
+    assert_eq!(sheet.len(), 41);
+    loads(&sheet, "accepted 6");
+    loads(&sheet[..40], "refused 8 at 40");
+}
+
+#[test]
+fn starred_unproved() {
+    let mut sheet = least();
+    sheet.splice(2..2, hex("01 01 00 00 00 06"));
+    // The method stands 6 bytes further on; its second name is the trace.
+    assert_eq!(sheet[15], 9);
+    sheet[18] = 1;
+    loads(&sheet, "unproved rule 5 method 0 clause 3 pair 0 event 0 place 0");
+}
+
+#[test]
+fn starred_words() {
+    let condition = hex("02 01 04 00 00 00 01 FF FF FF FF 05 03 04 06");
+    let sheet = [condition, hex("07 00 00 00 00 00 00"), hex(BODY)].concat();
+    tests(&sheet, 0, &[], "yes");
+    tests(&sheet, 0, &[2], "yes");
+    tests(&sheet, 0, &[2, 0], "yes");
+    tests(&sheet, 0, &[0], "no");
+    tests(&sheet, 0, &[0, 2], "no");
+}
