@@ -1,13 +1,12 @@
 -- What each symbol does to the stack.
 use mathlib.Core.Path.{_≡_, refl, sym, ap, _∙_, subst}
 use mathlib.Core.Bool.{Bool, true, false, cond, _&&_, _||_}
-use mathlib.Core.List.{List, [], _∷_}
+use mathlib.Core.List.{List, _∷_}
 use Prim.Native.Nat.{ℕ, suc, _+_, _-_, _^_, _≤_, _<_}
 use native.Mathlib.Omega.{arith}
 use lib.ListN.{length, getD, set, length-set}
 use lib.Seq.{getD-set-same, getD-set-other}
 use lib.Bits.{bitOr, or-zero-r}
-use Rattle.bits.specs.Bits.{has}
 use Rattle.condition.specs.Condition.{Condition, leaf, empty, join, either, star}
 use Rattle.condition.specs.Places.{leaves, last}
 use Rattle.places.specs.Machine.{ItemIs, RowsAre, Stacked, bottom, above, Roomy, Rows, Pushed, Starred, Merged, Linked}
