@@ -1,6 +1,6 @@
 -- From the stack to the tables of a side, and from these to stepping a word.
 use mathlib.Core.Path.{_≡_, refl, sym, ap, ap₂, _∙_, subst}
-use mathlib.Core.Bool.{Bool, true, false, cond, not, _&&_, _||_, or-false, and-false}
+use mathlib.Core.Bool.{Bool, false, cond, not, _&&_, _||_, or-false, and-false, and-true}
 use mathlib.Core.List.{List, [], _∷_}
 use Prim.Native.Nat.{ℕ, zero, suc, _+_, _^_, _≤_, _<_}
 use native.Mathlib.Omega.{arith}
@@ -56,10 +56,6 @@ module _ {r : Condition} {nulls : Bool} {firsts lasts : ℕ} (i : ItemIs r 0 nul
       has-or lasts (cond nulls 1 0) 0
       ∙ ap₂ (λ (u v : Bool). u || v) (i .last-is 0 ∙ behind-zero (λ k. last r k) (last-zero r) 0 ∙ last-zero r)
       (has-cond nulls 1 0 ∙ ap₂ (λ (u v : Bool). u && v) (i .null-is) (T-true (has 1 0) start-has) ∙ and-true (nullable r))
-    where
-      and-true : (b : Bool) → (b && true) ≡ b
-      and-true true = refl
-      and-true false = refl
   ends-are (suc p) =
       has-or lasts (cond nulls 1 0) (suc p)
       ∙ ap₂ (λ (u v : Bool). u || v) (i .last-is (suc p) ∙ behind-zero (λ k. last r k) (last-zero r) (suc p))
