@@ -1,9 +1,9 @@
 -- The loops over sets and rows, one turn at a time.
-use mathlib.Core.Path.{_≡_, refl, sym, ap, ap₂, _∙_}
-use mathlib.Core.Bool.{Bool, true, false, cond, _&&_, _||_, or-false, and-false}
+use mathlib.Core.Path.{_≡_, sym, ap, ap₂, _∙_}
+use mathlib.Core.Bool.{Bool, false, cond, _&&_, _||_, or-false, and-false, and-true}
 use mathlib.Core.Logic.{_⊎_, inl, inr}
 use mathlib.Core.List.{List}
-use Prim.Native.Nat.{ℕ, suc, _+_, _*_, _%_, _^_, _≤_, _<_, zero-le}
+use Prim.Native.Nat.{ℕ, _+_, _*_, _%_, _^_, _≤_, _<_}
 use native.Mathlib.Omega.{arith}
 use native.Mathlib.Nat.{one-mul, eq-or-lt-of-le, le-of-suc-le-suc}
 use native.Mathlib.Numerals.{add-one}
@@ -96,10 +96,6 @@ module _ {S : List ℕ} {n e found q : ℕ} (h : Holders S n e found q) where
           has-or found more k
           ∙ ap (λ (v : Bool). has found k || v)
           (ap (λ (v : ℕ). has v k) z ∙ has-cond held (2 ^ q) k ∙ ap (λ (v : Bool). held && v) (has-one q k))
-
-      and-true : (b : Bool) → (b && true) ≡ b
-      and-true true = refl
-      and-true false = refl
 
       at : (k : ℕ) → 0 < k → (k ≡ q) ⊎ (k < q) → has (bitOr found more) k ≡ has (getD S k 0) e
       at k a (inl y) =

@@ -1,7 +1,7 @@
 -- Items and rows of each form of condition, from those of its parts.
 use mathlib.Core.Path.{_≡_, refl, sym, ap, ap₂, _∙_}
-use mathlib.Core.Bool.{Bool, true, false, cond, _&&_, _||_, or-false, and-false}
-use mathlib.Core.Logic.{_⊎_, inl, inr, ⊎-elim}
+use mathlib.Core.Bool.{Bool, true, false, cond, _&&_, _||_, or-false, and-false, and-comm}
+use mathlib.Core.Logic.{_⊎_, inl, inr}
 use mathlib.Core.List.{List}
 use Prim.Native.Nat.{ℕ, suc, _+_, _^_, _≤_, _<_}
 use native.Mathlib.Omega.{arith}
@@ -62,12 +62,6 @@ rows-empty b F S = record { follow-is = λ j q h. absurd (omega arith); sets-is 
 
 -- Join and either: items ------------------------------------------------------------------------------------------------
 
-and-flip : (x y : Bool) → (x && y) ≡ (y && x)
-and-flip true true = refl
-and-flip true false = refl
-and-flip false true = refl
-and-flip false false = refl
-
 module _ (a c : Condition) (b : ℕ) {na nc : Bool} {fa la fc lc : ℕ} (i : ItemIs a b na fa la) (j : ItemIs c (b + leaves a) nc fc lc) where
   pub item-join : ItemIs (join a c) b (na && nc) (bitOr fa (cond na fc 0)) (bitOr (cond nc la 0) lc)
   unfolding nullable first last
@@ -82,7 +76,7 @@ module _ (a c : Condition) (b : ℕ) {na nc : Bool} {fa la fc lc : ℕ} (i : Ite
     last-is = λ k.
         has-or (cond nc la 0) lc k
         ∙ ap₂ (λ (x y : Bool). x || y)
-        (has-cond nc la k ∙ ap₂ (λ (x y : Bool). x && y) (j .null-is) (i .last-is k) ∙ and-flip (nullable c) (behind b (λ i. last a i) k)
+        (has-cond nc la k ∙ ap₂ (λ (x y : Bool). x && y) (j .null-is) (i .last-is k) ∙ and-comm (nullable c) (behind b (λ i. last a i) k)
         ∙ behind-map (λ (x : Bool). x && nullable c) refl b (λ i. last a i) k)
         (j .last-is k)
         ∙ behind-beside b (leaves a) (λ i. last a i && nullable c) (λ i. last c i) (λ h. ap (λ (x : Bool). x && nullable c) (last-up a h)) k;

@@ -6,7 +6,7 @@ use mathlib.Core.List.{List, [], _∷_, _++_}
 use Prim.Native.Nat.{ℕ, zero, suc, _+_, _-_, _≤_, _<_}
 use native.Mathlib.Omega.{arith}
 use lib.ListN.{length}
-use Rattle.condition.specs.Condition.{Condition, leaf, empty, join, either, star}
+use Rattle.condition.specs.Condition.{Condition, leaf, empty, join, either}
 use Rattle.condition.specs.Places.{leaves}
 use Rattle.sheet.specs.Record.{Symbol, leaf-symbol, empty-symbol, join-symbol, either-symbol, star-symbol, byteAt, setAt, nextAt, recordAt}
 use Rattle.sheet.specs.Decode.{symbolIn, symbolsOn, symbolsAt, postfix}

@@ -1,21 +1,19 @@
 -- Reading a condition from its records: the items so far, and the symbols to come.
-use mathlib.Core.Path.{_≡_, refl, sym, ap, _∙_, subst}
+use mathlib.Core.Path.{_≡_, refl, ap, subst}
 use mathlib.Core.Bool.{Bool, true, false}
-use mathlib.Core.Option.{Option, none, some}
+use mathlib.Core.Option.{none, some}
 use mathlib.Core.List.{List, [], _∷_, _++_, append-assoc, append-nil}
-use Prim.Native.Nat.{ℕ, zero, suc, _+_, _-_, _≤_, _<_, zero-le}
+use Prim.Native.Nat.{ℕ, zero, suc, _+_, _-_, _≤_, _<_}
 use native.Mathlib.Omega.{arith}
 use lib.ListN.{length, getD, List·getD-eq-default}
 use lib.Dec.{leb}
 use borrow.Author.Tests.{leb-true, leb-false}
 use Rattle.condition.specs.Condition.{Condition, leaf, empty, join, either, star}
 use Rattle.condition.specs.Places.{leaves}
-use Rattle.sheet.specs.Each.{Each, nil, cons}
+use Rattle.sheet.specs.Each.{nil, cons}
 use Rattle.sheet.proofs.Each.{each-getD}
-use Rattle.sheet.specs.Record.{Symbol, leaf-symbol, empty-symbol, join-symbol, either-symbol, star-symbol, Record, byteAt, setAt, bodyLength, nextAt, recordAt, recordsByKind}
-use Rattle.sheet.specs.Decode.{symbolIn, symbolsOn, symbolsAt, postfix}
-use Rattle.places.specs.Tables.{StandsAt}
-use Rattle.places.specs.Machine.{Stacked, Roomy, Rows, Pushed, Starred, Merged}
+use Rattle.sheet.specs.Record.{Symbol, leaf-symbol, empty-symbol, join-symbol, either-symbol, star-symbol, byteAt, setAt, bodyLength, nextAt, recordAt, recordsByKind}
+use Rattle.sheet.specs.Decode.{symbolIn, symbolsOn, postfix}
 
 -- The records of symbols ------------------------------------------------------------------------------------------------
 

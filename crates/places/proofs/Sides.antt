@@ -1,14 +1,14 @@
 -- From the stack to the tables of a side, and from these to stepping a word.
 use mathlib.Core.Path.{_≡_, refl, sym, ap, ap₂, _∙_, subst}
-use mathlib.Core.Bool.{Bool, true, false, cond, not, _&&_, _||_, or-false, and-false}
+use mathlib.Core.Bool.{Bool, false, cond, not, _&&_, _||_, or-false, and-false, and-true}
 use mathlib.Core.List.{List, [], _∷_}
-use Prim.Native.Nat.{ℕ, zero, suc, _+_, _^_, _≤_, _<_, zero-le}
+use Prim.Native.Nat.{ℕ, zero, suc, _+_, _^_, _≤_, _<_}
 use native.Mathlib.Omega.{arith}
 use native.Mathlib.Nat.{le-of-suc-le-suc}
 use native.Mathlib.Numerals.{add-one}
 use lib.ListN.{length, getD, set, take, length-set}
 use lib.Seq.{getD-set-same, getD-set-other, take-all}
-use lib.Dec.{T, eqb}
+use lib.Dec.{eqb}
 use lib.Bits.{bitAnd, bitOr}
 use Rattle.bits.specs.Bits.{has, anyBelow}
 use Rattle.bits.proofs.Tests.{T-true, any-cong}
@@ -56,10 +56,6 @@ module _ {r : Condition} {nulls : Bool} {firsts lasts : ℕ} (i : ItemIs r 0 nul
       has-or lasts (cond nulls 1 0) 0
       ∙ ap₂ (λ (u v : Bool). u || v) (i .last-is 0 ∙ behind-zero (λ k. last r k) (last-zero r) 0 ∙ last-zero r)
       (has-cond nulls 1 0 ∙ ap₂ (λ (u v : Bool). u && v) (i .null-is) (T-true (has 1 0) start-has) ∙ and-true (nullable r))
-    where
-      and-true : (b : Bool) → (b && true) ≡ b
-      and-true true = refl
-      and-true false = refl
   ends-are (suc p) =
       has-or lasts (cond nulls 1 0) (suc p)
       ∙ ap₂ (λ (u v : Bool). u || v) (i .last-is (suc p) ∙ behind-zero (λ k. last r k) (last-zero r) (suc p))

@@ -1,22 +1,17 @@
 -- What each symbol does to the stack.
 use mathlib.Core.Path.{_≡_, refl, sym, ap, _∙_, subst}
 use mathlib.Core.Bool.{Bool, true, false, cond, _&&_, _||_}
-use mathlib.Core.List.{List, [], _∷_}
+use mathlib.Core.List.{List, _∷_}
 use Prim.Native.Nat.{ℕ, suc, _+_, _-_, _^_, _≤_, _<_}
 use native.Mathlib.Omega.{arith}
-use lib.ListN.{length, getD, set, length-set}
+use lib.ListN.{getD, set, length-set}
 use lib.Seq.{getD-set-same, getD-set-other}
 use lib.Bits.{bitOr, or-zero-r}
-use Rattle.bits.specs.Bits.{has}
 use Rattle.condition.specs.Condition.{Condition, leaf, empty, join, either, star}
 use Rattle.condition.specs.Places.{leaves, last}
 use Rattle.places.specs.Machine.{ItemIs, RowsAre, Stacked, bottom, above, Roomy, Rows, Pushed, Starred, Merged, Linked}
 use Rattle.places.proofs.Behind.{behind-low}
 use Rattle.places.proofs.Items.{item-same, rows-same, item-leaf, rows-leaf, item-empty, rows-empty, item-join, rows-join, item-either, rows-either, item-star, rows-star}
-
-pub stack-size : {N : List Bool} {A L F S : List ℕ} {d m : ℕ} {rs : List Condition} → Stacked N A L F S d m rs → d ≡ length rs
-stack-size (bottom e f) = e
-stack-size (above t e f i w) = e ∙ ap suc (stack-size t)
 
 -- Tables that agree at the first d items and the first m leaves ---------------------------------------------------------
 

@@ -1,3 +1,5 @@
+-- `holds_word` meets its contract. The invariant: `places` is the start stepped by the first i events of the word, for each
+-- condition that stands at the offset.
 use Prim.Native.Nat.{ℕ, _-_}
 use mathlib.Core.Path.{_≡_, ap, _∙_}
 use lib.ListN.{length, take, getD}
@@ -38,10 +40,16 @@ gather-requires : tie.Need-gather-requires Inv-loop μ-loop
 gather-requires c κs = search needs
 
 mul-places : tie.Need-mul-places Inv-loop μ-loop
-mul-places c = let h = c .before .before .before .before .before .before .before .before .before .before .before .before .before .before .pre .1 (c .before .before .before .before .before .loop .i) (c .before .before .before .before .loop-test .taken) in let e = c .before .before .index .ensures in search needs
+mul-places c = let g = c .before .before .before .before .before .loop in
+    let h = c .before .before .before .before .before .before .before .before .before .before .before .before .before .before .pre .1 (g .i) (c .before .before .before .before .loop-test .taken) in
+    let e = c .before .before .index .ensures in
+    search needs
 
 array-read-places : tie.Need-array-read-places Inv-loop μ-loop
-array-read-places c = let h = c .before .before .before .before .before .before .before .before .before .before .before .before .before .before .pre .1 (c .before .before .before .before .before .loop .i) (c .before .before .before .before .loop-test .taken) in let e = c .before .before .index .ensures in search needs
+array-read-places c = let g = c .before .before .before .before .before .loop in
+    let h = c .before .before .before .before .before .before .before .before .before .before .before .before .before .before .pre .1 (g .i) (c .before .before .before .before .loop-test .taken) in
+    let e = c .before .before .index .ensures in
+    search needs
 
 add-i : tie.Need-add-i Inv-loop μ-loop
 add-i c = search needs
@@ -52,13 +60,16 @@ loop-less c = search needs
 loop-again : tie.Need-loop-again Inv-loop μ-loop
 loop-again c = let g = c .before .before .before .before .before .loop in
     let held = c .before .before .before .before .before .before .fill-holding in
+    let inside = c .before .before .before .before .loop-test .taken in
+    let start = c .before .before .before .before .before .before .before .before .before .before .before .before .before .before in
     λ r h.
     ap (λ (x : ℕ). bitAnd (c .gather .result) (getD (held .last .1 .1 .1 .0) x 0)) (c .before .before .index .ensures)
-    ∙ word-more (c .before .before .before .before .before .before .before .before .before .side-of .ensures .1 .1 r h) (held .ensures) (c .before .before .before .before .before .before .before .before .before .before .before .before .before .before .args .word .now) (g .i) (g .places) (c .gather .result)
-    (c .before .before .before .before .loop-test .taken) (c .before .before .before .before .before .before .before .before .before .before .before .before .before .before .pre .1 (g .i) (c .before .before .before .before .loop-test .taken)) (g .inv r h) (c .gather .ensures)
+    ∙ word-more (c .before .before .before .before .before .before .before .before .before .side-of .ensures .1 .1 r h) (held .ensures) (start .args .word .now) (g .i) (g .places) (c .gather .result) inside
+    (start .pre .1 (g .i) inside) (g .inv r h) (c .gather .ensures)
 
 returns : tie.Need-returns Inv-loop μ-loop
-returns c = λ r h. word-all (c .before .before .before .before .before .side-of .ensures .1 .1 r h) (c .before .before .before .before .before .before .before .before .before .before .args .word .now) (c .before .loop .i) (c .before .loop .places) (c .loop-test .left) (c .before .loop .inv r h)
+returns c = let g = c .before .loop in
+    λ r h. word-all (c .before .before .before .before .before .side-of .ensures .1 .1 r h) (c .before .before .before .before .before .before .before .before .before .before .args .word .now) (g .i) (g .places) (c .loop-test .left) (g .inv r h)
 
 pub holds-word-spec : {M : Type 1} → statement M
 holds-word-spec =

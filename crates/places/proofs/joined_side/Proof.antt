@@ -1,3 +1,4 @@
+-- `joined_side` meets its contract: two parts on an empty stack, their join, and its item as tables.
 use mathlib.Core.Path.{refl}
 use mathlib.Core.List.{[], _∷_}
 use native.Mathlib.Omega.{arith}

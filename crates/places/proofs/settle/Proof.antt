@@ -1,3 +1,4 @@
+-- `settle` meets its contract.
 use Prim.Native.Nat.{ℕ}
 use mathlib.Core.Path.{refl, ap}
 use lib.Bits.{bitOr}

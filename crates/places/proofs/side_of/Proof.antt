@@ -1,3 +1,4 @@
+-- `side_of` meets its contract: one part on an empty stack, and its item as tables.
 use mathlib.Core.Path.{refl}
 use mathlib.Core.List.{[]}
 use native.Mathlib.Omega.{arith}

@@ -1,3 +1,4 @@
+-- `masks::bit` meets its contract: the shift loses nothing below 64.
 use Rattle.places.proofs.Filling.{one-shifted}
 use borrow.Author.Needs.{needs}
 use Rattle.places.proofs.masks.bit.Statement.{statement}

@@ -1,3 +1,4 @@
+-- `masks::fill_holding` meets its contract. The invariant: the rows below e are filled.
 use Prim.Native.Nat.{_≤_, _-_, zero-le}
 use mathlib.Core.Path.{_≡_, subst}
 use Prim.Native.Nat.{ℕ}

@@ -1,5 +1,6 @@
+-- `masks::gather` meets its contract. The invariant: `found` is the union over the places below p.
 use Prim.Native.Nat.{ℕ, _≤_, _-_, zero-le}
-use mathlib.Core.Path.{_≡_, sym, ap, _∙_}
+use mathlib.Core.Path.{_≡_, ap, _∙_}
 use mathlib.Core.Bool.{Bool, cond, _&&_}
 use lib.ListN.{getD}
 use native.Mathlib.Omega.{arith}

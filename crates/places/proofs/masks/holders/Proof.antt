@@ -1,3 +1,4 @@
+-- `masks::holders` meets its contract. The invariant, `Holders`: `found` has the holders below q, and nothing from q on.
 use Prim.Native.Nat.{ℕ, _-_, _+_}
 use mathlib.Core.Path.{_∙_, ap₂}
 use mathlib.Core.Bool.{Bool, cond}

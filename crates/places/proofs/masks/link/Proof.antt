@@ -1,3 +1,4 @@
+-- `masks::link` meets its contract. The invariant, `Linking`: the rows below p are linked, the others as before.
 use Prim.Native.Nat.{_-_}
 use mathlib.Core.Path.{_∙_, ap}
 use mathlib.Core.Bool.{Bool, cond}

@@ -1,3 +1,4 @@
+-- `masks::member` meets its contract.
 use Rattle.bits.proofs.Masks.{has-test}
 use borrow.Author.Needs.{needs}
 use Rattle.places.proofs.masks.member.Statement.{statement}

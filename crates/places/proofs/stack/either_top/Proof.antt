@@ -1,3 +1,4 @@
+-- `stack::either_top` meets its contract.
 use Rattle.places.proofs.Turns.{room-item, either-top}
 use borrow.Author.Needs.{needs}
 use Rattle.places.proofs.stack.either_top.Statement.{statement}

@@ -1,3 +1,4 @@
+-- `stack::join_top` meets its contract.
 use Rattle.places.proofs.Turns.{room-item, join-top}
 use borrow.Author.Needs.{needs}
 use Rattle.places.proofs.stack.join_top.Statement.{statement}

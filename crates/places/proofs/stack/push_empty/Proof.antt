@@ -1,3 +1,4 @@
+-- `stack::push_empty` meets its contract.
 use Rattle.places.proofs.Turns.{push-empty}
 use borrow.Author.Needs.{needs}
 use Rattle.places.proofs.stack.push_empty.Statement.{statement}

@@ -1,3 +1,4 @@
+-- `stack::push_leaf` meets its contract.
 use Rattle.places.proofs.Turns.{push-leaf}
 use borrow.Author.Needs.{needs}
 use Rattle.places.proofs.stack.push_leaf.Statement.{statement}

@@ -1,3 +1,4 @@
+-- `stack::push_part` meets its contract; an event from 64 on is no part.
 use Prim.Native.Nat.{ℕ}
 use mathlib.Core.Path.{sym, ap, _∙_}
 use native.Mathlib.Omega.{arith}

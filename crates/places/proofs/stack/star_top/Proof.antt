@@ -1,3 +1,4 @@
+-- `stack::star_top` meets its contract.
 use Rattle.places.proofs.Turns.{room-null, star-top}
 use borrow.Author.Needs.{needs}
 use Rattle.places.proofs.stack.star_top.Statement.{statement}
