@@ -117,6 +117,8 @@ module _ (s : List ℕ) (at : ℕ) where
 pub record Stood (s : List ℕ) (at k q : ℕ) : Type 0 where
   pub kind : byteAt s at ≡ k
   pub next : nextAt s at ≡ q
+  pub low : 1 ≤ k
+  pub high : k ≤ 14
   pub inside : q ≤ length s
   pub x : Record
   pub is : recordAt s at ≡ some x
@@ -144,7 +146,7 @@ module _ (s : List ℕ) (at : ℕ) where
         (λ b.
         let (x, is) = a-record (ltb-false (byteAt s at) 1 a) (ltb-false 14 (byteAt s at) b) in
         cond-by P (ltb (length s) (nextAt s at)) (λ c. past-end x is (ltb-true (length s) (nextAt s at) c))
-        (λ c. stands (record { kind = refl; next = refl; inside = ltb-false (length s) (nextAt s at) c; x = x; is = is })))))
+        (λ c. stands (record { kind = refl; next = refl; low = ltb-false (byteAt s at) 1 a; high = ltb-false 14 (byteAt s at) b; inside = ltb-false (length s) (nextAt s at) c; x = x; is = is })))))
 
 pub stood : (s : List ℕ) (at : ℕ) {k q : ℕ} → foundAt s at ≡ found.Record k q → Stood s at k q
 stood s at {k} {q} e =
@@ -154,7 +156,7 @@ stood s at {k} {q} e =
     (λ w e.
     let kind : byteAt s at ≡ k = cc in
     let next : nextAt s at ≡ q = cc in
-    record { kind = kind; next = next; inside = omega (arith, w .inside); x = w .x; is = w .is })
+    record { kind = kind; next = next; low = omega (arith, w .low); high = omega (arith, w .high); inside = omega (arith, w .inside); x = w .x; is = w .is })
     e
 
 -- the record is refused, in whatever state

@@ -10,7 +10,7 @@ tallyOf t =
     record { conditions = t .conditions; points = t .points; methods = t .methods; steps = t .steps; certificates = t .certificates }
 
 -- one more of each fits a machine number
-pub record Room (t : Tally) : Type 0 where
+pub record Room (t : reading.Tally) : Type 0 where
   pub conditions : t .conditions + 1 < 2 ^ 64
   pub points : t .points + 1 < 2 ^ 64
   pub methods : t .methods + 1 < 2 ^ 64

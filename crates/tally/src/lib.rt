@@ -1,6 +1,6 @@
 // The tally of a sheet, which advances record by record.
 ghost use mathlib.Core.Path.{_≡_};
-ghost use Rattle.tally.specs.Tally.{tallyAfter, Room};
+ghost use Rattle.tally.specs.Tally.{tallyOf, tallyAfter, Room};
 
 pub struct Tally {
     pub conditions: usize,
@@ -13,7 +13,7 @@ pub struct Tally {
 impl Tally {
     // The tally past a record of a kind: conditions and certificates count at their end.
     pub fn counted(self, kind: u8) -> Tally
-        requires { ⌜ Room self ⌝ }
+        requires { ⌜ Room (tallyOf self) ⌝ }
         ensures { λ r. ⌜ r ≡ tallyAfter self kind ⌝ }
     {
         let mut next = self;
@@ -46,7 +46,7 @@ impl Tally {
 
 // The same of a tally that is lent.
 pub fn advance(t: &mut Tally, kind: u8)
-    requires { ⌜ Room (now t) ⌝ }
+    requires { ⌜ Room (tallyOf (now t)) ⌝ }
     ensures { λ _. ⌜ now (t .exit) ≡ tallyAfter (now (t .entry)) kind ⌝ }
 {
     *t = Tally::counted(*t, kind);
@@ -54,7 +54,7 @@ pub fn advance(t: &mut Tally, kind: u8)
 
 // By value over the lent update, for callers that hold a tally.
 pub fn past(t: Tally, kind: u8) -> Tally
-    requires { ⌜ Room t ⌝ }
+    requires { ⌜ Room (tallyOf t) ⌝ }
     ensures { λ r. ⌜ r ≡ tallyAfter t kind ⌝ }
 {
     let mut next = t;

@@ -1,0 +1,5 @@
+pub mod Here
+pub mod Order
+pub mod Step
+pub mod Names
+pub mod Alone

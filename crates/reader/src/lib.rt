@@ -1,0 +1,209 @@
+// Reading a sheet: five section readers go over the records, count them, and fill tables with their offsets.
+ghost use mathlib.Core.Path.{_≡_};
+ghost use mathlib.Core.Bool.{_&&_};
+ghost use Prim.Native.Nat.{_≤_, _<_};
+ghost use lib.ListN.{length};
+ghost use lib.Dec.{ltb};
+ghost use Rattle.sheet.specs.Model.{Model};
+ghost use Rattle.sheet.specs.Reading.{named};
+ghost use Rattle.sheet.specs.Record.{byteAt, shortAt, point-record, pointAt, method-record, methodAt, step-record, stepAt};
+ghost use Rattle.tally.specs.Tally.{tallyOf, Room};
+ghost use Rattle.reader.specs.Left.{modelOf, Kept, Told, sectionOfFound};
+use fields::byte_at;
+use fields::index;
+use fields::short_at;
+use records::Found;
+use records::Refusal;
+use records::record_at;
+use tally::Tally;
+use tally::past;
+
+// What an instrument takes.
+struct Limits {
+    bytes: usize,
+    points: usize,
+    events: usize,
+}
+
+// Where a section ends, with the tally there, or the refusal that ends reading.
+enum Section {
+    Done { at: usize, tally: Tally },
+    Refused(Refusal),
+}
+
+// A section that ends with what was found.
+fn section_of(found: Found, tally: Tally) -> Section
+    ensures { λ r. ⌜ r ≡ sectionOfFound found tally ⌝ }
+{
+    match found {
+        Found::Record { kind: _, next } => Section::Done { at: next, tally },
+        Found::Refused(x) => Section::Refused(x),
+    }
+}
+
+fn both(a: bool, b: bool) -> bool
+    ensures { λ r. ⌜ r ≡ (a && b) ⌝ }
+{
+    if a { b } else { false }
+}
+
+// The name at an offset is one of the first n.
+fn below(s: &[u8], i: usize, n: usize) -> bool
+    ensures { λ r. ⌜ r ≡ ltb (shortAt (now (s .entry)) i) n ⌝ }
+{
+    short_at(s, i) < n
+}
+
+// The conditions that a point names exist.
+fn names_of_point(s: &[u8], at: usize, t: Tally) -> bool
+    requires { ⌜ at < length (now s) ⌝ }
+    ensures { λ r. ⌜ r ≡ named 0 (tallyOf t) (point-record (pointAt (now (s .entry)) at)) ⌝ }
+{
+    let n = t.conditions;
+    both(
+        both(below(s, at + 1, n), below(s, at + 3, n)),
+        below(s, at + 5, n),
+    )
+}
+
+// The conditions and the points that a method names exist. A primitive, of kind 8, names no points.
+fn names_of_method(s: &[u8], at: usize, kind: u8, t: Tally) -> bool
+    requires { ⌜ (at < length (now s)) × (byteAt (now s) at ≡ kind) ⌝ }
+    ensures { λ r. ⌜ r ≡ named 0 (tallyOf t) (method-record (methodAt (now (s .entry)) at)) ⌝ }
+{
+    let n = t.conditions;
+    let named = both(
+        both(below(s, at + 1, n), below(s, at + 3, n)),
+        below(s, at + 5, n),
+    );
+    if kind == 8 {
+        return named;
+    }
+    let p = t.points;
+    both(named, both(below(s, at + 7, p), below(s, at + 9, p)))
+}
+
+// The points that a step names exist, and its event or method does.
+fn names_of_step(s: &[u8], at: usize, kind: u8, events: usize, t: Tally) -> bool
+    requires { ⌜ (at < length (now s)) × (byteAt (now s) at ≡ kind) ⌝ }
+    ensures { λ r. ⌜ r ≡ named events (tallyOf t) (step-record (stepAt (now (s .entry)) at)) ⌝ }
+{
+    let p = t.points;
+    let named = both(below(s, at + 1, p), below(s, at + 3, p));
+    if kind == 10 {
+        return both(named, index(byte_at(s, at + 5)) < events);
+    }
+    if kind == 11 {
+        return both(named, below(s, at + 5, t.methods));
+    }
+    named
+}
+
+fn read_points(
+    s: &[u8],
+    limits: Limits,
+    from: usize,
+    given: Tally,
+    table: &mut [usize; 512],
+) -> Section
+    requires { ⌜ (limits .points ≤ 512) × Kept (modelOf limits) (now s) 2 from from given (now table) (now table) ⌝ }
+    ensures { λ r. ⌜ Told (modelOf limits) (now (s .entry)) 2 from (now (table .entry)) (now (table .exit)) r ⌝ }
+{
+    let mut at = from;
+    let mut tally = given;
+    while at < s.len() {
+        let got = record_at(s, at);
+        let Found::Record { kind, next } = got else {
+            return section_of(got, tally);
+        };
+        if kind < 7 {
+            return Section::Refused(Refusal::WrongSection(at));
+        }
+        if 7 < kind {
+            return Section::Done { at, tally };
+        }
+        let n = tally.points;
+        if limits.points <= n {
+            return Section::Refused(Refusal::OverLimit(at));
+        }
+        if !names_of_point(s, at, tally) {
+            return Section::Refused(Refusal::UnknownName(at));
+        }
+        table[n] = at;
+        tally = past(tally, kind);
+        at = next;
+    }
+    Section::Done { at, tally }
+}
+
+fn read_methods(s: &[u8], from: usize, given: Tally, table: &mut [usize; 64]) -> Section
+    requires { ⌜ Room (tallyOf given) ⌝ }
+    ensures { λ r. ⌜ ((M : Model) → Kept M (now (s .entry)) 3 from from given (now (table .entry)) (now (table .entry))
+        → Told M (now (s .entry)) 3 from (now (table .entry)) (now (table .exit)) r) ⌝ }
+{
+    let mut at = from;
+    let mut tally = given;
+    while at < s.len() {
+        let got = record_at(s, at);
+        let Found::Record { kind, next } = got else {
+            return section_of(got, tally);
+        };
+        if kind < 8 {
+            return Section::Refused(Refusal::WrongSection(at));
+        }
+        if 9 < kind {
+            return Section::Done { at, tally };
+        }
+        let n = tally.methods;
+        if 64 <= n {
+            return Section::Refused(Refusal::OverLimit(at));
+        }
+        if !names_of_method(s, at, kind, tally) {
+            return Section::Refused(Refusal::UnknownName(at));
+        }
+        if both(n == 0, kind == 8) {
+            return Section::Refused(Refusal::NoFirstBody(at));
+        }
+        table[n] = at;
+        tally = past(tally, kind);
+        at = next;
+    }
+    Section::Done { at, tally }
+}
+
+fn read_steps(
+    s: &[u8],
+    limits: Limits,
+    from: usize,
+    given: Tally,
+    table: &mut [usize; 512],
+) -> Section
+    requires { ⌜ Kept (modelOf limits) (now s) 4 from from given (now table) (now table) ⌝ }
+    ensures { λ r. ⌜ Told (modelOf limits) (now (s .entry)) 4 from (now (table .entry)) (now (table .exit)) r ⌝ }
+{
+    let mut at = from;
+    let mut tally = given;
+    while at < s.len() {
+        let got = record_at(s, at);
+        let Found::Record { kind, next } = got else {
+            return section_of(got, tally);
+        };
+        if kind < 10 {
+            return Section::Refused(Refusal::WrongSection(at));
+        }
+        if 12 < kind {
+            return Section::Done { at, tally };
+        }
+        let n = tally.steps;
+        if 512 <= n {
+            return Section::Refused(Refusal::OverLimit(at));
+        }
+        if !names_of_step(s, at, kind, limits.events, tally) {
+            return Section::Refused(Refusal::UnknownName(at));
+        }
+        table[n] = at;
+        tally = past(tally, kind);
+        at = next;
+    }
+    Section::Done { at, tally }
+}
