@@ -23,7 +23,7 @@ use Rattle.reader.specs.declared.Section.the-variants.{Refused}
 use Rattle.reader.specs.State.{stateAt, overwritten}
 use Rattle.reader.specs.Left.{put, Kept, Told}
 use Rattle.reader.proofs.Order.{six, seven, nine, takes}
-use Rattle.reader.proofs.Step.{stored, refuses, stands-past}
+use Rattle.reader.proofs.Step.{or-above, none-yet, stored, refuses, stands-past}
 
 -- x stands at an offset, with a kind of section k; the code has counted n of them, of limit at most
 pub record Alone (M : Model) (s : List ℕ) (k at : ℕ) (t : Tally) (kind n limit : ℕ) (x : Record) : Type 0 where
@@ -63,18 +63,18 @@ module _ {M : Model} {s : List ℕ} {k from at : ℕ} {t : Tally} {table₀ tabl
   names-are = ap (λ (y : Counts). named (M .events) y x) (h .between .stands .tally)
 
   pub full : limit ≤ n → Told M s k from table₀ table (Refused (OverLimit at))
-  full e = refuses h (OverLimit at) inside refl (six M s at r x (a .is) whole order free (a .items _) (bounded ∙ le-leb limit n e))
+  full e = refuses from (h .between .stands .here) (h .filled) inside (OverLimit at) refl (six M s at r x (a .is) whole order free (a .items _) (bounded ∙ le-leb limit n e))
 
   module _ (less : n < limit) where
     within : overLimit M r x ≡ false
     within = bounded ∙ lt-leb limit n less
 
     pub unnamed : named (M .events) (tallyOf t) x ≡ false → Told M s k from table₀ table (Refused (UnknownName at))
-    unnamed e = refuses h (UnknownName at) inside refl (seven M s at r x (a .is) whole order free (a .items _) within (names-are ∙ e))
+    unnamed e = refuses from (h .between .stands .here) (h .filled) inside (UnknownName at) refl (seven M s at r x (a .is) whole order free (a .items _) within (names-are ∙ e))
 
     module _ (names : named (M .events) (tallyOf t) x ≡ true) where
       pub primitive-first : firstIsPrimitive (r .offsets) x ≡ true → Told M s k from table₀ table (Refused (NoFirstBody at))
-      primitive-first e = refuses h (NoFirstBody at) inside refl (nine M s at r x (a .is) whole order free (a .items _) within (names-are ∙ names) e)
+      primitive-first e = refuses from (h .between .stands .here) (h .filled) inside (NoFirstBody at) refl (nine M s at r x (a .is) whole order free (a .items _) within (names-are ∙ names) e)
 
       -- the record is taken, and its offset stored behind those that were found
       pub again : {t′ : Tally} → firstIsPrimitive (r .offsets) x ≡ false → t′ ≡ tallyAfter t kind → Kept M s k from q t′ table₀ (set table n at)
@@ -103,13 +103,6 @@ module _ {M : Model} {s : List ℕ} {k from at : ℕ} {t : Tally} {table₀ tabl
           }
 
 -- The three kinds of them ---------------------------------------------------------------------------------------------
-
-or-above : (P : ℕ → Type 0) (n k : ℕ) → n ≤ k → P n → (suc n ≤ k → P k) → P k
-or-above P n k low p more = go (eqb k n) refl
-  where
-    go : (b : Bool) → eqb k n ≡ b → P k
-    go true e = subst P (sym (eqb-true k n e)) p
-    go false e = more (let ne = eqb-false k n e in omega arith)
 
 -- x is the record of the kind k, which is of section j
 abbrev Kind : List ℕ → ℕ → ℕ → Record → ℕ → Type 0
@@ -162,10 +155,6 @@ module _ {M : Model} {s : List ℕ} {at : ℕ} {t : Tally} {kind q : ℕ} (w : S
       }
 
 -- 9 for a first method ------------------------------------------------------------------------------------------------
-
-none-yet : (os : List ℕ) → noneYet os ≡ eqb (length os) 0
-none-yet [] = refl
-none-yet (o ∷ os) = sym (eqb·suc-zero (length os))
 
 is-primitive : (b : Bool) (body : Body) → isPrimitive (cond b none (some body)) ≡ b
 is-primitive true body = refl

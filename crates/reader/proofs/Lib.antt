@@ -3,3 +3,4 @@ pub mod Order
 pub mod Step
 pub mod Names
 pub mod Alone
+pub mod Certs

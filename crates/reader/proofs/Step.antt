@@ -1,16 +1,19 @@
 -- One record of a section: what the code that has tested it may answer, and what it keeps past the record.
 use mathlib.Core.Path.{_≡_, refl, sym, ap, _∙_, subst}
+use mathlib.Core.Bool.{Bool, true, false}
 use mathlib.Core.Option.{some}
 use mathlib.Core.List.{List, [], _∷_, _++_}
 use Prim.Native.Nat.{ℕ, zero, suc, _+_, _-_, _≤_, _<_}
 use native.Mathlib.Omega.{arith, by-contra}
 use lib.ListN.{length, getD, set}
-use lib.Dec.{ltb, lit≤}
+use lib.Dec.{leb, leb→le, eqb, eqb·suc-zero}
+use Rattle.bits.specs.Bits.{allBelow}
+use Rattle.bits.proofs.Tests.{all-out}
+use borrow.Author.Tests.{eqb-true, eqb-false}
 use Rattle.sheet.specs.Model.{Model}
 use Rattle.sheet.specs.Record.{Record, byteAt, sectionOf, nextAt, recordAt}
-use Rattle.sheet.specs.Reading.{Tally as Counts, Offsets, Unended, nothing, Reading, tallyPast, offsetsPast, readingPast, taken, not-taken, takeAt, refusal, readSheet}
+use Rattle.sheet.specs.Reading.{Tally as Counts, Offsets, Unended, nothing, Reading, tallyPast, offsetsPast, readingPast, taken, not-taken, takeAt, noneYet}
 use Rattle.sheet.proofs.Counted.{tallyOf as countsOf, tally-past}
-use Rattle.sheet.proofs.Kind.{Numbered, numbered}
 use Rattle.records.specs.declared.Refusal.{Refusal}
 use Rattle.records.specs.declared.Refusal.the-variants.{WrongSection}
 use Rattle.records.specs.declared.Found.{Found}
@@ -24,56 +27,32 @@ use Rattle.tally.proofs.Laws.{counted-past}
 use Rattle.reader.specs.declared.Section.{Section}
 use Rattle.reader.specs.declared.Section.the-variants.{Done, Refused}
 use Rattle.reader.specs.State.{stateAt, lastState, overwritten}
-use Rattle.reader.specs.Left.{Here, Stands, Between, put, Filled, Kept, Refuses, Told, sectionOfFound}
+use Rattle.reader.specs.Left.{Here, Stands, Between, put, Filled, Kept, Told, sectionOfFound}
 use Rattle.reader.proofs.Here.{ended, refused as refused-here, taken-on}
 use Rattle.reader.proofs.Order.{four-early}
 
 -- Sections by kind ----------------------------------------------------------------------------------------------------
 
--- the section n of the kind i lies on the same side of each border as i
-pub record Borders (i n : ℕ) : Type 0 where
-  pub below-7 : i < 7 → n < 2
-  pub below-8 : i < 8 → n < 3
-  pub below-10 : i < 10 → n < 4
-  pub below-13 : i < 13 → n < 5
-  pub from-7 : 7 ≤ i → i ≤ 14 → 2 ≤ n
-  pub from-8 : 8 ≤ i → i ≤ 14 → 3 ≤ n
-  pub from-10 : 10 ≤ i → i ≤ 14 → 4 ≤ n
-  pub from-13 : 13 ≤ i → i ≤ 14 → 5 ≤ n
+next-kind : (k : ℕ) → k < 14 → sectionOf k ≤ sectionOf (suc k)
+unfolding allBelow
+next-kind k h = leb→le (sectionOf k) (sectionOf (suc k)) (all-out 14 (λ i. leb (sectionOf i) (sectionOf (suc i))) tt k h)
 
-pub borders : (k : ℕ) → Borders k (sectionOf k)
-borders =
-    numbered Borders (0 ∷ 1 ∷ 1 ∷ 1 ∷ 1 ∷ 1 ∷ 1 ∷ 2 ∷ 3 ∷ 3 ∷ 4 ∷ 4 ∷ 4 ∷ 5 ∷ 5 ∷ []) 0 (
-      omega arith,
-      (
-        omega arith,
-        (
-          omega arith,
-          (
-            omega arith,
-            (
-              omega arith,
-              (
-                omega arith,
-                (
-                  omega arith,
-                  (
-                    omega arith,
-                    (
-                      omega arith,
-                      (
-                        omega arith,
-                        (omega arith, (omega arith, (omega arith, (omega arith, (omega arith, λ i. omega arith))))),
-                      ),
-                    ),
-                  ),
-                ),
-              ),
-            ),
-          ),
-        ),
-      ),
-    )
+-- "Sections in order": a higher kind is of no earlier section
+pub in-order : (i j : ℕ) → i ≤ j → j ≤ 14 → sectionOf i ≤ sectionOf j
+in-order i zero h g = let e : i ≡ 0 = omega arith in omega (arith, ap sectionOf e)
+in-order i (suc j) h g = go (eqb i (suc j)) refl (λ less. in-order i j less (omega arith))
+  where
+    go : (b : Bool) → eqb i (suc j) ≡ b → (i ≤ j → sectionOf i ≤ sectionOf j) → sectionOf i ≤ sectionOf (suc j)
+    go true e more = omega (arith, ap sectionOf (eqb-true i (suc j) e))
+    go false e more = let ne = eqb-false i (suc j) e in omega (arith, more (omega arith), next-kind j (omega arith))
+
+-- by the kinds from n on
+pub or-above : (P : ℕ → Type 0) (n k : ℕ) → n ≤ k → P n → (suc n ≤ k → P k) → P k
+or-above P n k low p more = go (eqb k n) refl
+  where
+    go : (b : Bool) → eqb k n ≡ b → P k
+    go true e = subst P (sym (eqb-true k n e)) p
+    go false e = more (let ne = eqb-false k n e in omega arith)
 
 -- Tables --------------------------------------------------------------------------------------------------------------
 
@@ -83,35 +62,46 @@ stored [] (x ∷ table) o = refl
 stored (p ∷ os) [] o = refl
 stored (p ∷ os) (x ∷ table) o = ap (λ (l : List ℕ). p ∷ l) (stored os table o)
 
+pub none-yet : (os : List ℕ) → noneYet os ≡ eqb (length os) 0
+none-yet [] = refl
+none-yet (o ∷ os) = sym (eqb·suc-zero (length os))
+
 -- a section that begins has no offsets yet
 pub begin : {M : Model} {s : List ℕ} {k from : ℕ} {t : Tally} {table : List ℕ} → Between M s k from t → stateAt M s from .offsets ≡ put k (stateAt M s from .offsets) []
     → Kept M s k from from t table table
 begin b e = record { between = b; filled = record { found = []; offsets = e; table = refl } }
 
+-- 4: a record of an earlier section, if one of section k has come before it
+pub early : (M : Model) {s : List ℕ} {k at : ℕ} → (at < length s → stateAt M s at .section < k → k ≤ sectionOf (byteAt s at)) → {kind q : ℕ} → Stood s at kind q → at < length s
+    → sectionOf kind < k → takeAt M s at (stateAt M s at) ≡ not-taken 4
+early M {s} {k} {at} begun w inside low =
+    let same = ap sectionOf (w .kind) in
+    let not-below : k ≤ stateAt M s at .section = by-contra k (stateAt M s at .section) (λ g. omega (arith, begun inside g)) in
+    four-early M s at (stateAt M s at) (w .x) (w .is) (omega (arith, w .next, w .inside)) (omega arith)
+
 -- Answers -------------------------------------------------------------------------------------------------------------
 
-module _ {M : Model} {s : List ℕ} {k from at : ℕ} {t : Tally} {table₀ table : List ℕ} (h : Kept M s k from at t table₀ table) where
-  pub refuses : (y : Refusal) → at < length s → placeOf y ≡ some at → takeAt M s at (stateAt M s at) ≡ not-taken (numberOf y) → Told M s k from table₀ table (Refused y)
-  refuses y inside placed e =
-      let (outcome, last) = refused-here M s at (h .between .stands .here) inside (numberOf y) e in (
-        record { place = at; placed = placed; outcome = outcome },
-        subst (λ (l : Reading). Filled k (stateAt M s from .offsets) (l .offsets) table₀ table) (sym last) (h .filled),
-      )
+-- the record at an offset is refused; section k began at `from`
+module _ {M : Model} {s : List ℕ} {k at : ℕ} {table₀ table : List ℕ} (from : ℕ) (here : Here M s at)
+    (filled : Filled k (stateAt M s from .offsets) (stateAt M s at .offsets) table₀ table) (inside : at < length s) where
+  pub refuses : (y : Refusal) → placeOf y ≡ some at → takeAt M s at (stateAt M s at) ≡ not-taken (numberOf y) → Told M s k from table₀ table (Refused y)
+  refuses y placed e =
+      let (outcome, last) = refused-here M s at here inside (numberOf y) e in
+      let filled′ = subst (λ (l : Reading). Filled k (stateAt M s from .offsets) (l .offsets) table₀ table) (sym last) filled in
+      (record { place = at; placed = placed; outcome = outcome }, filled′)
 
   -- 2 and 3: what the record reader found is the section's answer
-  pub no-record : {g : Found} {y : Refusal} {a : Section} → at < length s → g ≡ foundAt s at → g ≡ found.Refused y → a ≡ sectionOfFound g t
-      → Told M s k from table₀ table a
-  no-record {g} {y} {a} inside is e ans =
+  pub no-record : {g : Found} {y : Refusal} {a : Section} (t : Tally) → g ≡ foundAt s at → g ≡ found.Refused y → a ≡ sectionOfFound g t → Told M s k from table₀ table a
+  no-record {g} {y} {a} t is e ans =
       let (e′, placed) = refused M s at (stateAt M s at) {y = y} (sym is ∙ e) in
-      subst (Told M s k from table₀ table) (sym (ans ∙ ap (λ (f : Found). sectionOfFound f t) e)) (refuses y inside placed e′)
+      subst (Told M s k from table₀ table) (sym (ans ∙ ap (λ (f : Found). sectionOfFound f t) e)) (refuses y placed e′)
 
-  -- 4: a record of an earlier section; one of section k has come before it
-  pub too-early : {kind q : ℕ} → Stood s at kind q → at < length s → sectionOf kind < k → Told M s k from table₀ table (Refused (WrongSection at))
-  too-early w inside low =
-      let same = ap sectionOf (w .kind) in
-      let begun : k ≤ stateAt M s at .section = by-contra k (stateAt M s at .section) (λ g. omega (arith, h .between .begun inside g)) in
-      refuses (WrongSection at) inside refl
-      (four-early M s at (stateAt M s at) (w .x) (w .is) (omega (arith, w .next, w .inside)) (omega arith))
+module _ {M : Model} {s : List ℕ} {k from at : ℕ} {t : Tally} {table₀ table : List ℕ} (h : Kept M s k from at t table₀ table) where
+  -- 4: the kind is n or below, and n is of an earlier section
+  pub too-early : {kind q : ℕ} → Stood s at kind q → at < length s → (n : ℕ) → kind ≤ n → n ≤ 14 → sectionOf n < k → Told M s k from table₀ table (Refused (WrongSection at))
+  too-early {kind} w inside n low high less =
+      refuses from (h .between .stands .here) (h .filled) inside (WrongSection at) refl
+      (early M (h .between .begun) w inside (omega (arith, in-order kind n low high)))
 
   ends : (at < length s → suc k ≤ sectionOf (byteAt s at)) → Told M s k from table₀ table (Done at t)
   ends above =

@@ -2,7 +2,6 @@
 use Prim.Native.Nat.{ℕ, suc, _+_, _≤_, _<_}
 use mathlib.Core.Path.{_≡_}
 use mathlib.Core.Bool.{cond}
-use mathlib.Core.Option.{some}
 use mathlib.Core.List.{List}
 use lib.ListN.{length}
 use lib.Dec.{eqb}
@@ -10,15 +9,17 @@ use Rattle.sheet.specs.Model.{Model}
 use Rattle.sheet.specs.Record.{byteAt, sectionOf}
 use Rattle.sheet.specs.Reading.{Offsets, nothing, refusal, readOn, readSheet}
 use Rattle.sheet.proofs.Counted.{tallyOf as countsOf}
-use Rattle.records.specs.declared.Refusal.{Refusal}
 use Rattle.records.specs.declared.Found.{Found}
 use Rattle.records.specs.declared.Found.the-variants as found
-use Rattle.records.specs.Refusal.{numberOf, placeOf}
 use Rattle.tally.specs.declared.Tally.{Tally}
 use Rattle.tally.specs.Tally.{tallyOf, Room}
 use Rattle.reader.specs.declared.Limits.{Limits}
 use Rattle.reader.specs.declared.Section.{Section}
 use Rattle.reader.specs.declared.Section.the-variants.{Done, Refused}
+use Rattle.reader.specs.declared.Contents.{Contents}
+use Rattle.reader.specs.declared.Read.{Read}
+use Rattle.reader.specs.declared.Read.the-variants as read
+use Rattle.reader.specs.Contract.{Refuses, Answered}
 use Rattle.reader.specs.State.{stateOn, stateAt, lastState, overwritten}
 
 abbrev pub modelOf : Limits → Model
@@ -27,6 +28,10 @@ modelOf l = record { bytes = l .bytes; points = l .points; events = l .events }
 abbrev pub sectionOfFound : Found → Tally → Section
 sectionOfFound (found.Record k next) t = Done next t
 sectionOfFound (found.Refused x) t = Refused x
+
+abbrev pub readOf : Section → Read
+readOf (Done at t) = read.Whole (record { tally = t; certificates = at })
+readOf (Refused x) = read.Refused x
 
 -- reading comes to the offset at: reading on from there gives the whole outcome, and each later state
 pub record Here (M : Model) (s : List ℕ) (at : ℕ) : Type 0 where
@@ -73,13 +78,13 @@ pub record Kept (M : Model) (s : List ℕ) (k from at : ℕ) (t : Tally) (before
   pub between : Between M s k at t
   pub filled : Filled k (stateAt M s from .offsets) (stateAt M s at .offsets) before after
 
--- reading refuses the sheet with x
-pub record Refuses (M : Model) (s : List ℕ) (x : Refusal) : Type 0 where
-  pub place : ℕ
-  pub placed : placeOf x ≡ some place
-  pub outcome : readSheet M s ≡ refusal (numberOf x) place
-
 -- what a reader of section k answers
 abbrev pub Told : Model → List ℕ → ℕ → ℕ → List ℕ → List ℕ → Section → Type 0
 Told M s k from before after (Done at t) = Between M s (suc k) at t × Filled k (stateAt M s from .offsets) (stateAt M s at .offsets) before after
 Told M s k from before after (Refused x) = Refuses M s x × Filled k (stateAt M s from .offsets) (lastState M s .offsets) before after
+
+-- what the reader of certificates answers: reading ends with the offsets that it had before, and those of certificates
+pub record Concluded (M : Model) (s : List ℕ) (from : ℕ) (r : Read) : Type 0 where
+  pub answer : Answered M s r
+  pub found : List ℕ
+  pub offsets : lastState M s .offsets ≡ put 5 (stateAt M s from .offsets) found

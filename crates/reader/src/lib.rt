@@ -1,6 +1,7 @@
 // Reading a sheet: five section readers go over the records, count them, and fill tables with their offsets.
 ghost use mathlib.Core.Path.{_≡_};
 ghost use mathlib.Core.Bool.{_&&_};
+ghost use mathlib.Core.List.{[]};
 ghost use Prim.Native.Nat.{_≤_, _<_};
 ghost use lib.ListN.{length};
 ghost use lib.Dec.{ltb};
@@ -8,7 +9,8 @@ ghost use Rattle.sheet.specs.Model.{Model};
 ghost use Rattle.sheet.specs.Reading.{named};
 ghost use Rattle.sheet.specs.Record.{byteAt, shortAt, point-record, pointAt, method-record, methodAt, step-record, stepAt};
 ghost use Rattle.tally.specs.Tally.{tallyOf, Room};
-ghost use Rattle.reader.specs.Left.{modelOf, Kept, Told, sectionOfFound};
+ghost use Rattle.reader.specs.State.{stateAt};
+ghost use Rattle.reader.specs.Left.{modelOf, sectionOfFound, readOf, Between, Kept, Told, Concluded};
 use fields::byte_at;
 use fields::index;
 use fields::short_at;
@@ -17,6 +19,17 @@ use records::Refusal;
 use records::record_at;
 use tally::Tally;
 use tally::past;
+
+// What a sheet that is read whole has: its tally, and the offset where its first certificate starts (its length, if it has none).
+pub struct Contents {
+    pub tally: Tally,
+    pub certificates: usize,
+}
+
+pub enum Read {
+    Whole(Contents),
+    Refused(Refusal),
+}
 
 // What an instrument takes.
 struct Limits {
@@ -38,6 +51,19 @@ fn section_of(found: Found, tally: Tally) -> Section
     match found {
         Found::Record { kind: _, next } => Section::Done { at: next, tally },
         Found::Refused(x) => Section::Refused(x),
+    }
+}
+
+// A sheet that ends with a section.
+fn read_of(section: Section) -> Read
+    ensures { λ r. ⌜ r ≡ readOf section ⌝ }
+{
+    match section {
+        Section::Done { at, tally } => Read::Whole(Contents {
+            tally,
+            certificates: at,
+        }),
+        Section::Refused(x) => Read::Refused(x),
     }
 }
 
@@ -206,4 +232,37 @@ fn read_steps(
         at = next;
     }
     Section::Done { at, tally }
+}
+
+// The last section, and the end of the sheet.
+fn read_certificates(s: &[u8], from: usize, given: Tally) -> Read
+    requires { ⌜ Room (tallyOf given) × (given .certificates ≤ from) ⌝ }
+    ensures { λ r. ⌜ ((M : Model) → Between M (now (s .entry)) 5 from given → stateAt M (now (s .entry)) from .offsets .certificates ≡ []
+        → Concluded M (now (s .entry)) from r) ⌝ }
+{
+    let mut at = from;
+    let mut tally = given;
+    let mut inside = false;
+    while at < s.len() {
+        let got = record_at(s, at);
+        let Found::Record { kind, next } = got else {
+            return read_of(section_of(got, tally));
+        };
+        if kind < 13 {
+            return Read::Refused(Refusal::WrongSection(at));
+        }
+        inside = kind == 13;
+        tally = past(tally, kind);
+        at = next;
+    }
+    if inside {
+        return Read::Refused(Refusal::Unfinished(s.len()));
+    }
+    if tally.methods == 0 {
+        return Read::Refused(Refusal::NoFirstBody(s.len()));
+    }
+    Read::Whole(Contents {
+        tally,
+        certificates: from,
+    })
 }

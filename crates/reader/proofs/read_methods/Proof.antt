@@ -2,6 +2,7 @@ use mathlib.Core.Path.{_≡_, refl, sym, ap, _∙_}
 use Prim.Native.Nat.{_-_}
 use native.Mathlib.Omega.{arith}
 use lib.ListN.{length}
+use lib.Dec.{lit≤}
 use borrow.Author.Needs.{needs}
 use borrow.Author.Tests.{not-true, not-false}
 use Rattle.sheet.specs.Model.{Model, large}
@@ -9,7 +10,7 @@ use Rattle.sheet.proofs.Fields.{next-lt}
 use Rattle.records.proofs.Laws.{Stood, stood}
 use Rattle.tally.specs.Tally.{tallyOf, Room}
 use Rattle.reader.specs.Left.{modelOf, Kept}
-use Rattle.reader.proofs.Step.{borders, no-record, too-early, later-section, no-more}
+use Rattle.reader.proofs.Step.{in-order, no-record, too-early, later-section, no-more}
 use Rattle.reader.proofs.Alone.{a-method, full, unnamed, room-past, first-is, primitive-first, again}
 use Rattle.reader.proofs.read_methods.Statement.{statement}
 use Rattle.reader.proofs.read_methods.Tie as tie
@@ -40,13 +41,13 @@ section-of-requires : tie.Need-section-of-requires Inv-loop μ-loop
 section-of-requires c κs = search needs
 
 returns : tie.Need-returns Inv-loop μ-loop
-returns c = λ M h. no-record (c .before .before .before .before .before .loop .inv .1 M h) (c .before .before .before .before .loop-test .taken) (c .before .before .before .record-at .ensures) (c .before .enum-told .given .1) (c .section-of .ensures)
+returns c = λ M h. let k = c .before .before .before .before .before .loop .inv .1 M h in no-record _ (k .between .stands .here) (k .filled) (c .before .before .before .before .loop-test .taken) (c .before .before .before .before .before .loop .tally) (c .before .before .before .record-at .ensures) (c .before .enum-told .given .1) (c .section-of .ensures)
 
 returns-2 : tie.Need-returns-2 Inv-loop μ-loop
-returns-2 c = λ M h. too-early (c .before .before .before .before .before .before .loop .inv .1 M h) (standing (c .before)) (c .before .before .before .before .before .loop-test .taken) (borders _ .below-8 (c .if1 .taken))
+returns-2 c = λ M h. too-early (c .before .before .before .before .before .before .loop .inv .1 M h) (standing (c .before)) (c .before .before .before .before .before .loop-test .taken) 7 (omega arith) (lit≤ tt) (lit≤ tt)
 
 returns-3 : tie.Need-returns-3 Inv-loop μ-loop
-returns-3 c = λ M h. let w = standing (c .before .before) in later-section (c .before .before .before .before .before .before .before .loop .inv .1 M h) w (borders _ .from-10 (c .if2 .taken) (w .high))
+returns-3 c = λ M h. let w = standing (c .before .before) in later-section (c .before .before .before .before .before .before .before .loop .inv .1 M h) w (in-order 10 _ (c .if2 .taken) (w .high))
 
 returns-4 : tie.Need-returns-4 Inv-loop μ-loop
 returns-4 c = λ M h. full (c .before .before .before .before .before .before .before .before .loop .inv .1 M h) (standing (c .before .before .before)) (c .before .before .before .before .before .before .before .loop-test .taken) (a-method (standing (c .before .before .before)) (c .before .before .if1 .left) (c .before .if2 .left)) (c .if3 .taken)

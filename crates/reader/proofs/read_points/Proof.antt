@@ -6,10 +6,11 @@ use borrow.Author.Tests.{not-true, not-false}
 use Rattle.sheet.specs.Reading.{Offsets}
 use Rattle.sheet.proofs.Fields.{next-lt}
 use Rattle.records.proofs.Laws.{Stood, stood}
-use Rattle.reader.proofs.Step.{borders, begin, no-record, too-early, later-section, no-more}
+use Rattle.reader.proofs.Step.{in-order, begin, no-record, too-early, later-section, no-more}
 use Rattle.reader.proofs.Alone.{a-point, full, unnamed, again}
 use Prim.Native.Nat.{_-_}
 use lib.ListN.{length}
+use lib.Dec.{lit≤}
 use borrow.Author.Needs.{needs}
 use Rattle.reader.specs.Left.{modelOf, put, Kept}
 use Rattle.reader.specs.State.{stateAt}
@@ -42,13 +43,13 @@ section-of-requires : tie.Need-section-of-requires Inv-loop μ-loop
 section-of-requires c κs = search needs
 
 returns : tie.Need-returns Inv-loop μ-loop
-returns c = no-record (c .before .before .before .before .before .loop .inv) (c .before .before .before .before .loop-test .taken) (c .before .before .before .record-at .ensures) (c .before .enum-told .given .1) (c .section-of .ensures)
+returns c = let k = c .before .before .before .before .before .loop .inv in no-record _ (k .between .stands .here) (k .filled) (c .before .before .before .before .loop-test .taken) (c .before .before .before .before .before .loop .tally) (c .before .before .before .record-at .ensures) (c .before .enum-told .given .1) (c .section-of .ensures)
 
 returns-2 : tie.Need-returns-2 Inv-loop μ-loop
-returns-2 c = too-early (c .before .before .before .before .before .before .loop .inv) (standing (c .before)) (c .before .before .before .before .before .loop-test .taken) (borders _ .below-7 (c .if1 .taken))
+returns-2 c = too-early (c .before .before .before .before .before .before .loop .inv) (standing (c .before)) (c .before .before .before .before .before .loop-test .taken) 6 (omega arith) (lit≤ tt) (lit≤ tt)
 
 returns-3 : tie.Need-returns-3 Inv-loop μ-loop
-returns-3 c = let w = standing (c .before .before) in later-section (c .before .before .before .before .before .before .before .loop .inv) w (borders _ .from-8 (c .if2 .taken) (w .high))
+returns-3 c = let w = standing (c .before .before) in later-section (c .before .before .before .before .before .before .before .loop .inv) w (in-order 8 _ (c .if2 .taken) (w .high))
 
 returns-4 : tie.Need-returns-4 Inv-loop μ-loop
 returns-4 c = full (c .before .before .before .before .before .before .before .before .before .loop .inv) (standing (c .before .before .before .before)) (c .before .before .before .before .before .before .before .before .loop-test .taken) (a-point (standing (c .before .before .before .before)) (c .before .before .before .before .before .before .before .before .before .before .before .pre .0) (c .before .before .before .if1 .left) (c .before .before .if2 .left)) (c .if3 .taken)
