@@ -4,3 +4,4 @@ pub mod Step
 pub mod Names
 pub mod Alone
 pub mod Certs
+pub mod Begin

@@ -10,6 +10,7 @@ ghost use Rattle.sheet.specs.Reading.{named};
 ghost use Rattle.sheet.specs.Record.{byteAt, shortAt, point-record, pointAt, method-record, methodAt, step-record, stepAt};
 ghost use Rattle.tally.specs.Tally.{tallyOf, Room};
 ghost use Rattle.reader.specs.State.{stateAt};
+ghost use Rattle.reader.specs.Step.{nothingCounted, nothingBegun, itemsTaken, leavesIn, Modest, symbolStep, endStep, conditionStep, sectionPast};
 ghost use Rattle.reader.specs.Left.{modelOf, sectionOfFound, readOf, Between, Kept, Told, Concluded};
 use fields::byte_at;
 use fields::index;
@@ -64,6 +65,18 @@ fn read_of(section: Section) -> Read
             certificates: at,
         }),
         Section::Refused(x) => Read::Refused(x),
+    }
+}
+
+fn nothing_counted() -> Tally
+    ensures { λ r. ⌜ r ≡ nothingCounted ⌝ }
+{
+    Tally {
+        conditions: 0,
+        points: 0,
+        methods: 0,
+        steps: 0,
+        certificates: 0,
     }
 }
 
@@ -123,6 +136,140 @@ fn names_of_step(s: &[u8], at: usize, kind: u8, events: usize, t: Tally) -> bool
         return both(named, below(s, at + 5, t.methods));
     }
     named
+}
+
+// What is begun of a condition: its items, its records of kinds 1 to 5 and its leaves so far.
+struct Begun {
+    items: usize,
+    symbols: usize,
+    leaves: usize,
+}
+
+// What is begun past a record, or the record's refusal.
+enum Stepped {
+    On(Begun),
+    Refused(Refusal),
+}
+
+fn nothing_begun() -> Begun
+    ensures { λ r. ⌜ r ≡ nothingBegun ⌝ }
+{
+    Begun {
+        items: 0,
+        symbols: 0,
+        leaves: 0,
+    }
+}
+
+// How many items a record of kinds 1 to 5 takes: JOIN and EITHER two, STAR one.
+fn items_taken(kind: u8) -> usize
+    ensures { λ r. ⌜ r ≡ itemsTaken kind ⌝ }
+{
+    if kind < 3 {
+        0
+    } else if kind < 5 {
+        2
+    } else {
+        1
+    }
+}
+
+fn leaves_in(kind: u8) -> usize
+    ensures { λ r. ⌜ r ≡ leavesIn kind ⌝ }
+{
+    if kind == 1 { 1 } else { 0 }
+}
+
+// A record of kinds 1 to 5.
+fn symbol_step(b: Begun, kind: u8, at: usize) -> Stepped
+    requires { ⌜ Modest b ⌝ }
+    ensures { λ r. ⌜ r ≡ symbolStep b kind at ⌝ }
+{
+    let taken = items_taken(kind);
+    if b.items < taken {
+        return Stepped::Refused(Refusal::WrongItems(at));
+    }
+    if 96 <= b.symbols {
+        return Stepped::Refused(Refusal::OverLimit(at));
+    }
+    if both(kind == 1, 31 <= b.leaves) {
+        return Stepped::Refused(Refusal::OverLimit(at));
+    }
+    Stepped::On(Begun {
+        items: b.items - taken + 1,
+        symbols: b.symbols + 1,
+        leaves: b.leaves + leaves_in(kind),
+    })
+}
+
+// The end of a condition, where n conditions have ended before.
+fn end_step(b: Begun, n: usize, at: usize) -> Stepped
+    ensures { λ r. ⌜ r ≡ endStep b n at ⌝ }
+{
+    if b.items == 1 {
+        if 256 <= n {
+            return Stepped::Refused(Refusal::OverLimit(at));
+        }
+        return Stepped::On(nothing_begun());
+    }
+    Stepped::Refused(Refusal::WrongItems(at))
+}
+
+fn condition_step(b: Begun, kind: u8, n: usize, at: usize) -> Stepped
+    requires { ⌜ Modest b ⌝ }
+    ensures { λ r. ⌜ r ≡ conditionStep b kind n at ⌝ }
+{
+    if kind < 6 {
+        return symbol_step(b, kind, at);
+    }
+    end_step(b, n, at)
+}
+
+// A section that ends with a step.
+fn section_past(stepped: Stepped, at: usize, tally: Tally) -> Section
+    ensures { λ r. ⌜ r ≡ sectionPast stepped at tally ⌝ }
+{
+    match stepped {
+        Stepped::On(_) => Section::Done { at, tally },
+        Stepped::Refused(x) => Section::Refused(x),
+    }
+}
+
+fn read_conditions(s: &[u8], table: &mut [usize; 256]) -> Section
+    ensures { λ r. ⌜ ((M : Model) → length (now (s .entry)) ≤ M .bytes → Told M (now (s .entry)) 1 0 (now (table .entry)) (now (table .exit)) r) ⌝ }
+{
+    let mut at: usize = 0;
+    let mut start: usize = 0;
+    let mut begun = nothing_begun();
+    let mut tally = nothing_counted();
+    while at < s.len() {
+        let got = record_at(s, at);
+        let Found::Record { kind, next } = got else {
+            return section_of(got, tally);
+        };
+        if 6 < kind {
+            if 0 < begun.symbols {
+                return Section::Refused(Refusal::WrongSection(at));
+            }
+            return Section::Done { at, tally };
+        }
+        let n = tally.conditions;
+        let stepped = condition_step(begun, kind, n, at);
+        let Stepped::On(more) = stepped else {
+            return section_past(stepped, at, tally);
+        };
+        tally = past(tally, kind);
+        begun = more;
+        if kind == 6 {
+            table[n] = start;
+            start = next;
+        }
+        at = next;
+    }
+    if 0 < begun.symbols {
+        return Section::Refused(Refusal::Unfinished(s.len()));
+    }
+    Section::Done { at, tally }
 }
 
 fn read_points(
