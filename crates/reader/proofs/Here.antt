@@ -6,7 +6,7 @@ use Prim.Native.Nat.{ℕ, zero, suc, _+_, _≤_, _<_}
 use native.Mathlib.Omega.{arith}
 use lib.ListN.{length}
 use lib.Dec.{leb, ltb}
-use borrow.Author.Tests.{le-leb, lt-leb, le-ltb}
+use borrow.Author.Tests.{le-leb, lt-leb, lt-ltb, le-ltb}
 use Rattle.sheet.specs.Model.{Model}
 use Rattle.sheet.specs.Record.{nextAt}
 use Rattle.sheet.specs.Reading.{Reading, fresh, Taken, taken, not-taken, takeAt, refusal, atEnd, readOn, readFrom, readSheet}
@@ -43,6 +43,12 @@ last-is M s h = simp (le-ltb (M .bytes) (length s) h)
 read-is : (M : Model) (s : List ℕ) → length s ≤ M .bytes → readSheet M s ≡ readOn M s (length s) 0 fresh
 unfolding readSheet
 read-is M s h = left.from-is M s fresh ∙ simp (le-ltb (M .bytes) (length s) h)
+
+-- 1: nothing is read
+pub too-long : (M : Model) (s : List ℕ) → M .bytes < length s → (readSheet M s ≡ refusal 1 (M .bytes)) × (lastState M s ≡ fresh)
+unfolding readSheet lastState
+too-long M s h =
+    (left.from-is M s fresh ∙ simp (lt-ltb (M .bytes) (length s) h), simp (lt-ltb (M .bytes) (length s) h))
 
 -- the state at the offset 0
 pub start-is : (M : Model) (s : List ℕ) → stateAt M s 0 ≡ fresh

@@ -5,3 +5,4 @@ pub mod Names
 pub mod Alone
 pub mod Certs
 pub mod Begin
+pub mod Whole

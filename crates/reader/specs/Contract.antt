@@ -5,7 +5,7 @@ use mathlib.Core.Option.{some}
 use mathlib.Core.List.{List}
 use lib.ListN.{length, getD}
 use Rattle.sheet.specs.Model.{Model}
-use Rattle.sheet.specs.Reading.{whole, refusal, readSheet}
+use Rattle.sheet.specs.Reading.{Offsets, whole, refusal, readSheet}
 use Rattle.records.specs.declared.Refusal.{Refusal}
 use Rattle.records.specs.Refusal.{numberOf, placeOf}
 use Rattle.tally.specs.Tally.{tallyOf}
@@ -29,3 +29,15 @@ pub record Takes (M : Model) (s : List ℕ) (c : Contents) : Type 0 where
 abbrev pub Answered : Model → List ℕ → Read → Type 0
 Answered M s (Whole c) = Takes M s c
 Answered M s (Refused x) = Refuses M s x
+
+-- each of the four tables, before and after: the offsets f are written over its front
+pub record Tables (conditions₀ conditions₁ points₀ points₁ methods₀ methods₁ steps₀ steps₁ : List ℕ) (f : Offsets) : Type 0 where
+  pub conditions : conditions₁ ≡ overwritten (f .conditions) conditions₀
+  pub points : points₁ ≡ overwritten (f .points) points₀
+  pub methods : methods₁ ≡ overwritten (f .methods) methods₀
+  pub steps : steps₁ ≡ overwritten (f .steps) steps₀
+
+-- the answer r, and the tables as reading leaves them, also where it refuses the sheet
+pub record Reads (M : Model) (s : List ℕ) (r : Read) (conditions₀ conditions₁ points₀ points₁ methods₀ methods₁ steps₀ steps₁ : List ℕ) : Type 0 where
+  pub answer : Answered M s r
+  pub tables : Tables conditions₀ conditions₁ points₀ points₁ methods₀ methods₁ steps₀ steps₁ (lastState M s .offsets)

@@ -5,10 +5,11 @@ ghost use mathlib.Core.List.{[]};
 ghost use Prim.Native.Nat.{_≤_, _<_};
 ghost use lib.ListN.{length};
 ghost use lib.Dec.{ltb};
-ghost use Rattle.sheet.specs.Model.{Model};
+ghost use Rattle.sheet.specs.Model.{Model, large};
 ghost use Rattle.sheet.specs.Reading.{named};
 ghost use Rattle.sheet.specs.Record.{byteAt, shortAt, point-record, pointAt, method-record, methodAt, step-record, stepAt};
 ghost use Rattle.tally.specs.Tally.{tallyOf, Room};
+ghost use Rattle.reader.specs.Contract.{Reads};
 ghost use Rattle.reader.specs.State.{stateAt};
 ghost use Rattle.reader.specs.Step.{nothingCounted, nothingBegun, itemsTaken, leavesIn, Modest, symbolStep, endStep, conditionStep, sectionPast};
 ghost use Rattle.reader.specs.Left.{modelOf, sectionOfFound, readOf, Between, Kept, Told, Concluded};
@@ -412,4 +413,59 @@ fn read_certificates(s: &[u8], from: usize, given: Tally) -> Read
         tally,
         certificates: from,
     })
+}
+
+// The sheet, by the limits of an instrument.
+fn read_with(
+    s: &[u8],
+    limits: Limits,
+    conditions: &mut [usize; 256],
+    points: &mut [usize; 512],
+    methods: &mut [usize; 64],
+    steps: &mut [usize; 512],
+) -> Read
+    requires { ⌜ limits .points ≤ 512 ⌝ }
+    ensures { λ r. ⌜ Reads (modelOf limits) (now (s .entry)) r (now (conditions .entry)) (now (conditions .exit)) (now (points .entry)) (now (points .exit))
+        (now (methods .entry)) (now (methods .exit)) (now (steps .entry)) (now (steps .exit)) ⌝ }
+{
+    if limits.bytes < s.len() {
+        return Read::Refused(Refusal::TooLong(limits.bytes));
+    }
+    let first = read_conditions(s, conditions);
+    let Section::Done { at: a, tally: t } = first else {
+        return read_of(first);
+    };
+    let second = read_points(s, limits, a, t, points);
+    let Section::Done { at: b, tally: u } = second else {
+        return read_of(second);
+    };
+    let third = read_methods(s, b, u, methods);
+    let Section::Done { at: d, tally: v } = third else {
+        return read_of(third);
+    };
+    let fourth = read_steps(s, limits, d, v, steps);
+    let Section::Done { at: e, tally: w } = fourth else {
+        return read_of(fourth);
+    };
+    read_certificates(s, e, w)
+}
+
+// The sheet, as the large instrument takes it: whole, or the first refusal of 1 to 9. Each table ends with the offsets of what was read in
+// its front, also of a sheet that is refused.
+pub fn read_sheet(
+    s: &[u8],
+    conditions: &mut [usize; 256],
+    points: &mut [usize; 512],
+    methods: &mut [usize; 64],
+    steps: &mut [usize; 512],
+) -> Read
+    ensures { λ r. ⌜ Reads large (now (s .entry)) r (now (conditions .entry)) (now (conditions .exit)) (now (points .entry)) (now (points .exit))
+        (now (methods .entry)) (now (methods .exit)) (now (steps .entry)) (now (steps .exit)) ⌝ }
+{
+    let limits = Limits {
+        bytes: 65536,
+        points: 512,
+        events: 32,
+    };
+    read_with(s, limits, conditions, points, methods, steps)
 }
