@@ -6,13 +6,13 @@ use mathlib.Core.List.{List, [], _∷_}
 use Prim.Native.Nat.{ℕ, zero, suc, _+_, _-_, _≤_, _<_}
 use native.Mathlib.Omega.{arith}
 use lib.ListN.{length, getD}
-use lib.Dec.{ltb, leb, lit≤}
+use lib.Dec.{ltb, leb}
 use borrow.Author.Tests.{ltb-true, ltb-false, leb-true, leb-false, lt-ltb, le-ltb}
 use Rattle.sheet.specs.Model.{Model}
 use Rattle.sheet.specs.Record.{Record, byteAt, bodyLength, nextAt, recordsByKind, recordAt}
 use Rattle.sheet.specs.Reading.{Reading, refusalOf, not-taken, takenBy, takeAt}
 use Rattle.sheet.proofs.Fields.{next-is}
-use Rattle.sheet.proofs.Kind.{Numbered, numbered, kind-is, kind-above}
+use Rattle.sheet.proofs.Kind.{numbered, kind-is, kind-above}
 use Rattle.sheet.proofs.Take.{take-is}
 use Rattle.fields.proofs.Laws.{byte-past}
 use Rattle.records.specs.declared.Refusal.{Refusal}
@@ -45,52 +45,21 @@ next-by s at (suc j) e h =
     ap (λ (i : ℕ). at + 1 + getD bodies i 0) one ∙ (ap (λ (k : ℕ). at + 1 + bodyLength k) (sym e) ∙ sym (next-is s at))
 
 body-le : (k : ℕ) → bodyLength k ≤ 10
-body-le =
-    numbered (λ k n. n ≤ 10) (0 ∷ bodies) 0
-    (lit≤ tt, (lit≤ tt, (lit≤ tt, (lit≤ tt, (lit≤ tt, (lit≤ tt, (lit≤ tt, (lit≤ tt, (lit≤ tt, (lit≤ tt, (lit≤ tt, (lit≤ tt, (lit≤ tt, (lit≤ tt, (lit≤ tt, λ i. lit≤ tt)))))))))))))))
+body-le = numbered (λ k n. n ≤ 10) (0 ∷ bodies) 0 (omega arith)
 
 pub next-le : (s : List ℕ) (at : ℕ) → nextAt s at ≤ at + 11
 next-le s at = omega (arith, next-is s at, body-le (byteAt s at))
 
 -- kinds 1 to 14 have a record
-abbrev IsRecord : Option Record → Type 0
-IsRecord none = ⊥
-IsRecord (some x) = Unit {0}
+abbrev Known : ℕ → Option Record → Type 0
+Known k none = 1 ≤ k → k ≤ 14 → ⊥
+Known k (some x) = Unit {0}
 
 module _ (s : List ℕ) (at : ℕ) where
-  known : (k : ℕ) → 1 ≤ k → k ≤ 14 → IsRecord (getD (recordsByKind s at) k none)
+  known : (k : ℕ) → Known k (getD (recordsByKind s at) k none)
   known =
-      numbered (λ k o. 1 ≤ k → k ≤ 14 → IsRecord o) (recordsByKind s at) none (
-        λ h g. omega arith,
-        (
-          λ h g. tt,
-          (
-            λ h g. tt,
-            (
-              λ h g. tt,
-              (
-                λ h g. tt,
-                (
-                  λ h g. tt,
-                  (
-                    λ h g. tt,
-                    (
-                      λ h g. tt,
-                      (
-                        λ h g. tt,
-                        (
-                          λ h g. tt,
-                          (λ h g. tt, (λ h g. tt, (λ h g. tt, (λ h g. tt, (λ h g. tt, λ i h g. omega arith))))),
-                        ),
-                      ),
-                    ),
-                  ),
-                ),
-              ),
-            ),
-          ),
-        ),
-      )
+      numbered Known (recordsByKind s at) none
+      (omega arith, (tt, (tt, (tt, (tt, (tt, (tt, (tt, (tt, (tt, (tt, (tt, (tt, (tt, (tt, λ i. omega arith)))))))))))))))
 
   found-is : foundAt s at ≡ cond (ltb (byteAt s at) 1) (found.Refused (UnknownKind at))
       (cond (ltb 14 (byteAt s at)) (found.Refused (UnknownKind at))
@@ -117,18 +86,20 @@ module _ (s : List ℕ) (at : ℕ) where
 pub record Stood (s : List ℕ) (at k q : ℕ) : Type 0 where
   pub kind : byteAt s at ≡ k
   pub next : nextAt s at ≡ q
+  pub low : 1 ≤ k
+  pub high : k ≤ 14
   pub inside : q ≤ length s
   pub x : Record
   pub is : recordAt s at ≡ some x
 
-there : (o : Option Record) → IsRecord o → (x : Record) × (o ≡ some x)
-there none h = absurd h
-there (some x) h = (x, refl)
+there : (k : ℕ) → 1 ≤ k → k ≤ 14 → (o : Option Record) → Known k o → (x : Record) × (o ≡ some x)
+there k low high none h = absurd (h low high)
+there k low high (some x) h = (x, refl)
 
 module _ (s : List ℕ) (at : ℕ) where
   a-record : 1 ≤ byteAt s at → byteAt s at ≤ 14 → (x : Record) × (recordAt s at ≡ some x)
   a-record low high =
-      let (x, e) = there (getD (recordsByKind s at) (byteAt s at) none) (known s at (byteAt s at) low high) in
+      let (x, e) = there (byteAt s at) low high (getD (recordsByKind s at) (byteAt s at) none) (known s at (byteAt s at)) in
       (x, kind-is s at (byteAt s at) refl ∙ e)
 
   -- by the tests that `foundAt` makes
@@ -144,7 +115,7 @@ module _ (s : List ℕ) (at : ℕ) where
         (λ b.
         let (x, is) = a-record (ltb-false (byteAt s at) 1 a) (ltb-false 14 (byteAt s at) b) in
         cond-by P (ltb (length s) (nextAt s at)) (λ c. past-end x is (ltb-true (length s) (nextAt s at) c))
-        (λ c. stands (record { kind = refl; next = refl; inside = ltb-false (length s) (nextAt s at) c; x = x; is = is })))))
+        (λ c. stands (record { kind = refl; next = refl; low = ltb-false (byteAt s at) 1 a; high = ltb-false 14 (byteAt s at) b; inside = ltb-false (length s) (nextAt s at) c; x = x; is = is })))))
 
 pub stood : (s : List ℕ) (at : ℕ) {k q : ℕ} → foundAt s at ≡ found.Record k q → Stood s at k q
 stood s at {k} {q} e =
@@ -154,7 +125,7 @@ stood s at {k} {q} e =
     (λ w e.
     let kind : byteAt s at ≡ k = cc in
     let next : nextAt s at ≡ q = cc in
-    record { kind = kind; next = next; inside = omega (arith, w .inside); x = w .x; is = w .is })
+    record { kind = kind; next = next; low = omega (arith, w .low); high = omega (arith, w .high); inside = omega (arith, w .inside); x = w .x; is = w .is })
     e
 
 -- the record is refused, in whatever state

@@ -23,7 +23,7 @@ tallyOf f =
 pub one-more : (os : List ℕ) (o : ℕ) → length (os ++ (o ∷ [])) ≡ suc (length os)
 one-more os o = omega (arith, length-append os (o ∷ []))
 
-tally-past : (f : Offsets) (start at : ℕ) (x : Record) → tallyPast (tallyOf f) x ≡ tallyOf (offsetsPast f start at x)
+pub tally-past : (f : Offsets) (start at : ℕ) (x : Record) → tallyPast (tallyOf f) x ≡ tallyOf (offsetsPast f start at x)
 tally-past f start at (symbol-record y) = refl
 tally-past f start at end-of-condition = rw (one-more (f .conditions) start)
 tally-past f start at (point-record p) = rw (one-more (f .points) at)

@@ -1,0 +1,15 @@
+use borrow.Author.Tests.{le-ltb, lt-ltb}
+use Rattle.reader.proofs.items_taken.Statement.{statement}
+use Rattle.reader.proofs.items_taken.Tie as tie
+
+returns : tie.Need-returns
+returns c = simp (lt-ltb _ _ (c .if1 .taken))
+
+returns-2 : tie.Need-returns-2
+returns-2 c = simp (le-ltb _ _ (c .before .if1 .left), lt-ltb _ _ (c .if2 .taken))
+
+returns-3 : tie.Need-returns-3
+returns-3 c = simp (le-ltb _ _ (c .before .if1 .left), le-ltb _ _ (c .if2 .left))
+
+pub items-taken-spec : {M : Type 1} → statement M
+items-taken-spec = tie.close (tie.spec returns returns-2 returns-3)

@@ -1,0 +1,4 @@
+pub mod State
+pub mod Contract
+pub mod Left
+pub mod Step
