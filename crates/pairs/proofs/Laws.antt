@@ -123,6 +123,16 @@ module _ (s : List ℕ) (at : ℕ) where
       go true e = let k = a-pair-is (eqb-true (byteAt s at) 13 e) in (eqb-true (byteAt s at) 13 e, ap₂ (λ (l t : ℕ). pair l t) (cc) (cc), cc)
       go false e = let k = the-end-is (eqb-false (byteAt s at) 13 e) in let z : _≡_ {A = ℕ} 0 1 = cc in absurd (omega arith)
 
+-- the certificate where a reader finds a pair, and where it finds the end
+pub certificate-pair : (s : List ℕ) (at place set next : ℕ) → pairFound s at ≡ At place set next
+    → certificateAt s at ≡ pair place set ∷ certificateAt s next
+certificate-pair s at place set next h =
+    let (k, e, n) = found-pair s at place set next h in
+    certificate-more s at k ∙ ap₂ (λ (p : Pair) (o : ℕ). p ∷ certificateAt s o) e (sym n)
+
+pub certificate-none : (s : List ℕ) (at : ℕ) → pairFound s at ≡ End → certificateAt s at ≡ []
+certificate-none s at h = certificate-end s at (found-end s at h)
+
 -- Reading on from the start of a certificate ----------------------------------------------------------------------------
 
 -- After j pairs of the certificate at `from` the reader stands at the offset `at`.
@@ -151,17 +161,17 @@ drop-more c j p d e =
 module _ (s : List ℕ) (from j at : ℕ) (r : Reached s from j at) where
   pub reached-next : (place set next : ℕ) → pairFound s at ≡ At place set next → Onward s from j at place set next
   reached-next place set next h =
-      let (k, e, n) = found-pair s at place set next h in
-      let (l, f, g) = drop-more (certificateAt s from) j (pairAt s at) (certificateAt s (at + 6)) (r .rest ∙ certificate-more s at k) in
+      let (k, _, n) = found-pair s at place set next h in
+      let (l, f, g) = drop-more (certificateAt s from) j (pair place set) (certificateAt s next) (r .rest ∙ certificate-pair s at place set next h) in
       record {
         inside-sheet = inside s at k;
         ahead = omega arith;
         more = l;
-        pair-is = f ∙ e;
-        reached = record { few = l; offset = omega (arith, r .offset); rest = g ∙ ap (λ (o : ℕ). certificateAt s o) (sym n) };
+        pair-is = f;
+        reached = record { few = l; offset = omega (arith, r .offset); rest = g };
       }
 
   pub reached-end : pairFound s at ≡ End → j ≡ length (certificateAt s from)
   reached-end h =
-      let e = r .rest ∙ certificate-end s at (found-end s at h) in
+      let e = r .rest ∙ certificate-none s at h in
       omega (arith, r .few, ap length e, length-drop j (certificateAt s from))
