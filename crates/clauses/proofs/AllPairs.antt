@@ -1,7 +1,7 @@
 -- Clause 1, and then the pairs in order.
 use mathlib.Core.Path.{_≡_, refl, sym, ap, ap₂, _∙_}
-use mathlib.Core.Bool.{Bool, true, false, _&&_}
-use mathlib.Core.List.{List, [], _∷_}
+use mathlib.Core.Bool.{Bool, false, _&&_}
+use mathlib.Core.List.{List}
 use Prim.Native.Nat.{ℕ, _+_, _<_}
 use native.Mathlib.Numerals.{add-one}
 use lib.ListN.{length}
@@ -16,7 +16,7 @@ use Rattle.pairs.specs.declared.Pair.the-variants.{At as PairAt, End}
 use Rattle.pairs.proofs.Laws.{certificate-pair, certificate-none}
 use Rattle.clauses.specs.Clauses.{findingOf, eachPair}
 use Rattle.clauses.specs.declared.Fault.{Fault}
-use Rattle.clauses.specs.declared.Fault.the-variants.{None, At}
+use Rattle.clauses.specs.declared.Fault.the-variants.{At}
 
 -- Tests in order --------------------------------------------------------------------------------------------------------
 

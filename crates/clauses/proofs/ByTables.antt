@@ -14,14 +14,14 @@ use Rattle.bits.proofs.Sets.{has-lt, set-in}
 use Rattle.bits.proofs.Masks.{has-and, bits-ext}
 use Rattle.bits.proofs.Bitwise.{lt-has}
 use Rattle.condition.specs.Condition.{Condition}
-use Rattle.condition.specs.Places.{leaves, places, leafSet, leafHolds, follows, ends, step, someEnds}
+use Rattle.condition.specs.Places.{leaves, places, leafHolds, follows, ends, step, someEnds}
 use Rattle.condition.proofs.Beside.{follows-leaf}
 use Rattle.condition.proofs.Steps.{step-mask, ends-mask}
-use Rattle.certificate.specs.Certificate.{Pair, pair, Certificate, pairOf, Finding, fine, fault, _then_, inOrder, unless, onlyPlaces, within, listed, clause4At, pairFinding}
+use Rattle.certificate.specs.Certificate.{pair, Certificate, pairOf, Finding, fault, _then_, inOrder, unless, onlyPlaces, within, listed, clause4At, pairFinding}
 use Rattle.certificate.proofs.Findings.{inOrder-cong}
 use Rattle.places.specs.Tables.{Tables}
 use Rattle.places.specs.declared.Side.{Side}
-use Rattle.clauses.specs.Clauses.{PlacesOf, rowHas, gathered, allHold, serving, serves, servedBy, unlistedAt}
+use Rattle.clauses.specs.Clauses.{PlacesOf, rowHas, gathered, allHold, serving, servedBy, unlistedAt}
 
 and-cong : (a b d : Bool) → (T a → b ≡ d) → (a && b) ≡ (a && d)
 and-cong true b d h = h tt

@@ -1,7 +1,6 @@
 -- The first fault of clause 4: the lowest event that is missing at some place, and the lowest place that misses it.
-use mathlib.Core.Path.{_≡_, refl, sym, ap, ap₂, _∙_}
-use mathlib.Core.Bool.{Bool, true, false, cond, not, _&&_}
-use mathlib.Core.Logic.{⊎-elim}
+use mathlib.Core.Path.{_≡_, refl, sym, ap, _∙_}
+use mathlib.Core.Bool.{Bool, true, false, not, _&&_}
 use mathlib.Core.List.{List}
 use Prim.Native.Nat.{ℕ, _≤_, _<_}
 use native.Mathlib.Omega.{arith}
@@ -12,7 +11,7 @@ use borrow.Author.Tests.{lt-ltb, ltb-true, ltb-false}
 use Rattle.bits.specs.Bits.{_⇒_, has, anyBelow}
 use Rattle.bits.proofs.Tests.{T-true, any-in, any-out, any-cong}
 use Rattle.bits.proofs.Masks.{has-and, has-cond}
-use Rattle.certificate.specs.Certificate.{Certificate, Finding, fine, fault, inOrder, unless}
+use Rattle.certificate.specs.Certificate.{Certificate, fine, fault, inOrder, unless}
 use Rattle.certificate.proofs.Findings.{Fine, fine-is, unless-in, inOrder-in, inOrder-stops, inOrder-cong}
 use Rattle.clauses.specs.Clauses.{rowHas, gathered, Lowest, servedBy, Wanted, Unserved, missingAt, unlistedAt}
 

@@ -1,14 +1,12 @@
 -- What the pairs of a certificate leave of the events that are missing.
-use mathlib.Core.Path.{_≡_, refl, sym, ap, ap₂, _∙_}
-use mathlib.Core.Bool.{Bool, true, false, cond, not, _&&_, _||_}
+use mathlib.Core.Path.{_≡_, refl, sym, ap, _∙_}
+use mathlib.Core.Bool.{Bool, true, false, cond, not, _&&_, _||_, and-true, or-false}
 use mathlib.Core.List.{List}
-use Prim.Native.Nat.{ℕ, suc, _+_, _*_, _^_, _≤_, _<_, zero-le}
-use native.Mathlib.Nat.{eq-or-lt-of-le, le-of-suc-le-suc}
-use native.Mathlib.Numerals.{add-one}
+use Prim.Native.Nat.{ℕ, suc, _+_, _≤_, _<_}
 use native.Mathlib.Omega.{arith}
 use lib.ListN.{length, getD, set, length-set}
 use lib.Seq.{getD-set-same, getD-set-other}
-use lib.Dec.{T, eqb}
+use lib.Dec.{eqb}
 use lib.Bits.{bitAnd, bitXor}
 use borrow.Author.Count.{below-more}
 use borrow.Author.Tests.{eq-eqb, ne-eqb, eqb-true, eqb-false}
@@ -22,24 +20,16 @@ use Rattle.clauses.specs.Clauses.{rowHas, allHold, serving, serves, serv
 
 -- One set ---------------------------------------------------------------------------------------------------------------
 
-and-true : (a : Bool) → a ≡ (a && true)
-and-true true = refl
-and-true false = refl
-
 and-hit : (a b h r : Bool) → h ≡ true → (a && b && r) ≡ (a && (b && (h ⇒ r)))
 and-hit true b h r e = rw e
 and-hit false b h r e = refl
 
 and-miss : (a b h r : Bool) → h ≡ false → (a && b) ≡ (a && (b && (h ⇒ r)))
-and-miss a b h r e = rw e (ap (λ (x : Bool). a && x) (and-true b))
+and-miss a b h r e = rw e (ap (λ (x : Bool). a && x) (sym (and-true b)))
 
 and-but : (a w b : Bool) → w ≡ true → (a && not (a && b)) ≡ (a && not (w && b))
 and-but true w b e = rw e
 and-but false w b e = refl
-
-or-false : (a : Bool) → a ≡ (a || false)
-or-false true = refl
-or-false false = refl
 
 not-or : (a b d : Bool) → (a && not b && not d) ≡ (a && not (b || d))
 not-or true true d = refl
@@ -53,7 +43,7 @@ module _ (sets : List ℕ) (missing set : ℕ) where
 
   pub held-all : Held 0 missing
   unfolding allBelow
-  held-all = record { held = λ e. and-true (has missing e) }
+  held-all = record { held = λ e. sym (and-true (has missing e)) }
 
   pub held-hit : {k served : ℕ} {b : Bool} → Held k served → b ≡ has set k → b ≡ true → Held (k + 1) (bitAnd served (getD sets k 0))
   held-hit {k} {served} h e t = record {
@@ -82,7 +72,7 @@ module _ (sets : List ℕ) (missing set : ℕ) where
 
   pub leaves-all : (m onward : ℕ) → (bitAnd set onward ≡ set → ⊥) → Leaves m onward missing
   leaves-all m onward n e =
-      and-true (has missing e)
+      sym (and-true (has missing e))
       ∙ ap (λ (x : Bool). has missing e && not (x && allHold m sets set e)) (sym (ne-eqb (bitAnd set onward) set n))
 
   pub leaves-some : (m onward : ℕ) {served : ℕ} → bitAnd set onward ≡ set → Held m served → Leaves m onward (bitXor missing served)
@@ -113,7 +103,7 @@ module _ (followers : ℕ) (sets : List ℕ) (mask : ℕ) where
 module _ (c : Certificate) (m onward : ℕ) (sets rows : List ℕ) where
   pub unserved-none : length rows ≡ 64 → Unserved c m onward sets 0 rows rows
   unfolding anyBelow
-  unserved-none l = record { long = l; row = λ q e h. and-true (rowHas rows q e) }
+  unserved-none l = record { long = l; row = λ q e h. sym (and-true (rowHas rows q e)) }
 
   -- a pair more, of a place off the table
   pub unserved-far : {j : ℕ} {left : List ℕ} {place t : ℕ} → Unserved c m onward sets j rows left → pairOf c j ≡ pair place t → 64 ≤ place
@@ -124,7 +114,7 @@ module _ (c : Certificate) (m onward : ℕ) (sets rows : List ℕ) where
     row = λ q e h.
         u .row q e h
         ∙ ap (λ (x : Bool). rowHas rows q e && not x)
-        (or-false (servedBy c m onward sets j q e)
+        (sym (or-false (servedBy c m onward sets j q e))
         ∙ ap (λ (x : Bool). servedBy c m onward sets j q e || x)
         (sym (ap (λ (y : Pair). serves m onward sets q e y) p ∙ ap (λ (b : Bool). b && serving m onward sets t e) (ne-eqb place q (λ (z : place ≡ q). omega arith)))));
   }
@@ -154,5 +144,5 @@ module _ (c : Certificate) (m onward : ℕ) (sets rows : List ℕ) where
           ap (λ (v : ℕ). has v e) (getD-set-other left place q x 0 (λ (y : q ≡ place). eqb-false place q z (sym y)))
           ∙ u .row q e h
           ∙ ap (λ (v : Bool). rowHas rows q e && not v)
-          (or-false (servedBy c m onward sets j q e)
+          (sym (or-false (servedBy c m onward sets j q e))
           ∙ ap (λ (v : Bool). servedBy c m onward sets j q e || v) (sym (pair-is q e ∙ ap (λ (b : Bool). b && serving m onward sets t e) z)))

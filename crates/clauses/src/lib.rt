@@ -1,13 +1,13 @@
 // The clauses of a certificate: its first fault, found in the sheet's own bytes with the tables of the two sides.
 ghost use mathlib.Core.Path.{_≡_};
-ghost use Prim.Native.Nat.{ℕ, _+_, _≤_, _<_, _^_};
+ghost use Prim.Native.Nat.{_+_, _≤_, _<_, _^_};
 ghost use mathlib.Core.Bool.{not, _&&_};
 ghost use lib.Dec.{eqb, ltb};
 ghost use lib.Bits.{bitAnd};
 ghost use lib.ListN.{length};
 ghost use Rattle.bits.specs.Bits.{has, _⇒_};
 ghost use Rattle.condition.specs.Condition.{Condition};
-ghost use Rattle.certificate.specs.Certificate.{pair, fault, pairFinding, inOrder, pairOf, check};
+ghost use Rattle.certificate.specs.Certificate.{pair, fault, pairFinding, inOrder, check};
 ghost use Rattle.sheet.specs.Decode.{certificateAt};
 ghost use Rattle.places.specs.Tables.{Tables};
 ghost use Rattle.clauses.specs.Clauses.{findingOf, eachPair, PlacesOf};

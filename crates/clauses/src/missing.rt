@@ -1,9 +1,8 @@
 // Clause 4 of a pair: the events that are missing at each follower of its place, until a pair of that follower serves them.
 ghost use mathlib.Core.Path.{_≡_};
-ghost use mathlib.Core.Bool.{cond, not, _&&_};
+ghost use mathlib.Core.Bool.{not, _&&_};
 ghost use Prim.Native.Nat.{ℕ, _≤_, _<_};
-ghost use lib.ListN.{length, getD};
-ghost use lib.Bits.{bitAnd};
+ghost use lib.ListN.{length};
 ghost use Rattle.bits.specs.Bits.{has};
 ghost use Rattle.certificate.specs.Certificate.{inOrder};
 ghost use Rattle.sheet.specs.Decode.{certificateAt};

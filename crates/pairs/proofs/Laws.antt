@@ -1,21 +1,19 @@
 -- The pairs of a certificate, one after another.
 use mathlib.Core.Path.{_≡_, refl, sym, ap, ap₂, _∙_}
-use mathlib.Core.Bool.{Bool, true, false, cond, _||_}
+use mathlib.Core.Bool.{Bool, true, false, _||_}
 use mathlib.Core.Logic.{⊎-elim}
 use mathlib.Core.Option.{Option, none, some}
 use mathlib.Core.List.{List, [], _∷_}
-use Prim.Native.Nat.{ℕ, zero, suc, _+_, _-_, _*_, _≤_, _<_, zero-le, suc-le-suc}
-use native.Mathlib.Nat.{le-of-suc-le-suc, not-suc-le-zero}
-use native.Mathlib.Numerals.{add-one}
+use Prim.Native.Nat.{ℕ, zero, suc, _+_, _-_, _*_, _≤_, _<_, zero-le}
 use native.Mathlib.Omega.{arith}
 use lib.Dec.{T, eqb, ltb, eqb→eq}
 use lib.ListN.{length, drop, getD, length-drop, List·getD-eq-default}
 use lib.Seq.{drop-cons}
-use borrow.Author.Tests.{eq-eqb, ne-eqb, eqb-true, eqb-false, ltb-true, ltb-false}
+use borrow.Author.Tests.{ne-eqb, eqb-true, eqb-false, ltb-true, ltb-false}
 use Rattle.bits.specs.Bits.{allBelow}
 use Rattle.bits.proofs.Tests.{or-out, all-out}
 use Rattle.certificate.specs.Certificate.{Pair, pair, Certificate, pairOf}
-use Rattle.sheet.specs.Record.{Record, pair-record, byteAt, setAt, pairAt, nextAt, bodyLength, recordAt, recordsByKind}
+use Rattle.sheet.specs.Record.{Record, byteAt, setAt, pairAt, nextAt, bodyLength, recordAt, recordsByKind}
 use Rattle.sheet.specs.Decode.{inFront, pairIn, pairsOn, certificateAt}
 use Rattle.fields.proofs.Laws.{byte-past}
 use Rattle.pairs.specs.Found.{pairFound}

@@ -1,6 +1,6 @@
--- `pairs::next_pair` meets its contract: a walk of its MIR, by hand. The struct is taken apart, and `pair_at` is called on the slice and the number. All that the proof knows of `pair_at` is that it meets its contract.
--- The struct is Copy: what it owns is had twice, one copy is kept whole for the exit, and of the other what pairs owns goes to the callee, beside the lifetime's token, which comes back.
--- Assumes nothing.
+-- `pairs::next_pair` meets its contract: a walk of its MIR, by hand. The struct is taken apart, and `pair_at` is called on the slice and the
+-- offset; all that the proof knows of `pair_at` is its contract. The struct is Copy: what it owns is had twice. One copy is kept whole for the
+-- exit; of the other, what `pairs` owns goes to the callee, beside the lifetime's token, which comes back.
 use mathlib.Core.Path.{_≡_, refl}
 use Prim.Native.Nat.{_<_, _^_}
 use mathlib.Core.List.{[], _∷_}
