@@ -151,17 +151,23 @@ module _ (events : ℕ) (l g : Condition) (left right : Side) (lfollow lsets rfo
   test3-is : test3 ≡ (ends l place ⇒ someEnds g set)
   test3-is = ap₂ (λ (x y : Bool). x ⇒ y) (tl .ends-is place) (ends-mask g set (right .ends) (tg .ends-is))
 
-  pair-is : (v : Finding) → v ≡ inOrder events (λ e. clause4At events l g c i (pair place set) e)
-      → (unless test2 (fault 2 i 0 0) then unless test3 (fault 3 i 0 0) then v) ≡ pairFinding events l g c i (pair place set)
+  abbrev clause4 : Finding
+  clause4 = inOrder events (λ e. clause4At events l g c i (pair place set) e)
+
+  -- clauses 2 to 4 by their tests, and by what clause 4 finds
+  abbrev inTurn : Bool → Bool → Finding → Finding
+  inTurn a b v = unless a (fault 2 i 0 0) then unless b (fault 3 i 0 0) then v
+
+  pair-is : (a b : Bool) (v : Finding) → test2 ≡ a → test3 ≡ b → v ≡ clause4 → inTurn a b v ≡ pairFinding events l g c i (pair place set)
   unfolding pairFinding
-  pair-is v e = rw (test2-is, test3-is, e)
+  pair-is a b v x y z = rw (← x, ← y, test2-is, test3-is, z)
 
   -- a fault of clause 2, and of clause 3
   pub at-clause2 : test2 ≡ false → fault 2 i 0 0 ≡ pairFinding events l g c i (pair place set)
-  at-clause2 f = ap (λ (b : Bool). unless b (fault 2 i 0 0) then unless test3 (fault 3 i 0 0) then inOrder events (λ e. clause4At events l g c i (pair place set) e)) (sym f) ∙ pair-is _ refl
+  at-clause2 f = pair-is false test3 clause4 f refl refl
 
   pub at-clause3 : test2 ≡ true → test3 ≡ false → fault 3 i 0 0 ≡ pairFinding events l g c i (pair place set)
-  at-clause3 t f = ap₂ (λ (a b : Bool). unless a (fault 2 i 0 0) then unless b (fault 3 i 0 0) then inOrder events (λ e. clause4At events l g c i (pair place set) e)) (sym t) (sym f) ∙ pair-is _ refl
+  at-clause3 t f = pair-is true false clause4 t f refl
 
   -- clause 4, with the followers of the place and `onward`, those of the set
   module _ (onward : ℕ) (onward-is : (q : ℕ) → has onward q ≡ gathered rfollow m set q) (t : test2 ≡ true) where
@@ -176,15 +182,20 @@ module _ (events : ℕ) (l g : Condition) (left right : Side) (lfollow lsets rfo
         ∙ and-cong (follows l place q) (rowHas lsets q e) (leafHolds l q e)
         (λ f. let (a, b) = follows-leaf l place q f in leaf-row l left lfollow lsets tl q e a b)
 
-    event-is : (e : ℕ) → unlistedAt c n i (getD lfollow place 0) lsets m onward rsets e ≡ clause4At events l g c i (pair place set) e
+    -- clause 4 at the event e, by the tables
+    abbrev unlisted : ℕ → Finding
+    unlisted e = unlistedAt c n i (getD lfollow place 0) lsets m onward rsets e
+
+    abbrev test4 : ℕ → ℕ → Bool
+    test4 e q = (rowHas lfollow place q && rowHas lsets q e) ⇒ servedBy c m onward rsets (length c) q e
+
+    event-is : (e : ℕ) → unlisted e ≡ clause4At events l g c i (pair place set) e
     unfolding clause4At
     event-is e =
-        ap (λ (k : ℕ). inOrder k (λ q. unless ((rowHas lfollow place q && rowHas lsets q e) ⇒ servedBy c m onward rsets (length c) q e) (fault 4 i e q))) (places-are l left lfollow lsets tl n n-is)
+        ap (λ (k : ℕ). inOrder k (λ q. unless (test4 e q) (fault 4 i e q))) (places-are l left lfollow lsets tl n n-is)
         ∙ inOrder-cong (places l) _ _
-        (λ q _. ap₂ (λ (x y : Bool). unless (x ⇒ y) (fault 4 i e q)) (wanted-is e q) (listed-is g right rfollow rsets tg m m-is set onward onward-is e c q))
+        (λ q _. ap₂ (λ (x y : Bool). unless (x ⇒ y) (fault 4 i e q)) (wanted-is e q)
+        (listed-is g right rfollow rsets tg m m-is set onward onward-is e c q))
 
-    pub at-clause4 : test3 ≡ true
-        → inOrder events (unlistedAt c n i (getD lfollow place 0) lsets m onward rsets) ≡ pairFinding events l g c i (pair place set)
-    at-clause4 u =
-        ap₂ (λ (a b : Bool). unless a (fault 2 i 0 0) then unless b (fault 3 i 0 0) then inOrder events (unlistedAt c n i (getD lfollow place 0) lsets m onward rsets)) (sym t) (sym u)
-        ∙ pair-is (inOrder events (unlistedAt c n i (getD lfollow place 0) lsets m onward rsets)) (inOrder-cong events _ _ (λ e _. event-is e))
+    pub at-clause4 : test3 ≡ true → inOrder events unlisted ≡ pairFinding events l g c i (pair place set)
+    at-clause4 u = pair-is true true (inOrder events unlisted) t u (inOrder-cong events _ _ (λ e _. event-is e))

@@ -15,6 +15,8 @@ use fields::index;
 use pairs::Pair;
 use pairs::pair_from;
 use places::Side;
+use places::masks::gather;
+use places::masks::member;
 
 pub mod missing;
 pub mod sets;
@@ -28,6 +30,14 @@ pub enum Fault {
         event: usize,
         place: usize,
     },
+}
+
+// An inclusion that a certificate is to show: where it stands, over how many events, and the two sides.
+pub struct Inclusion {
+    pub from: usize,
+    pub events: usize,
+    pub left: Side,
+    pub right: Side,
 }
 
 // A fault of clauses 1 to 3.
@@ -63,7 +73,7 @@ pub fn ends_too(lends: u64, rends: u64, place: usize, set: u64) -> bool
     requires { ⌜ place < 64 ⌝ }
     ensures { λ r. ⌜ r ≡ (has lends place ⇒ not (eqb (bitAnd set rends) 0)) ⌝ }
 {
-    if sets::member(lends, place) {
+    if member(lends, place) {
         set & rends != 0
     } else {
         true
@@ -73,29 +83,30 @@ pub fn ends_too(lends: u64, rends: u64, place: usize, set: u64) -> bool
 // Clauses 2 to 4 of one pair.
 pub fn pair_fault(
     s: &[u8],
-    from: usize,
+    t: Inclusion,
     i: usize,
     place: usize,
     set: u64,
-    events: usize,
-    left: Side,
     lfollow: &[u64; 64],
     lsets: &[u64; 64],
-    right: Side,
     rfollow: &[u64; 64],
     rsets: &[u64; 64],
 ) -> Fault
-    requires { ⌜ events ≤ 64 ⌝ }
-    ensures { λ r. ⌜ ((l g : Condition) → Tables l left (now (lfollow .entry)) (now (lsets .entry)) → Tables g right (now (rfollow .entry)) (now (rsets .entry)) → findingOf r ≡ pairFinding events l g (certificateAt (now (s .entry)) from) i (pair place set)) ⌝ }
+    requires { ⌜ t .events ≤ 64 ⌝ }
+    ensures { λ r. ⌜ ((l g : Condition) → Tables l (t .left) (now (lfollow .entry)) (now (lsets .entry)) → Tables g (t .right) (now (rfollow .entry)) (now (rsets .entry)) → findingOf r ≡ pairFinding (t .events) l g (certificateAt (now (s .entry)) (t .from)) i (pair place set)) ⌝ }
 {
+    let left = t.left;
+    let right = t.right;
     let n = places_of(left);
     let m = places_of(right);
     if inside(n, m, place, set) {
         let lends = left.ends;
         let rends = right.ends;
         if ends_too(lends, rends, place, set) {
+            let from = t.from;
+            let events = t.events;
             let followers = lfollow[place];
-            let onward = sets::gather(rfollow, m, set);
+            let onward = gather(rfollow, m, set);
             return missing::unlisted(s, from, i, events, n, followers, lsets, m, onward, rsets);
         }
         return fault_of(3, i);
@@ -106,39 +117,23 @@ pub fn pair_fault(
 // Clauses 2 to 4 of all pairs, in order.
 pub fn pairs_fault(
     s: &[u8],
-    from: usize,
-    events: usize,
-    left: Side,
+    t: Inclusion,
     lfollow: &[u64; 64],
     lsets: &[u64; 64],
-    right: Side,
     rfollow: &[u64; 64],
     rsets: &[u64; 64],
 ) -> Fault
-    requires { ⌜ events ≤ 64 ⌝ }
-    ensures { λ r. ⌜ ((l g : Condition) → Tables l left (now (lfollow .entry)) (now (lsets .entry)) → Tables g right (now (rfollow .entry)) (now (rsets .entry)) → findingOf r ≡ inOrder (length (certificateAt (now (s .entry)) from)) (eachPair events l g (certificateAt (now (s .entry)) from))) ⌝ }
+    requires { ⌜ t .events ≤ 64 ⌝ }
+    ensures { λ r. ⌜ ((l g : Condition) → Tables l (t .left) (now (lfollow .entry)) (now (lsets .entry)) → Tables g (t .right) (now (rfollow .entry)) (now (rsets .entry)) → findingOf r ≡ inOrder (length (certificateAt (now (s .entry)) (t .from))) (eachPair (t .events) l g (certificateAt (now (s .entry)) (t .from)))) ⌝ }
 {
-    let mut at: usize = from;
+    let mut at: usize = t.from;
     let mut i: usize = 0;
     loop {
         let found = pair_from(s, at);
         let Pair::At { place, set, next } = found else {
             return Fault::None;
         };
-        let got = pair_fault(
-            s,
-            from,
-            i,
-            index(place),
-            set,
-            events,
-            left,
-            lfollow,
-            lsets,
-            right,
-            rfollow,
-            rsets,
-        );
+        let got = pair_fault(s, t, i, index(place), set, lfollow, lsets, rfollow, rsets);
         let Fault::None = got else {
             return got;
         };
@@ -147,8 +142,8 @@ pub fn pairs_fault(
     }
 }
 
-// The first fault of the certificate at an offset, for the left side's inclusion in the right side. With n pairs it looks at n * n pairs at
-// most, and of each at no more than the 32 places of its set.
+// The first fault of the certificate at an offset, which is to show the left side's inclusion in the right side. With n pairs it takes at most
+// n * n looks at a pair, each of which goes through the places of the pair's set at most once.
 pub fn first_fault(
     s: &[u8],
     from: usize,
@@ -178,5 +173,11 @@ pub fn first_fault(
     if set != 1 {
         return fault_of(1, 0);
     }
-    pairs_fault(s, from, events, left, lfollow, lsets, right, rfollow, rsets)
+    let t = Inclusion {
+        from,
+        events,
+        left,
+        right,
+    };
+    pairs_fault(s, t, lfollow, lsets, rfollow, rsets)
 }

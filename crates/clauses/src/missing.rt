@@ -9,14 +9,14 @@ ghost use Rattle.sheet.specs.Decode.{certificateAt};
 ghost use Rattle.clauses.specs.Clauses.{findingOf, Wanted, serving, Unserved, missingAt, unlistedAt};
 use super::Fault;
 use super::sets::below;
-use super::sets::chosen;
-use super::sets::gather;
 use super::sets::lowest;
 use super::sets::lowest_row;
-use super::sets::member;
 use fields::index;
 use pairs::Pair;
 use pairs::pair_from;
+use places::masks::chosen;
+use places::masks::gather;
+use places::masks::member;
 
 // Row q becomes the events of `mask` that leaf q holds, where it is a follower.
 pub fn want(followers: u64, sets: &[u64; 64], mask: u64, missing: &mut [u64; 64])

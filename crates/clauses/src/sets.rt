@@ -1,25 +1,10 @@
-// Sets of numbers below 64 as machine words, and tables of them.
+// The numbers below a bound as a set, and the lowest number of a set and of a table of sets.
 ghost use mathlib.Core.Path.{_≡_};
-ghost use mathlib.Core.Bool.{cond};
 ghost use Prim.Native.Nat.{ℕ, _≤_, _<_};
 ghost use lib.Dec.{ltb};
 ghost use Rattle.bits.specs.Bits.{has};
-ghost use Rattle.clauses.specs.Clauses.{rowHas, gathered, Lowest};
-
-// The set has the number k.
-pub fn member(set: u64, k: usize) -> bool
-    requires { ⌜ k < 64 ⌝ }
-    ensures { λ r. ⌜ r ≡ has set k ⌝ }
-{
-    set >> k & 1 == 1
-}
-
-// The set where the test passes, the empty set where it fails.
-pub fn chosen(test: bool, set: u64) -> u64
-    ensures { λ r. ⌜ r ≡ cond test set 0 ⌝ }
-{
-    if test { set } else { 0 }
-}
+ghost use Rattle.clauses.specs.Clauses.{rowHas, Lowest};
+use places::masks::member;
 
 // The numbers below n.
 pub fn below(n: usize) -> u64
@@ -31,20 +16,6 @@ pub fn below(n: usize) -> u64
     } else {
         18446744073709551615
     }
-}
-
-// The union of the rows whose numbers are in the set and below n.
-pub fn gather(rows: &[u64; 64], n: usize, set: u64) -> u64
-    requires { ⌜ n ≤ 64 ⌝ }
-    ensures { λ r. ⌜ ((k : ℕ) → has r k ≡ gathered (now (rows .entry)) n set k) ⌝ }
-{
-    let mut all: u64 = 0;
-    let mut p: usize = 0;
-    while p < n {
-        all = all | chosen(member(set, p), rows[p]);
-        p += 1;
-    }
-    all
 }
 
 // The lowest number of the set below n; n where it has none.

@@ -4,7 +4,7 @@ use Rattle.clauses.proofs.ends_too.Statement.{statement}
 use Rattle.clauses.proofs.ends_too.Tie as tie
 use Rattle.clauses.proofs.ends_too.Reads as reads
 use Rattle.clauses.proofs.ends_too.Lts as lts
-use Rattle.clauses.proofs.sets.member.Reads as member-reads
+use Rattle.places.proofs.masks.member.Reads as member-reads
 
 -- src/lib.rt:66:8
 member-requires : tie.Need-member-requires

@@ -5,7 +5,7 @@ use Rattle.clauses.proofs.missing.first_missing.Tie as tie
 use Rattle.clauses.proofs.missing.first_missing.Reads as reads
 use Rattle.clauses.proofs.missing.first_missing.Lts as lts
 use Rattle.clauses.proofs.sets.below.Reads as below-reads
-use Rattle.clauses.proofs.sets.gather.Reads as gather-reads
+use Rattle.places.proofs.masks.gather.Reads as gather-reads
 use Rattle.clauses.proofs.sets.lowest.Reads as lowest-reads
 use Rattle.clauses.proofs.sets.lowest_row.Reads as lowest-row-reads
 

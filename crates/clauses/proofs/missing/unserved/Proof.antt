@@ -8,7 +8,7 @@ use Rattle.clauses.proofs.missing.unserved.Statement.{statement}
 use Rattle.clauses.proofs.missing.unserved.Tie as tie
 use Rattle.clauses.proofs.missing.unserved.Reads as reads
 use Rattle.clauses.proofs.missing.unserved.Lts as lts
-use Rattle.clauses.proofs.sets.member.Reads as member-reads
+use Rattle.places.proofs.masks.member.Reads as member-reads
 
 abbrev Inv-loop : tie.InvT-loop
 Inv-loop missing set m onward sets served₀ k₀ served k = (k ≤ m) × Held sets missing set k served

@@ -8,8 +8,8 @@ use Rattle.clauses.proofs.missing.want.Statement.{statement}
 use Rattle.clauses.proofs.missing.want.Tie as tie
 use Rattle.clauses.proofs.missing.want.Reads as reads
 use Rattle.clauses.proofs.missing.want.Lts as lts
-use Rattle.clauses.proofs.sets.chosen.Reads as chosen-reads
-use Rattle.clauses.proofs.sets.member.Reads as member-reads
+use Rattle.places.proofs.masks.chosen.Reads as chosen-reads
+use Rattle.places.proofs.masks.member.Reads as member-reads
 
 abbrev Inv-loop : tie.InvT-loop
 Inv-loop followers sets mask missing₀ q₀ missing q = (q ≤ 64) × Wanted followers sets mask q missing

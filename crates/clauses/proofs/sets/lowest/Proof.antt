@@ -10,7 +10,7 @@ use Rattle.clauses.proofs.sets.lowest.Statement.{statement}
 use Rattle.clauses.proofs.sets.lowest.Tie as tie
 use Rattle.clauses.proofs.sets.lowest.Reads as reads
 use Rattle.clauses.proofs.sets.lowest.Lts as lts
-use Rattle.clauses.proofs.sets.member.Reads as member-reads
+use Rattle.places.proofs.masks.member.Reads as member-reads
 
 abbrev Inv-loop : tie.InvT-loop
 Inv-loop set n k₀ k = (k ≤ n) × ((j : ℕ) → j < k → has set j ≡ false)

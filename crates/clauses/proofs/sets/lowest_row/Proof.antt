@@ -10,7 +10,7 @@ use Rattle.clauses.proofs.sets.lowest_row.Statement.{statement}
 use Rattle.clauses.proofs.sets.lowest_row.Tie as tie
 use Rattle.clauses.proofs.sets.lowest_row.Reads as reads
 use Rattle.clauses.proofs.sets.lowest_row.Lts as lts
-use Rattle.clauses.proofs.sets.member.Reads as member-reads
+use Rattle.places.proofs.masks.member.Reads as member-reads
 
 abbrev Inv-loop : tie.InvT-loop
 Inv-loop rows n k q₀ q = (q ≤ n) × ((j : ℕ) → j < q → rowHas rows j k ≡ false)
