@@ -1,3 +1,4 @@
+-- `clauses::ends_too` meets its contract: by whether the place ends a word.
 use mathlib.Core.Path.{sym, _∙_}
 use borrow.Author.Needs.{needs}
 use Rattle.clauses.proofs.ends_too.Statement.{statement}

@@ -1,3 +1,4 @@
+-- `clauses::first_fault` meets its contract: clause 1 by the first pair, then the pairs in order (`AllPairs`).
 use mathlib.Core.Path.{sym, _∙_}
 use Rattle.clauses.proofs.AllPairs.{no-pair, wrong-place, wrong-set, right-start}
 use borrow.Author.Needs.{needs}

@@ -1,3 +1,4 @@
+-- `clauses::inside` meets its contract: both comparisons are the definition's.
 use borrow.Author.Tests.{lt-ltb, le-ltb}
 use Rattle.clauses.proofs.Rows.{one-shifted}
 use borrow.Author.Needs.{needs}

@@ -1,3 +1,4 @@
+-- `clauses::pair_fault` meets its contract: clauses 2, 3 and 4 by the tables are the definition's (`ByTables`).
 use Prim.Native.Nat.{_^_}
 use mathlib.Core.Path.{sym, _∙_}
 use native.Mathlib.Omega.{arith}

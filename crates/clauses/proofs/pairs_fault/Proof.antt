@@ -1,3 +1,4 @@
+-- `clauses::pairs_fault` meets its contract. The loop's invariant: the reader stands after i pairs, and these have no fault.
 use Prim.Native.Nat.{_-_}
 use mathlib.Core.Path.{_≡_, refl, sym, ap, _∙_}
 use native.Mathlib.Omega.{arith}

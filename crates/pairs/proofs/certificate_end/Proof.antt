@@ -1,3 +1,4 @@
+-- `pairs::certificate_end` meets its contract. The loop's invariant: the reader stands after some number of pairs.
 use mathlib.Core.Path.{sym, _∙_}
 use native.Mathlib.Omega.{arith}
 use Prim.Native.Nat.{ℕ, suc, _-_}

@@ -1,3 +1,4 @@
+-- `pairs::pair_at` meets its contract: a record of kind 13 stands before the end, so the offsets fit.
 use mathlib.Core.Path.{sym, _∙_}
 use native.Mathlib.Omega.{arith}
 use Rattle.pairs.proofs.Laws.{inside, a-pair-is, the-end-is}

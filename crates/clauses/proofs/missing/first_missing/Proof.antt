@@ -1,3 +1,4 @@
+-- `clauses::missing::first_missing` meets its contract: the lowest event of all rows, and the lowest row that has it (`FirstMissing`).
 use Rattle.clauses.proofs.FirstMissing.{missing-none, missing-first}
 use borrow.Author.Needs.{needs}
 use Rattle.clauses.proofs.missing.first_missing.Statement.{statement}

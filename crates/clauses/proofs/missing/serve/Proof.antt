@@ -1,3 +1,4 @@
+-- `clauses::missing::serve` meets its contract. The loop's invariant: the reader stands after j pairs, and the rows are what these leave.
 use Prim.Native.Nat.{ℕ, suc, _-_}
 use mathlib.Core.Path.{sym, ap, _∙_}
 use native.Mathlib.Omega.{arith}

@@ -1,3 +1,4 @@
+-- `clauses::missing::unlisted` meets its contract: what is wanted and not served is what clause 4 misses (`FirstMissing`).
 use mathlib.Core.Path.{_∙_}
 use Rattle.clauses.proofs.FirstMissing.{unlisted-is}
 use borrow.Author.Needs.{needs}

@@ -1,3 +1,4 @@
+-- `clauses::missing::unserved` meets its contract. The loop's invariant: `served` are the missing events that the set's places below k hold.
 use Prim.Native.Nat.{_-_, _≤_, zero-le}
 use mathlib.Core.Path.{_≡_}
 use mathlib.Core.Logic.{⊎-elim}

@@ -1,3 +1,4 @@
+-- `clauses::missing::want` meets its contract. The loop's invariant: the rows below q are what is wanted.
 use Prim.Native.Nat.{_-_, _≤_, zero-le}
 use mathlib.Core.Path.{_≡_}
 use native.Mathlib.Omega.{arith}

@@ -1,3 +1,4 @@
+-- `clauses::sets::below` meets its contract: the numbers below n are 2 ^ n - 1.
 use mathlib.Core.Path.{_≡_, ap, _∙_}
 use Prim.Native.Nat.{ℕ}
 use native.Mathlib.Omega.{arith}

@@ -1,3 +1,4 @@
+-- `clauses::sets::lowest` meets its contract. The loop's invariant: the set has no number below k.
 use Prim.Native.Nat.{ℕ, _-_, _≤_, _<_}
 use mathlib.Core.Path.{_≡_, sym, _∙_}
 use mathlib.Core.Bool.{false}

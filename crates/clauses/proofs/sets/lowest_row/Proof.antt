@@ -1,3 +1,4 @@
+-- `clauses::sets::lowest_row` meets its contract. The loop's invariant: no row below q has the number.
 use Prim.Native.Nat.{ℕ, _-_, _≤_, _<_}
 use mathlib.Core.Path.{_≡_, sym, _∙_}
 use mathlib.Core.Bool.{false}
