@@ -1,5 +1,5 @@
 -- When tests in order find nothing wrong, and which fault they find first.
-use mathlib.Core.Path.{_≡_, refl}
+use mathlib.Core.Path.{_≡_, refl, ap₂}
 use mathlib.Core.Bool.{Bool, true, false}
 use mathlib.Core.Logic.{⊎-elim}
 use Prim.Native.Nat.{ℕ, zero, suc, _<_}
@@ -47,6 +47,13 @@ pub inOrder-in : (n : ℕ) (f : ℕ → Finding) → ((k : ℕ) → k < n → Fi
 unfolding inOrder
 inOrder-in zero f h = tt
 inOrder-in (suc n) f h = then-in (inOrder n f) (f n) (inOrder-in n f (λ k l. h k (omega arith))) (h n (le-refl (suc n)))
+
+-- tests that find the same find the same first
+pub inOrder-cong : (n : ℕ) (f g : ℕ → Finding) → ((k : ℕ) → k < n → f k ≡ g k) → inOrder n f ≡ inOrder n g
+unfolding inOrder
+inOrder-cong zero f g h = refl
+inOrder-cong (suc n) f g h =
+    ap₂ (λ (u v : Finding). u then v) (inOrder-cong n f g (λ k l. h k (omega arith))) (h n (le-refl (suc n)))
 
 -- where the tests before k find nothing wrong and test k finds a fault, that fault is the first of all n
 pub inOrder-stops : (n : ℕ) (f : ℕ → Finding) (k : ℕ) → k < n → Fine (inOrder k f)

@@ -1,0 +1,69 @@
+-- Clause 1, and then the pairs in order.
+use mathlib.Core.Path.{_≡_, refl, sym, ap, ap₂, _∙_}
+use mathlib.Core.Bool.{Bool, false, _&&_}
+use mathlib.Core.List.{List}
+use Prim.Native.Nat.{ℕ, _+_, _<_}
+use native.Mathlib.Numerals.{add-one}
+use lib.ListN.{length}
+use lib.Dec.{eqb}
+use borrow.Author.Tests.{eq-eqb, ne-eqb}
+use Rattle.condition.specs.Condition.{Condition}
+use Rattle.certificate.specs.Certificate.{Pair, pair, Certificate, pairOf, Finding, fine, fault, _then_, inOrder, unless, startsRight, pairFinding, check}
+use Rattle.certificate.proofs.Findings.{is-fine, inOrder-stops}
+use Rattle.sheet.specs.Decode.{certificateAt}
+use Rattle.pairs.specs.Found.{pairFound}
+use Rattle.pairs.specs.declared.Pair.the-variants.{At as PairAt, End}
+use Rattle.pairs.proofs.Laws.{certificate-pair, certificate-none}
+use Rattle.clauses.specs.Clauses.{findingOf, eachPair}
+use Rattle.clauses.specs.declared.Fault.{Fault}
+use Rattle.clauses.specs.declared.Fault.the-variants.{At}
+
+-- Tests in order --------------------------------------------------------------------------------------------------------
+
+pub fine-more : (i : ℕ) (f : ℕ → Finding) → inOrder i f ≡ fine → f i ≡ fine → inOrder (i + 1) f ≡ fine
+unfolding inOrder
+fine-more i f h e = rw (add-one i, h, e)
+
+pub first-found : {r : Fault} {k j e l : ℕ} (n i : ℕ) (f : ℕ → Finding) → i < n → inOrder i f ≡ fine → findingOf r ≡ f i → r ≡ At k j e l
+    → findingOf r ≡ inOrder n f
+first-found {r} {k} {j} {e} {l} n i f a h g x =
+    ap findingOf x ∙ sym (inOrder-stops n f i a (is-fine (inOrder i f) h) k j e l (sym g ∙ ap findingOf x))
+
+module _ (events : ℕ) (l g : Condition) where
+  -- what was found of a place and a set is what is found of pair i
+  pub found-of : {place k set : ℕ} {v : Finding} (c : Certificate) (i : ℕ) → pairOf c i ≡ pair place set → k ≡ place
+      → v ≡ pairFinding events l g c i (pair k set) → v ≡ eachPair events l g c i
+  found-of {set = set} c i p e h =
+      h ∙ ap (λ (x : Pair). pairFinding events l g c i x) (ap (λ (x : ℕ). pair x set) e ∙ sym p)
+
+  -- Clause 1 ------------------------------------------------------------------------------------------------------------
+
+  module _ (s : List ℕ) (from : ℕ) where
+    abbrev c : Certificate
+    c = certificateAt s from
+
+    check-is : check events l g c ≡ (unless (startsRight c) (fault 1 0 0 0) then inOrder (length c) (eachPair events l g c))
+    unfolding check
+    check-is = refl
+
+    at-clause1 : startsRight c ≡ false → fault 1 0 0 0 ≡ check events l g c
+    at-clause1 f = ap (λ (b : Bool). unless b (fault 1 0 0 0) then inOrder (length c) (eachPair events l g c)) (sym f) ∙ sym check-is
+
+    pub no-pair : pairFound s from ≡ End → fault 1 0 0 0 ≡ check events l g c
+    no-pair h = at-clause1 (ap (λ (x : Certificate). startsRight x) (certificate-none s from h))
+
+    module _ (place set next : ℕ) (h : pairFound s from ≡ PairAt place set next) where
+      start-is : startsRight c ≡ (eqb place 0 && eqb set 1)
+      start-is = ap (λ (x : Certificate). startsRight x) (certificate-pair s from place set next h)
+
+      pub wrong-place : (place ≡ 0 → ⊥) → fault 1 0 0 0 ≡ check events l g c
+      wrong-place n = at-clause1 (start-is ∙ ap (λ (b : Bool). b && eqb set 1) (ne-eqb place 0 n))
+
+      pub wrong-set : place ≡ 0 → (set ≡ 1 → ⊥) → fault 1 0 0 0 ≡ check events l g c
+      wrong-set e n = at-clause1 (start-is ∙ ap₂ (λ (a b : Bool). a && b) (eq-eqb place 0 e) (ne-eqb set 1 n))
+
+      pub right-start : place ≡ 0 → set ≡ 1 → inOrder (length c) (eachPair events l g c) ≡ check events l g c
+      right-start e f =
+          ap (λ (b : Bool). unless b (fault 1 0 0 0) then inOrder (length c) (eachPair events l g c))
+          (sym (start-is ∙ ap₂ (λ (a b : Bool). a && b) (eq-eqb place 0 e) (eq-eqb set 1 f)))
+          ∙ sym check-is

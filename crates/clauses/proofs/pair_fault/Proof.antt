@@ -1,0 +1,106 @@
+-- `clauses::pair_fault` meets its contract: clauses 2, 3 and 4 by the tables are the definition's (`ByTables`).
+use Prim.Native.Nat.{_^_}
+use mathlib.Core.Path.{sym, _∙_}
+use native.Mathlib.Omega.{arith}
+use lib.Dec.{ltb}
+use Rattle.sheet.specs.Decode.{certificateAt}
+use Rattle.clauses.proofs.ByTables.{inside-place, at-clause2, at-clause3, at-clause4}
+use borrow.Author.Needs.{needs}
+use Rattle.clauses.proofs.pair_fault.Statement.{statement}
+use Rattle.clauses.proofs.pair_fault.Tie as tie
+use Rattle.clauses.proofs.pair_fault.Reads as reads
+use Rattle.clauses.proofs.pair_fault.Lts as lts
+use Rattle.clauses.proofs.ends_too.Reads as ends-too-reads
+use Rattle.clauses.proofs.fault_of.Reads as fault-of-reads
+use Rattle.clauses.proofs.inside.Reads as inside-reads
+use Rattle.clauses.proofs.missing.unlisted.Reads as unlisted-reads
+use Rattle.clauses.proofs.places_of.Reads as places-of-reads
+use Rattle.places.proofs.masks.gather.Reads as gather-reads
+
+-- src/lib.rt:100:9
+places-of-requires : tie.Need-places-of-requires
+places-of-requires c κs = search needs
+
+-- src/lib.rt:101:9
+places-of-requires-2 : tie.Need-places-of-requires-2
+places-of-requires-2 c κs = search needs
+
+-- src/lib.rt:102:8
+inside-requires : tie.Need-inside-requires
+inside-requires c κs = search needs
+
+-- src/lib.rt:105:12
+ends-too-requires : tie.Need-ends-too-requires
+ends-too-requires c κs = omega (arith, inside-place (c .before .before .before .before .before .before .before .args .place) (c .before .before .before .places-of .result) (ltb (c .before .before .before .before .before .before .before .args .set) (2 ^ c .before .before .places-of2 .result)) (sym (c .before .inside .ensures) ∙ c .if1 .taken), c .before .before .before .places-of .ensures .few)
+
+-- src/lib.rt:108:29
+mul-followers : tie.Need-mul-followers
+mul-followers c = omega (arith, inside-place (c .before .before .before .before .before .before .before .before .before .args .place) (c .before .before .before .before .before .places-of .result) (ltb (c .before .before .before .before .before .before .before .before .before .args .set) (2 ^ c .before .before .before .before .places-of2 .result)) (sym (c .before .before .before .inside .ensures) ∙ c .before .before .if1 .taken), c .before .before .before .before .before .places-of .ensures .few)
+
+-- src/lib.rt:108:29
+element-copy-out-followers : tie.Need-element-copy-out-followers
+element-copy-out-followers c = omega (arith, inside-place (c .before .before .before .before .before .before .before .before .before .args .place) (c .before .before .before .before .before .places-of .result) (ltb (c .before .before .before .before .before .before .before .before .before .args .set) (2 ^ c .before .before .before .before .places-of2 .result)) (sym (c .before .before .before .inside .ensures) ∙ c .before .before .if1 .taken), c .before .before .before .before .before .places-of .ensures .few)
+
+-- src/lib.rt:109:17
+gather-requires : tie.Need-gather-requires
+gather-requires c κs = search needs
+
+-- src/lib.rt:110:13
+unlisted-requires : tie.Need-unlisted-requires
+unlisted-requires c κs = search needs
+
+-- src/lib.rt:110:13
+returns : tie.Need-returns
+returns c = λ l g tl tg.
+    let a = c .before .before .before .before .before .before .before .before .before .before .before .before .args in
+    c .unlisted .ensures
+    ∙ at-clause4 (a .t .events) l g (a .t .left) (a .t .right) (a .lfollow .now) (a .lsets .now) (a .rfollow .now) (a .rsets .now) tl tg
+    (c .before .before .before .before .before .before .before .before .places-of .result) (c .before .before .before .before .before .before .before .places-of2 .result) (c .before .before .before .before .before .before .before .before .places-of .ensures) (c .before .before .before .before .before .before .before .places-of2 .ensures)
+    (certificateAt (a .s .now) (a .t .from)) (a .i) (a .place) (a .set)
+    (c .before .gather .result) (c .before .gather .ensures)
+    (sym (c .before .before .before .before .before .before .inside .ensures) ∙ c .before .before .before .before .before .if1 .taken) (sym (c .before .before .before .before .ends-too .ensures) ∙ c .before .before .before .if2 .taken)
+
+-- src/lib.rt:112:9
+fault-of-requires : tie.Need-fault-of-requires
+fault-of-requires c κs = search needs
+
+-- src/lib.rt:112:9
+returns-2 : tie.Need-returns-2
+returns-2 c = λ l g tl tg.
+    let a = c .before .before .before .before .before .before .before .before .before .before .args in
+    c .fault-of .ensures
+    ∙ at-clause3 (a .t .events) l g (a .t .left) (a .t .right) (a .lfollow .now) (a .lsets .now) (a .rfollow .now) (a .rsets .now) tl tg
+    (c .before .before .before .before .before .before .places-of .result) (c .before .before .before .before .before .places-of2 .result) (c .before .before .before .before .before .before .places-of .ensures) (c .before .before .before .before .before .places-of2 .ensures)
+    (certificateAt (a .s .now) (a .t .from)) (a .i) (a .place) (a .set)
+    (sym (c .before .before .before .before .inside .ensures) ∙ c .before .before .before .if1 .taken) (sym (c .before .before .ends-too .ensures) ∙ c .before .if2 .left)
+
+-- src/lib.rt:114:5
+fault-of-requires-2 : tie.Need-fault-of-requires-2
+fault-of-requires-2 c κs = search needs
+
+-- src/lib.rt:84:1
+returns-3 : tie.Need-returns-3
+returns-3 c = λ l g tl tg.
+    let a = c .before .before .before .before .before .before .before .before .args in
+    c .fault-of2 .ensures
+    ∙ at-clause2 (a .t .events) l g (a .t .left) (a .t .right) (a .lfollow .now) (a .lsets .now) (a .rfollow .now) (a .rsets .now) tl tg
+    (c .before .before .before .before .places-of .result) (c .before .before .before .places-of2 .result) (c .before .before .before .before .places-of .ensures) (c .before .before .before .places-of2 .ensures)
+    (certificateAt (a .s .now) (a .t .from)) (a .i) (a .place) (a .set) (sym (c .before .before .inside .ensures) ∙ c .before .if1 .left)
+
+pub pair-fault-spec : {M : Type 1} → statement M
+pair-fault-spec =
+    tie.close
+    (tie.spec
+    places-of-requires
+    places-of-requires-2
+    inside-requires
+    ends-too-requires
+    mul-followers
+    element-copy-out-followers
+    gather-requires
+    unlisted-requires
+    returns
+    fault-of-requires
+    returns-2
+    fault-of-requires-2
+    returns-3)

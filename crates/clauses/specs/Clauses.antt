@@ -1,0 +1,80 @@
+-- The clauses of a certificate as they are tested with the tables of two sides, and what an answer stands for.
+use mathlib.Core.Path.{_≡_}
+use mathlib.Core.Bool.{Bool, true, false, cond, not, _&&_}
+use mathlib.Core.List.{List}
+use Prim.Native.Nat.{ℕ, suc, _≤_, _<_}
+use lib.ListN.{length, getD}
+use lib.Dec.{eqb}
+use lib.Bits.{bitAnd}
+use Rattle.bits.specs.Bits.{_⇒_, has, anyBelow, allBelow}
+use Rattle.condition.specs.Condition.{Condition}
+use Rattle.certificate.specs.Certificate.{Pair, Certificate, pairOf, Finding, fine, fault, inOrder, unless, pairFinding}
+use Rattle.clauses.specs.declared.Fault.{Fault}
+use Rattle.clauses.specs.declared.Fault.the-variants.{None, At}
+
+-- the finding that an answer stands for
+abbrev pub findingOf : Fault → Finding
+findingOf None = fine
+findingOf (At c i e l) = fault c i e l
+
+-- clauses 2 to 4, pair by pair
+abbrev pub eachPair : ℕ → Condition → Condition → Certificate → ℕ → Finding
+eachPair events l g c i = pairFinding events l g c i (pairOf c i)
+
+-- r is the number of places of a side with so many leaves, where these are as few as tables have
+pub record PlacesOf (leaves r : ℕ) : Type 0 where
+  pub few : r < 64
+  pub places-is : leaves ≤ 62 → r ≡ suc leaves
+
+-- Tables of sets --------------------------------------------------------------------------------------------------------
+
+-- row q has the number k
+abbrev pub rowHas : List ℕ → ℕ → ℕ → Bool
+rowHas rows q k = has (getD rows q 0) k
+
+-- one of the rows whose numbers are in the set s and below n has the number k
+abbrev pub gathered : List ℕ → ℕ → ℕ → ℕ → Bool
+gathered rows n s k = anyBelow n (λ p. has s p && rowHas rows p k)
+
+-- r is the lowest number below n that passes the test f, or n where none does
+pub record Lowest (n : ℕ) (f : ℕ → Bool) (r : ℕ) : Type 0 where
+  pub bound : r ≤ n
+  pub before : (k : ℕ) → k < r → f k ≡ false
+  pub stops : r < n → f r ≡ true
+
+-- Clause 4 --------------------------------------------------------------------------------------------------------------
+
+-- each place of the set t below m holds the event e
+abbrev pub allHold : ℕ → List ℕ → ℕ → ℕ → Bool
+allHold m sets t e = allBelow m (λ k. has t k ⇒ rowHas sets k e)
+
+-- a set lies within the stepped set where it lies within the followers `onward`, and each of its places holds the event e
+abbrev pub serving : ℕ → ℕ → List ℕ → ℕ → ℕ → Bool
+serving m onward sets t e = eqb (bitAnd t onward) t && allHold m sets t e
+
+-- a pair is one of place q with such a set
+abbrev pub serves : ℕ → ℕ → List ℕ → ℕ → ℕ → Pair → Bool
+serves m onward sets q e p = eqb (p .place) q && serving m onward sets (p .set) e
+
+-- one of the first j pairs is
+abbrev pub servedBy : Certificate → ℕ → ℕ → List ℕ → ℕ → ℕ → ℕ → Bool
+servedBy c m onward sets j q e = anyBelow j (λ i. serves m onward sets q e (pairOf c i))
+
+-- the rows below j are the events of the mask that each follower holds
+pub record Wanted (followers : ℕ) (sets : List ℕ) (mask j : ℕ) (rows : List ℕ) : Type 0 where
+  pub long : length rows ≡ 64
+  pub row : (q : ℕ) → q < j → getD rows q 0 ≡ cond (has followers q) (bitAnd (getD sets q 0) mask) 0
+
+-- what the first j pairs leave of the rows
+pub record Unserved (c : Certificate) (m onward : ℕ) (sets : List ℕ) (j : ℕ) (rows left : List ℕ) : Type 0 where
+  pub long : length left ≡ 64
+  pub row : (q e : ℕ) → q < 64 → rowHas left q e ≡ (rowHas rows q e && not (servedBy c m onward sets j q e))
+
+-- the fault of the lowest place below n whose row has the event e
+abbrev pub missingAt : ℕ → ℕ → List ℕ → ℕ → Finding
+missingAt n i rows e = inOrder n (λ l. unless (not (rowHas rows l e)) (fault 4 i e l))
+
+-- clause 4 of pair i at the event e
+abbrev pub unlistedAt : Certificate → ℕ → ℕ → ℕ → List ℕ → ℕ → ℕ → List ℕ → ℕ → Finding
+unlistedAt c n i followers lsets m onward rsets e =
+    inOrder n (λ l. unless ((has followers l && rowHas lsets l e) ⇒ servedBy c m onward rsets (length c) l e) (fault 4 i e l))

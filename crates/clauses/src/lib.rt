@@ -1,0 +1,183 @@
+// The clauses of a certificate: its first fault, found in the sheet's own bytes with the tables of the two sides.
+ghost use mathlib.Core.Path.{_≡_};
+ghost use Prim.Native.Nat.{_+_, _≤_, _<_, _^_};
+ghost use mathlib.Core.Bool.{not, _&&_};
+ghost use lib.Dec.{eqb, ltb};
+ghost use lib.Bits.{bitAnd};
+ghost use lib.ListN.{length};
+ghost use Rattle.bits.specs.Bits.{has, _⇒_};
+ghost use Rattle.condition.specs.Condition.{Condition};
+ghost use Rattle.certificate.specs.Certificate.{pair, fault, pairFinding, inOrder, check};
+ghost use Rattle.sheet.specs.Decode.{certificateAt};
+ghost use Rattle.places.specs.Tables.{Tables};
+ghost use Rattle.clauses.specs.Clauses.{findingOf, eachPair, PlacesOf};
+use fields::index;
+use pairs::Pair;
+use pairs::pair_from;
+use places::Side;
+use places::masks::gather;
+use places::masks::member;
+
+pub mod missing;
+pub mod sets;
+
+// No fault, or the first.
+pub enum Fault {
+    None,
+    At {
+        clause: usize,
+        pair: usize,
+        event: usize,
+        place: usize,
+    },
+}
+
+// An inclusion that a certificate is to show: where it stands, over how many events, and the two sides.
+pub struct Inclusion {
+    pub from: usize,
+    pub events: usize,
+    pub left: Side,
+    pub right: Side,
+}
+
+// A fault of clauses 1 to 3.
+pub fn fault_of(clause: usize, i: usize) -> Fault
+    ensures { λ r. ⌜ findingOf r ≡ fault clause i 0 0 ⌝ }
+{
+    Fault::At {
+        clause,
+        pair: i,
+        event: 0,
+        place: 0,
+    }
+}
+
+// The number of a side's places, which is at most 63.
+pub fn places_of(side: Side) -> usize
+    ensures { λ r. ⌜ PlacesOf (side .leaves) r ⌝ }
+{
+    let leaves = side.leaves;
+    if leaves <= 62 { leaves + 1 } else { 63 }
+}
+
+// The place is one of n, and the set has only numbers below m.
+pub fn inside(n: usize, m: usize, place: usize, set: u64) -> bool
+    requires { ⌜ m < 64 ⌝ }
+    ensures { λ r. ⌜ r ≡ (ltb place n && ltb set (2 ^ m)) ⌝ }
+{
+    if place < n { set < 1 << m } else { false }
+}
+
+// If the place ends a word, so does one of the set.
+pub fn ends_too(lends: u64, rends: u64, place: usize, set: u64) -> bool
+    requires { ⌜ place < 64 ⌝ }
+    ensures { λ r. ⌜ r ≡ (has lends place ⇒ not (eqb (bitAnd set rends) 0)) ⌝ }
+{
+    if member(lends, place) {
+        set & rends != 0
+    } else {
+        true
+    }
+}
+
+// Clauses 2 to 4 of one pair.
+pub fn pair_fault(
+    s: &[u8],
+    t: Inclusion,
+    i: usize,
+    place: usize,
+    set: u64,
+    lfollow: &[u64; 64],
+    lsets: &[u64; 64],
+    rfollow: &[u64; 64],
+    rsets: &[u64; 64],
+) -> Fault
+    requires { ⌜ t .events ≤ 64 ⌝ }
+    ensures { λ r. ⌜ ((l g : Condition) → Tables l (t .left) (now (lfollow .entry)) (now (lsets .entry)) → Tables g (t .right) (now (rfollow .entry)) (now (rsets .entry)) → findingOf r ≡ pairFinding (t .events) l g (certificateAt (now (s .entry)) (t .from)) i (pair place set)) ⌝ }
+{
+    let left = t.left;
+    let right = t.right;
+    let n = places_of(left);
+    let m = places_of(right);
+    if inside(n, m, place, set) {
+        let lends = left.ends;
+        let rends = right.ends;
+        if ends_too(lends, rends, place, set) {
+            let from = t.from;
+            let events = t.events;
+            let followers = lfollow[place];
+            let onward = gather(rfollow, m, set);
+            return missing::unlisted(s, from, i, events, n, followers, lsets, m, onward, rsets);
+        }
+        return fault_of(3, i);
+    }
+    fault_of(2, i)
+}
+
+// Clauses 2 to 4 of all pairs, in order.
+pub fn pairs_fault(
+    s: &[u8],
+    t: Inclusion,
+    lfollow: &[u64; 64],
+    lsets: &[u64; 64],
+    rfollow: &[u64; 64],
+    rsets: &[u64; 64],
+) -> Fault
+    requires { ⌜ t .events ≤ 64 ⌝ }
+    ensures { λ r. ⌜ ((l g : Condition) → Tables l (t .left) (now (lfollow .entry)) (now (lsets .entry)) → Tables g (t .right) (now (rfollow .entry)) (now (rsets .entry)) → findingOf r ≡ inOrder (length (certificateAt (now (s .entry)) (t .from))) (eachPair (t .events) l g (certificateAt (now (s .entry)) (t .from)))) ⌝ }
+{
+    let mut at: usize = t.from;
+    let mut i: usize = 0;
+    loop {
+        let found = pair_from(s, at);
+        let Pair::At { place, set, next } = found else {
+            return Fault::None;
+        };
+        let got = pair_fault(s, t, i, index(place), set, lfollow, lsets, rfollow, rsets);
+        let Fault::None = got else {
+            return got;
+        };
+        at = next;
+        i += 1;
+    }
+}
+
+// The first fault of the certificate at an offset, which is to show the left side's inclusion in the right side. With n pairs it takes at most
+// n * n looks at a pair, each of which goes through the places of the pair's set at most once.
+pub fn first_fault(
+    s: &[u8],
+    from: usize,
+    events: usize,
+    left: Side,
+    lfollow: &[u64; 64],
+    lsets: &[u64; 64],
+    right: Side,
+    rfollow: &[u64; 64],
+    rsets: &[u64; 64],
+) -> Fault
+    requires { ⌜ events ≤ 64 ⌝ }
+    ensures { λ r. ⌜ ((l g : Condition) → Tables l left (now (lfollow .entry)) (now (lsets .entry)) → Tables g right (now (rfollow .entry)) (now (rsets .entry)) → findingOf r ≡ check events l g (certificateAt (now (s .entry)) from)) ⌝ }
+{
+    let found = pair_from(s, from);
+    let Pair::At {
+        place,
+        set,
+        next: _,
+    } = found
+    else {
+        return fault_of(1, 0);
+    };
+    if place != 0 {
+        return fault_of(1, 0);
+    }
+    if set != 1 {
+        return fault_of(1, 0);
+    }
+    let t = Inclusion {
+        from,
+        events,
+        left,
+        right,
+    };
+    pairs_fault(s, t, lfollow, lsets, rfollow, rsets)
+}
