@@ -3,16 +3,16 @@ use mathlib.Core.Path.{_≡_, refl, sym, ap, _∙_, subst}
 use mathlib.Core.Bool.{Bool, true, false}
 use mathlib.Core.Option.{some}
 use mathlib.Core.List.{List, [], _∷_, _++_}
-use Prim.Native.Nat.{ℕ, zero, suc, _+_, _-_, _≤_, _<_}
+use Prim.Native.Nat.{ℕ, zero, suc, _≤_, _<_}
 use native.Mathlib.Omega.{arith, by-contra}
-use lib.ListN.{length, getD, set}
+use lib.ListN.{length, set}
 use lib.Dec.{leb, leb→le, eqb, eqb·suc-zero}
 use Rattle.bits.specs.Bits.{allBelow}
 use Rattle.bits.proofs.Tests.{all-out}
 use borrow.Author.Tests.{eqb-true, eqb-false}
 use Rattle.sheet.specs.Model.{Model}
-use Rattle.sheet.specs.Record.{Record, byteAt, sectionOf, nextAt, recordAt}
-use Rattle.sheet.specs.Reading.{Tally as Counts, Offsets, Unended, nothing, Reading, tallyPast, offsetsPast, readingPast, taken, not-taken, takeAt, noneYet}
+use Rattle.sheet.specs.Record.{Record, byteAt, sectionOf, recordAt}
+use Rattle.sheet.specs.Reading.{Tally as Counts, Reading, tallyPast, readingPast, taken, not-taken, takeAt, noneYet}
 use Rattle.sheet.proofs.Counted.{tallyOf as countsOf, tally-past}
 use Rattle.records.specs.declared.Refusal.{Refusal}
 use Rattle.records.specs.declared.Refusal.the-variants.{WrongSection}
@@ -20,15 +20,15 @@ use Rattle.records.specs.declared.Found.{Found}
 use Rattle.records.specs.declared.Found.the-variants as found
 use Rattle.records.specs.Refusal.{numberOf, placeOf}
 use Rattle.records.specs.Found.{foundAt}
-use Rattle.records.proofs.Laws.{Stood, stood, refused}
+use Rattle.records.proofs.Laws.{Stood, refused}
 use Rattle.tally.specs.declared.Tally.{Tally}
 use Rattle.tally.specs.Tally.{tallyOf, tallyAfter, Room}
 use Rattle.tally.proofs.Laws.{counted-past}
 use Rattle.reader.specs.declared.Section.{Section}
 use Rattle.reader.specs.declared.Section.the-variants.{Done, Refused}
-use Rattle.reader.specs.State.{stateAt, lastState, overwritten}
+use Rattle.reader.specs.State.{stateAt, overwritten}
 use Rattle.reader.specs.Left.{Here, Stands, Between, put, Filled, Kept, Told, sectionOfFound}
-use Rattle.reader.proofs.Here.{ended, refused as refused-here, taken-on}
+use Rattle.reader.proofs.Here.{refused as refused-here, taken-on}
 use Rattle.reader.proofs.Order.{four-early}
 
 -- Sections by kind ----------------------------------------------------------------------------------------------------

@@ -1,4 +1,4 @@
-use mathlib.Core.Path.{_≡_, refl, sym, ap, _∙_}
+use mathlib.Core.Path.{sym, _∙_}
 use Prim.Native.Nat.{_-_}
 use native.Mathlib.Omega.{arith}
 use lib.ListN.{length}
@@ -9,7 +9,7 @@ use Rattle.sheet.specs.Model.{Model, large}
 use Rattle.sheet.proofs.Fields.{next-lt}
 use Rattle.records.proofs.Laws.{Stood, stood}
 use Rattle.tally.specs.Tally.{tallyOf, Room}
-use Rattle.reader.specs.Left.{modelOf, Kept}
+use Rattle.reader.specs.Left.{Kept}
 use Rattle.reader.proofs.Step.{in-order, no-record, too-early, later-section, no-more}
 use Rattle.reader.proofs.Alone.{a-method, full, unnamed, room-past, first-is, primitive-first, again}
 use Rattle.reader.proofs.read_methods.Statement.{statement}

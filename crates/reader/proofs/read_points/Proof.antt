@@ -1,19 +1,15 @@
-use mathlib.Core.Path.{_≡_, refl, sym, ap, _∙_}
-use mathlib.Core.List.{List, []}
-use Prim.Native.Nat.{ℕ, _≤_, _<_}
+use mathlib.Core.Path.{refl, sym, _∙_}
+use Prim.Native.Nat.{_-_}
 use native.Mathlib.Omega.{arith}
 use borrow.Author.Tests.{not-true, not-false}
-use Rattle.sheet.specs.Reading.{Offsets}
 use Rattle.sheet.proofs.Fields.{next-lt}
 use Rattle.records.proofs.Laws.{Stood, stood}
-use Rattle.reader.proofs.Step.{in-order, begin, no-record, too-early, later-section, no-more}
+use Rattle.reader.proofs.Step.{in-order, no-record, too-early, later-section, no-more}
 use Rattle.reader.proofs.Alone.{a-point, full, unnamed, again}
-use Prim.Native.Nat.{_-_}
 use lib.ListN.{length}
 use lib.Dec.{lit≤}
 use borrow.Author.Needs.{needs}
-use Rattle.reader.specs.Left.{modelOf, put, Kept}
-use Rattle.reader.specs.State.{stateAt}
+use Rattle.reader.specs.Left.{modelOf, Kept}
 use Rattle.reader.proofs.read_points.Statement.{statement}
 use Rattle.reader.proofs.read_points.Tie as tie
 

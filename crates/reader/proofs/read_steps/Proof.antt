@@ -1,14 +1,12 @@
-use mathlib.Core.Path.{_≡_, refl, sym, ap, _∙_}
+use mathlib.Core.Path.{refl, sym, _∙_}
 use Prim.Native.Nat.{_-_}
 use native.Mathlib.Omega.{arith}
 use lib.ListN.{length}
 use lib.Dec.{lit≤}
 use borrow.Author.Needs.{needs}
 use borrow.Author.Tests.{not-true, not-false}
-use Rattle.sheet.specs.Model.{Model, large}
 use Rattle.sheet.proofs.Fields.{next-lt}
 use Rattle.records.proofs.Laws.{Stood, stood}
-use Rattle.tally.specs.Tally.{tallyOf, Room}
 use Rattle.reader.specs.Left.{modelOf, Kept}
 use Rattle.reader.proofs.Step.{in-order, no-record, too-early, later-section, no-more}
 use Rattle.reader.proofs.Alone.{a-step, full, unnamed, again}
