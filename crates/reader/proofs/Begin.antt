@@ -31,6 +31,7 @@ use Rattle.reader.proofs.Here.{start-is, begins, ended}
 use Rattle.reader.proofs.Order.{four-open, five, six, takes as is-taken}
 use Rattle.reader.proofs.Step.{in-order, or-above, stored, refuses, stands-past}
 
+-- the code can count on
 pub room-past : {t t′ : Tally} {kind : ℕ} → kind ≤ 6 → (6 ≤ kind → t .conditions < conditionLimit) → t′ ≡ tallyAfter t kind → Room (tallyOf t) → Room (tallyOf t′)
 room-past {t} {t′} {kind} six less after room = subst (λ (t : Tally). Room (tallyOf t)) (sym after) (go (eqb kind 6) refl)
   where
@@ -52,6 +53,7 @@ pub record Matches (u : Unended) (at start : ℕ) (b : Begun) : Type 0 where
   pub opened : conditionOpen u ≡ ltb 0 (b .symbols)
   pub inside : endsInside u ≡ ltb 0 (b .symbols)
 
+-- what the loop keeps; a condition that is begun started at start, and else the next one would start here
 pub record Opening (M : Model) (s : List ℕ) (at start : ℕ) (b : Begun) (t : Tally) (table₀ table : List ℕ) : Type 0 where
   pub stands : Stands M s 1 at t
   pub filled : Filled 1 (stateAt M s 0 .offsets) (stateAt M s at .offsets) table₀ table
@@ -157,6 +159,7 @@ module _ {M : Model} {s : List ℕ} {at start : ℕ} {b : Begun} {t : Tally} {ta
       free : (conditionOpen u && ltb 6 (byteAt s at)) ≡ false
       free = ap (λ (c : Bool). conditionOpen u && c) (le-ltb 6 (byteAt s at) (omega (arith, w .kind))) ∙ and-false (conditionOpen u)
 
+      -- what a step tells of the record: that it is refused, or, with what is begun past it, that it is taken
       abbrev Tells : (Begun → Type 0) → Stepped → Type 0
       Tells On (stepped.On b′) = On b′
       Tells On (stepped.Refused x) = (takeAt M s at r ≡ not-taken (numberOf x)) × (placeOf x ≡ some at)

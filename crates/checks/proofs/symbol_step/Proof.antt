@@ -1,3 +1,4 @@
+-- The tests are those of `symbolStep`, in its order.
 use Rattle.checks.proofs.Laws.{leaves-le}
 use mathlib.Core.Path.{sym, _∙_}
 use native.Mathlib.Omega.{arith}

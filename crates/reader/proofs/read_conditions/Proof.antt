@@ -1,3 +1,4 @@
+-- The loop keeps `Opening`, whatever the model. Each answer is the law of the test that led to it.
 use mathlib.Core.Path.{sym, _∙_, subst}
 use Prim.Native.Nat.{_-_, _≤_, _<_}
 use native.Mathlib.Omega.{arith}
