@@ -23,7 +23,8 @@ use Rattle.reader.specs.declared.Section.the-variants.{Refused}
 use Rattle.reader.specs.State.{stateAt, overwritten}
 use Rattle.reader.specs.Left.{put, Kept, Told}
 use Rattle.reader.proofs.Order.{six, seven, nine, takes}
-use Rattle.reader.proofs.Step.{or-above, none-yet, stored, refuses, stands-past}
+use Rattle.reader.proofs.Step.{or-above, none-yet, refuses, stands-past}
+use Rattle.reader.proofs.Overwritten.{stored}
 
 -- x stands at an offset, with a kind of section k; the code has counted n of them, of limit at most
 pub record Alone (M : Model) (s : List ℕ) (k at : ℕ) (t : Tally) (kind n limit : ℕ) (x : Record) : Type 0 where

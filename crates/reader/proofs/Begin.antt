@@ -29,7 +29,8 @@ use Rattle.reader.specs.Left.{nothingCounted, sectionPast, Stands, put, 
 use Rattle.checks.specs.Step.{nothingBegun, itemsTaken, symbolStep, endStep, conditionStep}
 use Rattle.reader.proofs.Here.{start-is, begins, ended}
 use Rattle.reader.proofs.Order.{four-open, five, six, takes as is-taken}
-use Rattle.reader.proofs.Step.{in-order, or-above, stored, refuses, stands-past}
+use Rattle.reader.proofs.Step.{in-order, or-above, refuses, stands-past}
+use Rattle.reader.proofs.Overwritten.{stored}
 
 -- the code can count on
 pub room-past : {t t′ : Tally} {kind : ℕ} → kind ≤ 6 → (6 ≤ kind → t .conditions < conditionLimit) → t′ ≡ tallyAfter t kind → Room (tallyOf t) → Room (tallyOf t′)

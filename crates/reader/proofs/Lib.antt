@@ -1,3 +1,4 @@
+pub mod Overwritten
 mod Here
 mod Order
 mod Step

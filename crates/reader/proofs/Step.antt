@@ -2,10 +2,10 @@
 use mathlib.Core.Path.{_≡_, refl, sym, ap, _∙_, subst}
 use mathlib.Core.Bool.{Bool, true, false}
 use mathlib.Core.Option.{some}
-use mathlib.Core.List.{List, [], _∷_, _++_}
+use mathlib.Core.List.{List, [], _∷_}
 use Prim.Native.Nat.{ℕ, zero, suc, _≤_, _<_}
 use native.Mathlib.Omega.{arith, by-contra}
-use lib.ListN.{length, set}
+use lib.ListN.{length}
 use lib.Dec.{leb, leb→le, eqb, eqb·suc-zero}
 use Rattle.bits.specs.Bits.{allBelow}
 use Rattle.bits.proofs.Tests.{all-out}
@@ -26,7 +26,7 @@ use Rattle.tally.specs.Tally.{tallyOf, tallyAfter, Room}
 use Rattle.tally.proofs.Laws.{counted-past}
 use Rattle.reader.specs.declared.Section.{Section}
 use Rattle.reader.specs.declared.Section.the-variants.{Done, Refused}
-use Rattle.reader.specs.State.{stateAt, overwritten}
+use Rattle.reader.specs.State.{stateAt}
 use Rattle.reader.specs.Left.{Here, Stands, Between, put, Filled, Kept, Told, sectionOfFound}
 use Rattle.reader.proofs.Here.{refused as refused-here, taken-on}
 use Rattle.reader.proofs.Order.{four-early}
@@ -54,13 +54,7 @@ or-above P n k low p more = go (eqb k n) refl
     go true e = subst P (sym (eqb-true k n e)) p
     go false e = more (let ne = eqb-false k n e in omega arith)
 
--- Tables --------------------------------------------------------------------------------------------------------------
-
-pub stored : (os table : List ℕ) (o : ℕ) → set (overwritten os table) (length os) o ≡ overwritten (os ++ (o ∷ [])) table
-stored [] [] o = refl
-stored [] (x ∷ table) o = refl
-stored (p ∷ os) [] o = refl
-stored (p ∷ os) (x ∷ table) o = ap (λ (l : List ℕ). p ∷ l) (stored os table o)
+-- A section -----------------------------------------------------------------------------------------------------------
 
 pub none-yet : (os : List ℕ) → noneYet os ≡ eqb (length os) 0
 none-yet [] = refl
