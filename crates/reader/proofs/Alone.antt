@@ -1,17 +1,17 @@
 -- Points, methods and steps: records that stand alone, each counted and its offset stored.
 use mathlib.Core.Path.{_≡_, refl, sym, ap, _∙_, subst}
 use mathlib.Core.Bool.{Bool, true, false, cond, _&&_}
-use mathlib.Core.Option.{Option, none, some}
+use mathlib.Core.Option.{none, some}
 use mathlib.Core.List.{List, [], _∷_, _++_}
-use Prim.Native.Nat.{ℕ, suc, _+_, _≤_, _<_}
+use Prim.Native.Nat.{ℕ, _≤_, _<_}
 use native.Mathlib.Omega.{arith}
 use lib.ListN.{length, getD, set}
-use lib.Dec.{ltb, leb, eqb, eqb·suc-zero}
-use borrow.Author.Tests.{le-leb, lt-leb, eqb-true, eqb-false}
+use lib.Dec.{ltb, leb, eqb}
+use borrow.Author.Tests.{le-leb, lt-leb}
 use Rattle.sheet.specs.Model.{Model, methodLimit, stepLimit}
 use Rattle.sheet.specs.Sheet.{Body}
 use Rattle.sheet.specs.Record.{Record, byteAt, sectionOf, nextAt, recordsByKind, recordAt, point-record, pointAt, method-record, methodAt, step-record, stepAt}
-use Rattle.sheet.specs.Reading.{Tally as Counts, Offsets, Unended, nothing, Reading, conditionOpen, startOf, wrongItems, overLimit, named, isPrimitive, noneYet, firstIsPrimitive, unendedPast, tallyPast, offsetsPast}
+use Rattle.sheet.specs.Reading.{Tally as Counts, Offsets, Unended, nothing, Reading, conditionOpen, startOf, wrongItems, overLimit, named, isPrimitive, firstIsPrimitive, unendedPast, tallyPast, offsetsPast}
 use Rattle.sheet.proofs.Counted.{tallyOf as countsOf}
 use Rattle.sheet.proofs.Kind.{kind-is}
 use Rattle.records.specs.declared.Refusal.the-variants.{OverLimit, UnknownName, NoFirstBody}
@@ -23,7 +23,8 @@ use Rattle.reader.specs.declared.Section.the-variants.{Refused}
 use Rattle.reader.specs.State.{stateAt, overwritten}
 use Rattle.reader.specs.Left.{put, Kept, Told}
 use Rattle.reader.proofs.Order.{six, seven, nine, takes}
-use Rattle.reader.proofs.Step.{or-above, none-yet, stored, refuses, stands-past}
+use Rattle.reader.proofs.Step.{or-above, none-yet, refuses, stands-past}
+use Rattle.reader.proofs.Overwritten.{stored}
 
 -- x stands at an offset, with a kind of section k; the code has counted n of them, of limit at most
 pub record Alone (M : Model) (s : List ℕ) (k at : ℕ) (t : Tally) (kind n limit : ℕ) (x : Record) : Type 0 where

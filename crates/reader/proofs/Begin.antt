@@ -1,64 +1,38 @@
 -- The section of conditions: what is begun of a condition, and what a record of one does to it.
 use mathlib.Core.Path.{_≡_, refl, sym, ap, _∙_, subst}
 use mathlib.Core.Bool.{Bool, true, false, cond, not, _&&_, _||_}
-use mathlib.Core.Option.{Option, none, some}
+use mathlib.Core.Option.{none, some}
 use mathlib.Core.List.{List, [], _∷_, _++_}
-use Prim.Native.Nat.{ℕ, suc, _+_, _-_, _≤_, _<_}
+use Prim.Native.Nat.{ℕ, _+_, _≤_, _<_}
 use native.Mathlib.Omega.{arith}
 use lib.ListN.{length, getD, set}
 use lib.Dec.{T, ltb, leb, eqb, lit≤}
-use borrow.Author.Tests.{ltb-true, ltb-false, leb-false, eqb-true, lt-ltb, le-ltb, eq-eqb, ne-eqb}
+use borrow.Author.Tests.{ltb-true, ltb-false, eqb-true, lt-ltb, le-ltb, ne-eqb}
 use Rattle.sheet.specs.Model.{Model, conditionLimit, symbolLimit, leafLimit}
-use Rattle.sheet.specs.Record.{Symbol, leaf-symbol, empty-symbol, join-symbol, either-symbol, star-symbol, Record, symbol-record, end-of-condition, byteAt, setAt, sectionOf, nextAt, recordsByKind, recordAt}
-use Rattle.sheet.specs.Reading.{Tally as Counts, Offsets, Unended, nothing, a-condition, a-certificate, Reading, fresh, itemsOf, symbolsOf, leavesOf, startOf, conditionOpen, takes, isLeaf, leafCount, overLimit, unendedPast, tallyPast, offsetsPast, readingPast, taken, not-taken, takeAt, refusal, endsInside, endedBy, readSheet}
+use Rattle.sheet.specs.Record.{Symbol, leaf-symbol, empty-symbol, join-symbol, either-symbol, star-symbol, symbol-record, end-of-condition, byteAt, setAt, sectionOf, nextAt, recordsByKind, recordAt}
+use Rattle.sheet.specs.Reading.{Tally as Counts, Offsets, Unended, nothing, a-condition, a-certificate, Reading, itemsOf, symbolsOf, leavesOf, startOf, conditionOpen, takes, isLeaf, leafCount, overLimit, unendedPast, offsetsPast, readingPast, taken, not-taken, takeAt, endsInside}
 use Rattle.sheet.proofs.Counted.{tallyOf as countsOf}
 use Rattle.sheet.proofs.Kind.{kind-is}
 use Rattle.records.specs.declared.Refusal.{Refusal}
-use Rattle.records.specs.declared.Refusal.the-variants.{WrongSection, WrongItems, OverLimit, Unfinished}
+use Rattle.records.specs.declared.Refusal.the-variants.{WrongSection, Unfinished}
 use Rattle.records.specs.Refusal.{numberOf, placeOf}
 use Rattle.records.proofs.Laws.{cond-by, Stood}
 use Rattle.tally.specs.declared.Tally.{Tally}
 use Rattle.tally.specs.Tally.{tallyOf, tallyAfter, Room}
 use Rattle.reader.specs.declared.Section.{Section}
 use Rattle.reader.specs.declared.Section.the-variants.{Done, Refused}
-use Rattle.reader.specs.declared.Begun.{Begun}
-use Rattle.reader.specs.declared.Stepped.{Stepped}
-use Rattle.reader.specs.declared.Stepped.the-variants as stepped
-use Rattle.reader.specs.State.{stateAt, lastState, overwritten}
-use Rattle.reader.specs.Left.{Here, Stands, put, Filled, Told}
-use Rattle.reader.specs.Step.{nothingCounted, nothingBegun, Modest, itemsTaken, leavesIn, symbolStep, endStep, conditionStep, sectionPast}
+use Rattle.checks.specs.declared.Begun.{Begun}
+use Rattle.checks.specs.declared.Stepped.{Stepped}
+use Rattle.checks.specs.declared.Stepped.the-variants as stepped
+use Rattle.reader.specs.State.{stateAt, overwritten}
+use Rattle.reader.specs.Left.{nothingCounted, sectionPast, Stands, put, Filled, Told}
+use Rattle.checks.specs.Step.{nothingBegun, itemsTaken, symbolStep, endStep, conditionStep}
 use Rattle.reader.proofs.Here.{start-is, begins, ended}
 use Rattle.reader.proofs.Order.{four-open, five, six, takes as is-taken}
-use Rattle.reader.proofs.Step.{in-order, or-above, stored, refuses, stands-past}
+use Rattle.reader.proofs.Step.{in-order, or-above, refuses, stands-past}
+use Rattle.reader.proofs.Overwritten.{stored}
 
--- What the code needs for its own numbers -----------------------------------------------------------------------------
-
-pub leaves-le : (kind : ℕ) → leavesIn kind ≤ 1
-leaves-le kind = cond-by (λ n. n ≤ 1) (eqb kind 1) (λ e. lit≤ tt) (λ e. lit≤ tt)
-
--- past a step that is no refusal: what is begun stays modest, and the end of a condition has room for it
-abbrev Modestly : ℕ → ℕ → Stepped → Type 0
-Modestly kind n (stepped.On b) = Modest b × (6 ≤ kind → n < conditionLimit)
-Modestly kind n (stepped.Refused y) = Unit {0}
-
-stays-modest : (b : Begun) (kind n at : ℕ) → Modest b → Modestly kind n (conditionStep b kind n at)
-stays-modest b kind n at h =
-    let P = Modestly kind n in
-    cond-by P (ltb kind 6)
-    (λ low. cond-by P (ltb (b .items) (itemsTaken kind)) (λ e. tt)
-    (λ items. cond-by P (leb symbolLimit (b .symbols)) (λ e. tt)
-    (λ e. cond-by P (eqb kind 1 && leb leafLimit (b .leaves)) (λ e. tt)
-    (λ e.
-    let enough = ltb-false (b .items) (itemsTaken kind) items in
-    let less = ltb-true kind 6 low in
-    (record { items = omega (arith, h .items); leaves = omega (arith, h .leaves, leaves-le kind) }, λ high. absurd (omega arith))))))
-    (λ high. cond-by P (eqb (b .items) 1)
-    (λ e. cond-by P (leb conditionLimit n) (λ e. tt) (λ less. (record { items = lit≤ tt; leaves = lit≤ tt }, λ high. leb-false conditionLimit n less)))
-    (λ e. tt))
-
-pub modest-past : {b b′ : Begun} {g : Stepped} (kind n at : ℕ) → Modest b → g ≡ conditionStep b kind n at → g ≡ stepped.On b′ → Modest b′ × (6 ≤ kind → n < conditionLimit)
-modest-past {b} kind n at h is e = subst (Modestly kind n) (sym is ∙ e) (stays-modest b kind n at h)
-
+-- the code can count on
 pub room-past : {t t′ : Tally} {kind : ℕ} → kind ≤ 6 → (6 ≤ kind → t .conditions < conditionLimit) → t′ ≡ tallyAfter t kind → Room (tallyOf t) → Room (tallyOf t′)
 room-past {t} {t′} {kind} six less after room = subst (λ (t : Tally). Room (tallyOf t)) (sym after) (go (eqb kind 6) refl)
   where
@@ -80,6 +54,7 @@ pub record Matches (u : Unended) (at start : ℕ) (b : Begun) : Type 0 where
   pub opened : conditionOpen u ≡ ltb 0 (b .symbols)
   pub inside : endsInside u ≡ ltb 0 (b .symbols)
 
+-- what the loop keeps; a condition that is begun started at start, and else the next one would start here
 pub record Opening (M : Model) (s : List ℕ) (at start : ℕ) (b : Begun) (t : Tally) (table₀ table : List ℕ) : Type 0 where
   pub stands : Stands M s 1 at t
   pub filled : Filled 1 (stateAt M s 0 .offsets) (stateAt M s at .offsets) table₀ table
@@ -185,6 +160,7 @@ module _ {M : Model} {s : List ℕ} {at start : ℕ} {b : Begun} {t : Tally} {ta
       free : (conditionOpen u && ltb 6 (byteAt s at)) ≡ false
       free = ap (λ (c : Bool). conditionOpen u && c) (le-ltb 6 (byteAt s at) (omega (arith, w .kind))) ∙ and-false (conditionOpen u)
 
+      -- what a step tells of the record: that it is refused, or, with what is begun past it, that it is taken
       abbrev Tells : (Begun → Type 0) → Stepped → Type 0
       Tells On (stepped.On b′) = On b′
       Tells On (stepped.Refused x) = (takeAt M s at r ≡ not-taken (numberOf x)) × (placeOf x ≡ some at)

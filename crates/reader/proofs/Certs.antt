@@ -1,17 +1,16 @@
 -- The section of certificates, and the end of the sheet.
 use mathlib.Core.Path.{_≡_, refl, sym, ap, _∙_, subst}
-use mathlib.Core.Bool.{Bool, true, false, cond, not, _&&_}
-use mathlib.Core.Option.{none, some}
+use mathlib.Core.Bool.{Bool, true, false, _&&_}
+use mathlib.Core.Option.{some}
 use mathlib.Core.List.{List, [], _∷_, _++_}
-use Prim.Native.Nat.{ℕ, zero, suc, _+_, _^_, _≤_, _<_}
+use Prim.Native.Nat.{ℕ, _+_, _^_, _≤_, _<_}
 use native.Mathlib.Omega.{arith}
 use lib.ListN.{length, getD}
 use lib.Dec.{T, ltb, eqb, lit≤}
 use borrow.Author.Tests.{eq-eqb, ne-eqb}
 use Rattle.sheet.specs.Model.{Model}
-use Rattle.sheet.specs.Record.{Record, byteAt, sectionOf, nextAt, recordAt, pair-record, pairAt, end-of-certificate}
-use Rattle.sheet.specs.Reading.{Tally as Counts, Offsets, Unended, nothing, a-condition, a-certificate, Reading, conditionOpen, startOf, unendedPast, tallyPast, offsetsPast, readingPast, taken, not-taken, takeAt, whole, refusal, endsInside, noneYet, endRefusal, endedBy, readSheet}
-use Rattle.sheet.proofs.Counted.{tallyOf as countsOf}
+use Rattle.sheet.specs.Record.{byteAt, sectionOf, nextAt, pair-record, pairAt, end-of-certificate}
+use Rattle.sheet.specs.Reading.{Tally as Counts, Offsets, Unended, nothing, a-condition, a-certificate, Reading, conditionOpen, startOf, offsetsPast, not-taken, takeAt, whole, endsInside, noneYet, endRefusal, endedBy, readSheet}
 use Rattle.sheet.proofs.Kind.{kind-is}
 use Rattle.records.specs.declared.Refusal.{Refusal}
 use Rattle.records.specs.declared.Refusal.the-variants.{WrongSection, Unfinished, NoFirstBody}
@@ -27,7 +26,7 @@ use Rattle.reader.specs.declared.Read.{Read}
 use Rattle.reader.specs.declared.Read.the-variants.{Whole, Refused}
 use Rattle.reader.specs.Contract.{Answered}
 use Rattle.reader.specs.State.{stateAt, lastState}
-use Rattle.reader.specs.Left.{sectionOfFound, readOf, Here, Stands, Between, put, Concluded}
+use Rattle.reader.specs.Left.{sectionOfFound, readOf, Stands, Between, put, Concluded}
 use Rattle.reader.proofs.Here.{ended, refused as refused-here}
 use Rattle.reader.proofs.Order.{takes}
 use Rattle.reader.proofs.Step.{or-above, none-yet, in-order, early, stands-past}

@@ -1,15 +1,15 @@
 -- Reading comes to an offset: at the start, past each record that is taken, and what is known there of the outcome and of the last state.
-use mathlib.Core.Path.{_≡_, refl, sym, ap, _∙_, subst}
-use mathlib.Core.Bool.{Bool, true, false, cond}
+use mathlib.Core.Path.{_≡_, refl, sym, ap, _∙_}
+use mathlib.Core.Bool.{cond}
 use mathlib.Core.List.{List}
 use Prim.Native.Nat.{ℕ, zero, suc, _+_, _≤_, _<_}
 use native.Mathlib.Omega.{arith}
 use lib.ListN.{length}
-use lib.Dec.{leb, ltb}
+use lib.Dec.{leb}
 use borrow.Author.Tests.{le-leb, lt-leb, lt-ltb, le-ltb}
 use Rattle.sheet.specs.Model.{Model}
 use Rattle.sheet.specs.Record.{nextAt}
-use Rattle.sheet.specs.Reading.{Reading, fresh, Taken, taken, not-taken, takeAt, refusal, atEnd, readOn, readFrom, readSheet}
+use Rattle.sheet.specs.Reading.{Reading, fresh, Taken, taken, not-taken, takeAt, refusal, atEnd, readOn, readSheet}
 use Rattle.sheet.proofs.Fields.{next-lt}
 use Rattle.sheet.proofs.ReadOn as left
 use Rattle.reader.specs.State.{pastTaken, stateOn, stateAt, lastState}

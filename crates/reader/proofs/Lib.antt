@@ -1,8 +1,8 @@
-pub mod Here
-pub mod Order
-pub mod Step
-pub mod Names
-pub mod Alone
-pub mod Certs
-pub mod Begin
-pub mod Whole
+pub mod Overwritten
+mod Here
+mod Order
+mod Step
+mod Alone
+mod Certs
+mod Begin
+mod Whole

@@ -2,17 +2,17 @@
 use mathlib.Core.Path.{_≡_, refl, sym, ap, _∙_, subst}
 use mathlib.Core.Bool.{Bool, true, false}
 use mathlib.Core.Option.{some}
-use mathlib.Core.List.{List, [], _∷_, _++_}
-use Prim.Native.Nat.{ℕ, zero, suc, _+_, _-_, _≤_, _<_}
+use mathlib.Core.List.{List, [], _∷_}
+use Prim.Native.Nat.{ℕ, zero, suc, _≤_, _<_}
 use native.Mathlib.Omega.{arith, by-contra}
-use lib.ListN.{length, getD, set}
+use lib.ListN.{length}
 use lib.Dec.{leb, leb→le, eqb, eqb·suc-zero}
 use Rattle.bits.specs.Bits.{allBelow}
 use Rattle.bits.proofs.Tests.{all-out}
 use borrow.Author.Tests.{eqb-true, eqb-false}
 use Rattle.sheet.specs.Model.{Model}
-use Rattle.sheet.specs.Record.{Record, byteAt, sectionOf, nextAt, recordAt}
-use Rattle.sheet.specs.Reading.{Tally as Counts, Offsets, Unended, nothing, Reading, tallyPast, offsetsPast, readingPast, taken, not-taken, takeAt, noneYet}
+use Rattle.sheet.specs.Record.{Record, byteAt, sectionOf, recordAt}
+use Rattle.sheet.specs.Reading.{Tally as Counts, Reading, tallyPast, readingPast, taken, not-taken, takeAt, noneYet}
 use Rattle.sheet.proofs.Counted.{tallyOf as countsOf, tally-past}
 use Rattle.records.specs.declared.Refusal.{Refusal}
 use Rattle.records.specs.declared.Refusal.the-variants.{WrongSection}
@@ -20,15 +20,15 @@ use Rattle.records.specs.declared.Found.{Found}
 use Rattle.records.specs.declared.Found.the-variants as found
 use Rattle.records.specs.Refusal.{numberOf, placeOf}
 use Rattle.records.specs.Found.{foundAt}
-use Rattle.records.proofs.Laws.{Stood, stood, refused}
+use Rattle.records.proofs.Laws.{Stood, refused}
 use Rattle.tally.specs.declared.Tally.{Tally}
 use Rattle.tally.specs.Tally.{tallyOf, tallyAfter, Room}
 use Rattle.tally.proofs.Laws.{counted-past}
 use Rattle.reader.specs.declared.Section.{Section}
 use Rattle.reader.specs.declared.Section.the-variants.{Done, Refused}
-use Rattle.reader.specs.State.{stateAt, lastState, overwritten}
+use Rattle.reader.specs.State.{stateAt}
 use Rattle.reader.specs.Left.{Here, Stands, Between, put, Filled, Kept, Told, sectionOfFound}
-use Rattle.reader.proofs.Here.{ended, refused as refused-here, taken-on}
+use Rattle.reader.proofs.Here.{refused as refused-here, taken-on}
 use Rattle.reader.proofs.Order.{four-early}
 
 -- Sections by kind ----------------------------------------------------------------------------------------------------
@@ -54,13 +54,7 @@ or-above P n k low p more = go (eqb k n) refl
     go true e = subst P (sym (eqb-true k n e)) p
     go false e = more (let ne = eqb-false k n e in omega arith)
 
--- Tables --------------------------------------------------------------------------------------------------------------
-
-pub stored : (os table : List ℕ) (o : ℕ) → set (overwritten os table) (length os) o ≡ overwritten (os ++ (o ∷ [])) table
-stored [] [] o = refl
-stored [] (x ∷ table) o = refl
-stored (p ∷ os) [] o = refl
-stored (p ∷ os) (x ∷ table) o = ap (λ (l : List ℕ). p ∷ l) (stored os table o)
+-- A section -----------------------------------------------------------------------------------------------------------
 
 pub none-yet : (os : List ℕ) → noneYet os ≡ eqb (length os) 0
 none-yet [] = refl

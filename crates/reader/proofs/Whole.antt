@@ -1,26 +1,23 @@
 -- From section to section: the tables that are filled, and the sections that are not yet read.
 use mathlib.Core.Path.{_≡_, refl, sym, ap, _∙_, subst}
-use mathlib.Core.Option.{some}
 use mathlib.Core.List.{List, []}
-use Prim.Native.Nat.{ℕ, suc, _+_, _≤_, _<_}
+use Prim.Native.Nat.{ℕ, suc, _≤_, _<_}
 use native.Mathlib.Omega.{arith}
 use lib.ListN.{length}
-use lib.Dec.{eqb, lit≤}
-use borrow.Author.Tests.{ne-eqb, lt-ltb}
+use lib.Dec.{lit≤}
+use borrow.Author.Tests.{ne-eqb}
 use Rattle.sheet.specs.Model.{Model}
-use Rattle.sheet.specs.Reading.{Tally as Counts, Offsets, Reading, fresh, refusal, readSheet}
-use Rattle.sheet.proofs.Counted.{tallyOf as countsOf}
+use Rattle.sheet.specs.Reading.{Tally as Counts, Offsets, Reading, fresh}
 use Rattle.records.specs.declared.Refusal.{Refusal}
 use Rattle.records.specs.declared.Refusal.the-variants.{TooLong}
 use Rattle.tally.specs.declared.Tally.{Tally}
-use Rattle.tally.specs.Tally.{tallyOf}
 use Rattle.reader.specs.declared.Section.{Section}
 use Rattle.reader.specs.declared.Section.the-variants.{Done, Refused}
 use Rattle.reader.specs.declared.Read.{Read}
 use Rattle.reader.specs.declared.Read.the-variants as read
-use Rattle.reader.specs.State.{stateAt, lastState}
+use Rattle.reader.specs.State.{stateAt}
 use Rattle.reader.specs.Contract.{Answered, Tables, Reads}
-use Rattle.reader.specs.Left.{readOf, Stands, Between, put, Filled, Kept, Told, Concluded}
+use Rattle.reader.specs.Left.{readOf, Between, put, Filled, Kept, Told, Concluded}
 use Rattle.reader.proofs.Here.{too-long, start-is}
 use Rattle.reader.proofs.Step.{begin}
 

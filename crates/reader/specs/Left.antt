@@ -7,16 +7,17 @@ use lib.ListN.{length}
 use lib.Dec.{eqb}
 use Rattle.sheet.specs.Model.{Model}
 use Rattle.sheet.specs.Record.{byteAt, sectionOf}
-use Rattle.sheet.specs.Reading.{Offsets, nothing, refusal, readOn, readSheet}
+use Rattle.sheet.specs.Reading.{Offsets, nothing, readOn, readSheet}
 use Rattle.sheet.proofs.Counted.{tallyOf as countsOf}
 use Rattle.records.specs.declared.Found.{Found}
 use Rattle.records.specs.declared.Found.the-variants as found
+use Rattle.checks.specs.declared.Stepped.{Stepped}
+use Rattle.checks.specs.declared.Stepped.the-variants as stepped
 use Rattle.tally.specs.declared.Tally.{Tally}
 use Rattle.tally.specs.Tally.{tallyOf, Room}
 use Rattle.reader.specs.declared.Limits.{Limits}
 use Rattle.reader.specs.declared.Section.{Section}
 use Rattle.reader.specs.declared.Section.the-variants.{Done, Refused}
-use Rattle.reader.specs.declared.Contents.{Contents}
 use Rattle.reader.specs.declared.Read.{Read}
 use Rattle.reader.specs.declared.Read.the-variants as read
 use Rattle.reader.specs.Contract.{Refuses, Answered}
@@ -25,9 +26,16 @@ use Rattle.reader.specs.State.{stateOn, stateAt, lastState, overwritten}
 abbrev pub modelOf : Limits → Model
 modelOf l = record { bytes = l .bytes; points = l .points; events = l .events }
 
+abbrev pub nothingCounted : Tally
+nothingCounted = record { conditions = 0; points = 0; methods = 0; steps = 0; certificates = 0 }
+
 abbrev pub sectionOfFound : Found → Tally → Section
 sectionOfFound (found.Record k next) t = Done next t
 sectionOfFound (found.Refused x) t = Refused x
+
+abbrev pub sectionPast : Stepped → ℕ → Tally → Section
+sectionPast (stepped.On b) at t = Done at t
+sectionPast (stepped.Refused x) at t = Refused x
 
 abbrev pub readOf : Section → Read
 readOf (Done at t) = read.Whole (record { tally = t; certificates = at })

@@ -1,4 +1,3 @@
 pub mod State
 pub mod Contract
 pub mod Left
-pub mod Step

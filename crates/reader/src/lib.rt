@@ -1,21 +1,20 @@
 // Reading a sheet: five section readers go over the records, count them, and fill tables with their offsets.
 ghost use mathlib.Core.Path.{_≡_};
-ghost use mathlib.Core.Bool.{_&&_};
 ghost use mathlib.Core.List.{[]};
-ghost use Prim.Native.Nat.{_≤_, _<_};
+ghost use Prim.Native.Nat.{_≤_};
 ghost use lib.ListN.{length};
-ghost use lib.Dec.{ltb};
 ghost use Rattle.sheet.specs.Model.{Model, large};
-ghost use Rattle.sheet.specs.Reading.{named};
-ghost use Rattle.sheet.specs.Record.{byteAt, shortAt, point-record, pointAt, method-record, methodAt, step-record, stepAt};
 ghost use Rattle.tally.specs.Tally.{tallyOf, Room};
 ghost use Rattle.reader.specs.Contract.{Reads};
 ghost use Rattle.reader.specs.State.{stateAt};
-ghost use Rattle.reader.specs.Step.{nothingCounted, nothingBegun, itemsTaken, leavesIn, Modest, symbolStep, endStep, conditionStep, sectionPast};
-ghost use Rattle.reader.specs.Left.{modelOf, sectionOfFound, readOf, Between, Kept, Told, Concluded};
-use fields::byte_at;
-use fields::index;
-use fields::short_at;
+ghost use Rattle.reader.specs.Left.{modelOf, sectionOfFound, sectionPast, readOf, nothingCounted, Between, Kept, Told, Concluded};
+use checks::Stepped;
+use checks::both;
+use checks::condition_step;
+use checks::names_of_method;
+use checks::names_of_point;
+use checks::names_of_step;
+use checks::nothing_begun;
 use records::Found;
 use records::Refusal;
 use records::record_at;
@@ -81,152 +80,7 @@ fn nothing_counted() -> Tally
     }
 }
 
-fn both(a: bool, b: bool) -> bool
-    ensures { λ r. ⌜ r ≡ (a && b) ⌝ }
-{
-    if a { b } else { false }
-}
-
-// The name at an offset is one of the first n.
-fn below(s: &[u8], i: usize, n: usize) -> bool
-    ensures { λ r. ⌜ r ≡ ltb (shortAt (now (s .entry)) i) n ⌝ }
-{
-    short_at(s, i) < n
-}
-
-// The conditions that a point names exist.
-fn names_of_point(s: &[u8], at: usize, t: Tally) -> bool
-    requires { ⌜ at < length (now s) ⌝ }
-    ensures { λ r. ⌜ r ≡ named 0 (tallyOf t) (point-record (pointAt (now (s .entry)) at)) ⌝ }
-{
-    let n = t.conditions;
-    both(
-        both(below(s, at + 1, n), below(s, at + 3, n)),
-        below(s, at + 5, n),
-    )
-}
-
-// The conditions and the points that a method names exist. A primitive, of kind 8, names no points.
-fn names_of_method(s: &[u8], at: usize, kind: u8, t: Tally) -> bool
-    requires { ⌜ (at < length (now s)) × (byteAt (now s) at ≡ kind) ⌝ }
-    ensures { λ r. ⌜ r ≡ named 0 (tallyOf t) (method-record (methodAt (now (s .entry)) at)) ⌝ }
-{
-    let n = t.conditions;
-    let named = both(
-        both(below(s, at + 1, n), below(s, at + 3, n)),
-        below(s, at + 5, n),
-    );
-    if kind == 8 {
-        return named;
-    }
-    let p = t.points;
-    both(named, both(below(s, at + 7, p), below(s, at + 9, p)))
-}
-
-// The points that a step names exist, and its event or method does.
-fn names_of_step(s: &[u8], at: usize, kind: u8, events: usize, t: Tally) -> bool
-    requires { ⌜ (at < length (now s)) × (byteAt (now s) at ≡ kind) ⌝ }
-    ensures { λ r. ⌜ r ≡ named events (tallyOf t) (step-record (stepAt (now (s .entry)) at)) ⌝ }
-{
-    let p = t.points;
-    let named = both(below(s, at + 1, p), below(s, at + 3, p));
-    if kind == 10 {
-        return both(named, index(byte_at(s, at + 5)) < events);
-    }
-    if kind == 11 {
-        return both(named, below(s, at + 5, t.methods));
-    }
-    named
-}
-
-// What is begun of a condition: its items, its records of kinds 1 to 5 and its leaves so far.
-struct Begun {
-    items: usize,
-    symbols: usize,
-    leaves: usize,
-}
-
-// What is begun past a record, or the record's refusal.
-enum Stepped {
-    On(Begun),
-    Refused(Refusal),
-}
-
-fn nothing_begun() -> Begun
-    ensures { λ r. ⌜ r ≡ nothingBegun ⌝ }
-{
-    Begun {
-        items: 0,
-        symbols: 0,
-        leaves: 0,
-    }
-}
-
-// How many items a record of kinds 1 to 5 takes: JOIN and EITHER two, STAR one.
-fn items_taken(kind: u8) -> usize
-    ensures { λ r. ⌜ r ≡ itemsTaken kind ⌝ }
-{
-    if kind < 3 {
-        0
-    } else if kind < 5 {
-        2
-    } else {
-        1
-    }
-}
-
-fn leaves_in(kind: u8) -> usize
-    ensures { λ r. ⌜ r ≡ leavesIn kind ⌝ }
-{
-    if kind == 1 { 1 } else { 0 }
-}
-
-// A record of kinds 1 to 5.
-fn symbol_step(b: Begun, kind: u8, at: usize) -> Stepped
-    requires { ⌜ Modest b ⌝ }
-    ensures { λ r. ⌜ r ≡ symbolStep b kind at ⌝ }
-{
-    let taken = items_taken(kind);
-    if b.items < taken {
-        return Stepped::Refused(Refusal::WrongItems(at));
-    }
-    if 96 <= b.symbols {
-        return Stepped::Refused(Refusal::OverLimit(at));
-    }
-    if both(kind == 1, 31 <= b.leaves) {
-        return Stepped::Refused(Refusal::OverLimit(at));
-    }
-    Stepped::On(Begun {
-        items: b.items - taken + 1,
-        symbols: b.symbols + 1,
-        leaves: b.leaves + leaves_in(kind),
-    })
-}
-
-// The end of a condition, where n conditions have ended before.
-fn end_step(b: Begun, n: usize, at: usize) -> Stepped
-    ensures { λ r. ⌜ r ≡ endStep b n at ⌝ }
-{
-    if b.items == 1 {
-        if 256 <= n {
-            return Stepped::Refused(Refusal::OverLimit(at));
-        }
-        return Stepped::On(nothing_begun());
-    }
-    Stepped::Refused(Refusal::WrongItems(at))
-}
-
-fn condition_step(b: Begun, kind: u8, n: usize, at: usize) -> Stepped
-    requires { ⌜ Modest b ⌝ }
-    ensures { λ r. ⌜ r ≡ conditionStep b kind n at ⌝ }
-{
-    if kind < 6 {
-        return symbol_step(b, kind, at);
-    }
-    end_step(b, n, at)
-}
-
-// A section that ends with a step.
+// A section that ends with a step of a condition.
 fn section_past(stepped: Stepped, at: usize, tally: Tally) -> Section
     ensures { λ r. ⌜ r ≡ sectionPast stepped at tally ⌝ }
 {
@@ -236,6 +90,10 @@ fn section_past(stepped: Stepped, at: usize, tally: Tally) -> Section
     }
 }
 
+// The section readers. Each starts where reading has come to (`Kept`), and tells where its section ends, or the refusal that ends reading
+// (`Told`). Those that need no limit of the instrument say so of every model.
+
+// Kinds 1 to 6. A condition is stored with its start, when its end comes.
 fn read_conditions(s: &[u8], table: &mut [usize; 256]) -> Section
     ensures { λ r. ⌜ ((M : Model) → length (now (s .entry)) ≤ M .bytes → Told M (now (s .entry)) 1 0 (now (table .entry)) (now (table .exit)) r) ⌝ }
 {
@@ -273,6 +131,7 @@ fn read_conditions(s: &[u8], table: &mut [usize; 256]) -> Section
     Section::Done { at, tally }
 }
 
+// Kind 7.
 fn read_points(
     s: &[u8],
     limits: Limits,
@@ -310,6 +169,7 @@ fn read_points(
     Section::Done { at, tally }
 }
 
+// Kinds 8 and 9.
 fn read_methods(s: &[u8], from: usize, given: Tally, table: &mut [usize; 64]) -> Section
     requires { ⌜ Room (tallyOf given) ⌝ }
     ensures { λ r. ⌜ ((M : Model) → Kept M (now (s .entry)) 3 from from given (now (table .entry)) (now (table .entry))
@@ -345,6 +205,7 @@ fn read_methods(s: &[u8], from: usize, given: Tally, table: &mut [usize; 64]) ->
     Section::Done { at, tally }
 }
 
+// Kinds 10 to 12.
 fn read_steps(
     s: &[u8],
     limits: Limits,
@@ -382,7 +243,7 @@ fn read_steps(
     Section::Done { at, tally }
 }
 
-// The last section, and the end of the sheet.
+// Kinds 13 and 14, and the end of the sheet. Certificates have no table.
 fn read_certificates(s: &[u8], from: usize, given: Tally) -> Read
     requires { ⌜ Room (tallyOf given) × (given .certificates ≤ from) ⌝ }
     ensures { λ r. ⌜ ((M : Model) → Between M (now (s .entry)) 5 from given → stateAt M (now (s .entry)) from .offsets .certificates ≡ []
@@ -432,22 +293,22 @@ fn read_with(
         return Read::Refused(Refusal::TooLong(limits.bytes));
     }
     let first = read_conditions(s, conditions);
-    let Section::Done { at: a, tally: t } = first else {
+    let Section::Done { at, tally } = first else {
         return read_of(first);
     };
-    let second = read_points(s, limits, a, t, points);
-    let Section::Done { at: b, tally: u } = second else {
+    let second = read_points(s, limits, at, tally, points);
+    let Section::Done { at, tally } = second else {
         return read_of(second);
     };
-    let third = read_methods(s, b, u, methods);
-    let Section::Done { at: d, tally: v } = third else {
+    let third = read_methods(s, at, tally, methods);
+    let Section::Done { at, tally } = third else {
         return read_of(third);
     };
-    let fourth = read_steps(s, limits, d, v, steps);
-    let Section::Done { at: e, tally: w } = fourth else {
+    let fourth = read_steps(s, limits, at, tally, steps);
+    let Section::Done { at, tally } = fourth else {
         return read_of(fourth);
     };
-    read_certificates(s, e, w)
+    read_certificates(s, at, tally)
 }
 
 // The sheet, as the large instrument takes it: whole, or the first refusal of 1 to 9. Each table ends with the offsets of what was read in

@@ -4,7 +4,6 @@ use mathlib.Core.Option.{Option, none, some}
 use mathlib.Core.List.{List}
 use Prim.Native.Nat.{ℕ}
 use native.Mathlib.Numerals.{add-one}
-use lib.ListN.{getD}
 use Rattle.sheet.specs.Record.{Record, byteAt, recordsByKind, recordAt}
 use Rattle.sheet.specs.Reading.{tallyPast}
 use Rattle.sheet.proofs.Kind.{numbered, kind-is}

@@ -1,3 +1,4 @@
+-- The loop keeps `Ending`, whatever the model; there are no more certificates than bytes before.
 use mathlib.Core.Path.{_≡_, sym, ap, _∙_, subst}
 use mathlib.Core.List.{[]}
 use Prim.Native.Nat.{_+_, _-_, _^_, _≤_, _<_}

@@ -1,4 +1,5 @@
-use mathlib.Core.Path.{_≡_, sym, _∙_, subst}
+-- The loop keeps `Opening`, whatever the model. Each answer is the law of the test that led to it.
+use mathlib.Core.Path.{sym, _∙_, subst}
 use Prim.Native.Nat.{_-_, _≤_, _<_}
 use native.Mathlib.Omega.{arith}
 use lib.ListN.{length}
@@ -8,10 +9,10 @@ use Rattle.sheet.proofs.Fields.{next-lt}
 use Rattle.records.proofs.Laws.{Stood, stood}
 use Rattle.tally.specs.declared.Tally.{Tally}
 use Rattle.tally.specs.Tally.{tallyOf, Room}
-use Rattle.reader.specs.declared.Begun.{Begun}
-use Rattle.reader.specs.Step.{Modest}
+use Rattle.checks.specs.Step.{Modest}
+use Rattle.checks.proofs.Laws.{modest-past}
 use Rattle.reader.proofs.Step.{no-record}
-use Rattle.reader.proofs.Begin.{Opening, modest-past, room-past, begin, all-read, unfinished, later-section, still-open, no-step, past-symbol, past-end}
+use Rattle.reader.proofs.Begin.{Opening, room-past, begin, all-read, unfinished, later-section, still-open, no-step, past-symbol, past-end}
 use Rattle.reader.proofs.read_conditions.Statement.{statement}
 use Rattle.reader.proofs.read_conditions.Tie as tie
 

@@ -1,4 +1,5 @@
-use mathlib.Core.Path.{_≡_, refl, sym, ap, _∙_}
+-- The loop keeps `Kept`, whatever the model. Each answer is the law of the test that led to it.
+use mathlib.Core.Path.{sym, _∙_}
 use Prim.Native.Nat.{_-_}
 use native.Mathlib.Omega.{arith}
 use lib.ListN.{length}
@@ -9,7 +10,7 @@ use Rattle.sheet.specs.Model.{Model, large}
 use Rattle.sheet.proofs.Fields.{next-lt}
 use Rattle.records.proofs.Laws.{Stood, stood}
 use Rattle.tally.specs.Tally.{tallyOf, Room}
-use Rattle.reader.specs.Left.{modelOf, Kept}
+use Rattle.reader.specs.Left.{Kept}
 use Rattle.reader.proofs.Step.{in-order, no-record, too-early, later-section, no-more}
 use Rattle.reader.proofs.Alone.{a-method, full, unnamed, room-past, first-is, primitive-first, again}
 use Rattle.reader.proofs.read_methods.Statement.{statement}
@@ -41,22 +42,28 @@ section-of-requires : tie.Need-section-of-requires Inv-loop μ-loop
 section-of-requires c κs = search needs
 
 returns : tie.Need-returns Inv-loop μ-loop
-returns c = λ M h. let k = c .before .before .before .before .before .loop .inv .1 M h in no-record _ (k .between .stands .here) (k .filled) (c .before .before .before .before .loop-test .taken) (c .before .before .before .before .before .loop .tally) (c .before .before .before .record-at .ensures) (c .before .enum-told .given .1) (c .section-of .ensures)
+returns c = λ M h.
+    let k = c .before .before .before .before .before .loop .inv .1 M h in
+    no-record _ (k .between .stands .here) (k .filled) (c .before .before .before .before .loop-test .taken) _ (c .before .before .before .record-at .ensures) (c .before .enum-told .given .1) (c .section-of .ensures)
 
 returns-2 : tie.Need-returns-2 Inv-loop μ-loop
-returns-2 c = λ M h. too-early (c .before .before .before .before .before .before .loop .inv .1 M h) (standing (c .before)) (c .before .before .before .before .before .loop-test .taken) 7 (omega arith) (lit≤ tt) (lit≤ tt)
+returns-2 c = λ M h. let t = c .before in too-early (t .before .before .before .before .before .loop .inv .1 M h) (standing t) (t .before .before .before .before .loop-test .taken) 7 (omega arith) (lit≤ tt) (lit≤ tt)
 
 returns-3 : tie.Need-returns-3 Inv-loop μ-loop
-returns-3 c = λ M h. let w = standing (c .before .before) in later-section (c .before .before .before .before .before .before .before .loop .inv .1 M h) w (in-order 10 _ (c .if2 .taken) (w .high))
+returns-3 c = λ M h. let t = c .before .before in later-section (t .before .before .before .before .before .loop .inv .1 M h) (standing t) (in-order 10 _ (c .if2 .taken) (standing t .high))
 
 returns-4 : tie.Need-returns-4 Inv-loop μ-loop
-returns-4 c = λ M h. full (c .before .before .before .before .before .before .before .before .loop .inv .1 M h) (standing (c .before .before .before)) (c .before .before .before .before .before .before .before .loop-test .taken) (a-method (standing (c .before .before .before)) (c .before .before .if1 .left) (c .before .if2 .left)) (c .if3 .taken)
+returns-4 c = λ M h.
+    let t = c .before .before .before in
+    full (t .before .before .before .before .before .loop .inv .1 M h) (standing t) (t .before .before .before .before .loop-test .taken) (a-method (standing t) (c .before .before .if1 .left) (c .before .if2 .left)) (c .if3 .taken)
 
 names-of-method-requires : tie.Need-names-of-method-requires Inv-loop μ-loop
-names-of-method-requires c κs = (c .before .before .before .before .before .before .before .loop-test .taken, standing (c .before .before .before) .kind)
+names-of-method-requires c κs = let t = c .before .before .before in (t .before .before .before .before .loop-test .taken, standing t .kind)
 
 returns-5 : tie.Need-returns-5 Inv-loop μ-loop
-returns-5 c = λ M h. unnamed (c .before .before .before .before .before .before .before .before .before .before .loop .inv .1 M h) (standing (c .before .before .before .before .before)) (c .before .before .before .before .before .before .before .before .before .loop-test .taken) (a-method (standing (c .before .before .before .before .before)) (c .before .before .before .before .if1 .left) (c .before .before .before .if2 .left)) (c .before .before .if3 .left)
+returns-5 c = λ M h.
+    let t = c .before .before .before .before .before in
+    unnamed (t .before .before .before .before .before .loop .inv .1 M h) (standing t) (t .before .before .before .before .loop-test .taken) (a-method (standing t) (c .before .before .before .before .if1 .left) (c .before .before .before .if2 .left)) (c .before .before .if3 .left)
     (sym (c .before .names-of-method .ensures) ∙ not-true (c .before .names-of-method .result) (c .if4 .taken))
 
 both-requires : tie.Need-both-requires Inv-loop μ-loop
@@ -64,10 +71,11 @@ both-requires c κs = search needs
 
 returns-6 : tie.Need-returns-6 Inv-loop μ-loop
 returns-6 c = λ M h.
-    let k = c .before .before .before .before .before .before .before .before .before .before .before .before .loop .inv .1 M h in
-    primitive-first k (standing (c .before .before .before .before .before .before .before)) (c .before .before .before .before .before .before .before .before .before .before .before .loop-test .taken) (a-method (standing (c .before .before .before .before .before .before .before)) (c .before .before .before .before .before .before .if1 .left) (c .before .before .before .before .before .if2 .left)) (c .before .before .before .before .if3 .left)
+    let t = c .before .before .before .before .before .before .before in
+    let k = t .before .before .before .before .before .loop .inv .1 M h in
+    primitive-first k (standing t) (t .before .before .before .before .loop-test .taken) (a-method (standing t) (c .before .before .before .before .before .before .if1 .left) (c .before .before .before .before .before .if2 .left)) (c .before .before .before .before .if3 .left)
     (sym (c .before .before .before .names-of-method .ensures) ∙ not-false (c .before .before .before .names-of-method .result) (c .before .before .if4 .left))
-    (first-is k (standing (c .before .before .before .before .before .before .before)) ∙ (sym (c .before .both .ensures) ∙ c .if5 .taken))
+    (first-is k (standing t) ∙ (sym (c .before .both .ensures) ∙ c .if5 .taken))
 
 mul-table : tie.Need-mul-table Inv-loop μ-loop
 mul-table c = search needs
@@ -79,17 +87,18 @@ past-requires : tie.Need-past-requires Inv-loop μ-loop
 past-requires c κs = search needs
 
 loop-less : tie.Need-loop-less Inv-loop μ-loop
-loop-less c = let w = standing (c .before .before .before .before .before .before .before .before) in omega (arith, w .next, w .inside, next-lt (c .before .before .before .before .before .before .before .before .before .before .before .before .before .before .before .args .s .now) (c .before .before .before .before .before .before .before .before .before .before .before .before .before .loop .at))
+loop-less c = let t = c .before .before .before .before .before .before .before .before in omega (arith, standing t .next, standing t .inside, next-lt (t .before .before .before .before .before .before .before .args .s .now) (t .before .before .before .before .before .loop .at))
 
 loop-again : tie.Need-loop-again Inv-loop μ-loop
-loop-again c = (
-  room-past {M = large} (standing (c .before .before .before .before .before .before .before .before)) (a-method (standing (c .before .before .before .before .before .before .before .before)) (c .before .before .before .before .before .before .before .if1 .left) (c .before .before .before .before .before .before .if2 .left)) (c .before .before .before .before .before .if3 .left) (c .past .ensures) (c .before .before .before .before .before .before .before .before .before .before .before .before .before .loop .inv .0),
-  λ M h.
-      let k = c .before .before .before .before .before .before .before .before .before .before .before .before .before .loop .inv .1 M h in
-      again k (standing (c .before .before .before .before .before .before .before .before)) (c .before .before .before .before .before .before .before .before .before .before .before .before .loop-test .taken) (a-method (standing (c .before .before .before .before .before .before .before .before)) (c .before .before .before .before .before .before .before .if1 .left) (c .before .before .before .before .before .before .if2 .left)) (c .before .before .before .before .before .if3 .left)
-      (sym (c .before .before .before .before .names-of-method .ensures) ∙ not-false (c .before .before .before .before .names-of-method .result) (c .before .before .before .if4 .left))
-      (first-is k (standing (c .before .before .before .before .before .before .before .before)) ∙ (sym (c .before .before .both .ensures) ∙ c .before .if5 .left)) (c .past .ensures),
-)
+loop-again c = let t = c .before .before .before .before .before .before .before .before in
+    let room = room-past {M = large} (standing t) (a-method (standing t) (c .before .before .before .before .before .before .before .if1 .left) (c .before .before .before .before .before .before .if2 .left)) (c .before .before .before .before .before .if3 .left) (c .past .ensures) (t .before .before .before .before .before .loop .inv .0) in (
+      room,
+      λ M h.
+          let k = t .before .before .before .before .before .loop .inv .1 M h in
+          again k (standing t) (t .before .before .before .before .loop-test .taken) (a-method (standing t) (c .before .before .before .before .before .before .before .if1 .left) (c .before .before .before .before .before .before .if2 .left)) (c .before .before .before .before .before .if3 .left)
+          (sym (c .before .before .before .before .names-of-method .ensures) ∙ not-false (c .before .before .before .before .names-of-method .result) (c .before .before .before .if4 .left))
+          (first-is k (standing t) ∙ (sym (c .before .before .both .ensures) ∙ c .before .if5 .left)) (c .past .ensures),
+    )
 
 returns-7 : tie.Need-returns-7 Inv-loop μ-loop
 returns-7 c = λ M h. no-more (c .before .loop .inv .1 M h) (c .loop-test .left)

@@ -1,3 +1,4 @@
+-- Section after section: each hands on where reading stands, and what the tables hold.
 use mathlib.Core.List.{List}
 use Prim.Native.Nat.{ℕ}
 use native.Mathlib.Omega.{arith}

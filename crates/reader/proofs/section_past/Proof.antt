@@ -1,6 +1,6 @@
 use mathlib.Core.Path.{sym, ap}
-use Rattle.reader.specs.declared.Stepped.{Stepped}
-use Rattle.reader.specs.Step.{sectionPast}
+use Rattle.checks.specs.declared.Stepped.{Stepped}
+use Rattle.reader.specs.Left.{sectionPast}
 use borrow.Author.Needs.{needs}
 use Rattle.reader.proofs.section_past.Statement.{statement}
 use Rattle.reader.proofs.section_past.Tie as tie

@@ -1,5 +1,5 @@
 -- The tests of a kind and of the end, in the order of `foundAt`.
-use mathlib.Core.Path.{sym, ap, _∙_}
+use mathlib.Core.Path.{sym}
 use native.Mathlib.Omega.{arith}
 use Rattle.records.proofs.Laws.{inside, next-by, next-le, kind-low, kind-high, body-past-end, whole-record}
 use borrow.Author.Needs.{needs}

@@ -1,9 +1,9 @@
 use mathlib.Core.Path.{sym, _∙_}
 use Rattle.tally.specs.Tally.{tallyOf}
-use Rattle.reader.proofs.Names.{primitive-names, method-names}
+use Rattle.checks.proofs.Names.{primitive-names, method-names}
 use borrow.Author.Needs.{needs}
-use Rattle.reader.proofs.names_of_method.Statement.{statement}
-use Rattle.reader.proofs.names_of_method.Tie as tie
+use Rattle.checks.proofs.names_of_method.Statement.{statement}
+use Rattle.checks.proofs.names_of_method.Tie as tie
 
 add-below : tie.Need-add-below
 add-below c = search needs

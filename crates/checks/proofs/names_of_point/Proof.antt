@@ -1,7 +1,7 @@
-use Rattle.reader.proofs.Names.{point-names}
+use Rattle.checks.proofs.Names.{point-names}
 use borrow.Author.Needs.{needs}
-use Rattle.reader.proofs.names_of_point.Statement.{statement}
-use Rattle.reader.proofs.names_of_point.Tie as tie
+use Rattle.checks.proofs.names_of_point.Statement.{statement}
+use Rattle.checks.proofs.names_of_point.Tie as tie
 
 add-below : tie.Need-add-below
 add-below c = search needs

@@ -1,9 +1,9 @@
 use mathlib.Core.Path.{ap}
-use Rattle.reader.specs.declared.Stepped.the-variants.{On}
+use Rattle.checks.specs.declared.Stepped.the-variants.{On}
 use borrow.Author.Tests.{eq-eqb, le-leb, lt-leb, ne-eqb}
 use borrow.Author.Needs.{needs}
-use Rattle.reader.proofs.end_step.Statement.{statement}
-use Rattle.reader.proofs.end_step.Tie as tie
+use Rattle.checks.proofs.end_step.Statement.{statement}
+use Rattle.checks.proofs.end_step.Tie as tie
 
 returns : tie.Need-returns
 returns c = simp (eq-eqb _ _ (c .before .if1 .taken), le-leb _ _ (c .if2 .taken))

@@ -1,6 +1,6 @@
 use borrow.Author.Tests.{eq-eqb, ne-eqb}
-use Rattle.reader.proofs.leaves_in.Statement.{statement}
-use Rattle.reader.proofs.leaves_in.Tie as tie
+use Rattle.checks.proofs.leaves_in.Statement.{statement}
+use Rattle.checks.proofs.leaves_in.Tie as tie
 
 returns : tie.Need-returns
 returns c = simp (eq-eqb _ _ (c .if1 .taken))

@@ -1,10 +1,11 @@
-use Rattle.reader.proofs.Begin.{leaves-le}
-use mathlib.Core.Path.{sym, ap, _∙_}
+-- The tests are those of `symbolStep`, in its order.
+use Rattle.checks.proofs.Laws.{leaves-le}
+use mathlib.Core.Path.{sym, _∙_}
 use native.Mathlib.Omega.{arith}
 use borrow.Author.Tests.{lt-ltb, le-ltb, le-leb, lt-leb}
 use borrow.Author.Needs.{needs}
-use Rattle.reader.proofs.symbol_step.Statement.{statement}
-use Rattle.reader.proofs.symbol_step.Tie as tie
+use Rattle.checks.proofs.symbol_step.Statement.{statement}
+use Rattle.checks.proofs.symbol_step.Tie as tie
 
 items-taken-requires : tie.Need-items-taken-requires
 items-taken-requires c κs = search needs

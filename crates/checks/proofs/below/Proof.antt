@@ -2,8 +2,8 @@ use Prim.Native.Nat.{ℕ}
 use mathlib.Core.Path.{ap}
 use lib.Dec.{ltb}
 use borrow.Author.Needs.{needs}
-use Rattle.reader.proofs.below.Statement.{statement}
-use Rattle.reader.proofs.below.Tie as tie
+use Rattle.checks.proofs.below.Statement.{statement}
+use Rattle.checks.proofs.below.Tie as tie
 
 short-at-requires : tie.Need-short-at-requires
 short-at-requires c κs = search needs

@@ -1,9 +1,9 @@
 use mathlib.Core.Path.{sym, _∙_}
 use Rattle.tally.specs.Tally.{tallyOf}
-use Rattle.reader.proofs.Names.{event-names, call-names, pass-names}
+use Rattle.checks.proofs.Names.{event-names, call-names, pass-names}
 use borrow.Author.Needs.{needs}
-use Rattle.reader.proofs.names_of_step.Statement.{statement}
-use Rattle.reader.proofs.names_of_step.Tie as tie
+use Rattle.checks.proofs.names_of_step.Statement.{statement}
+use Rattle.checks.proofs.names_of_step.Tie as tie
 
 add-below : tie.Need-add-below
 add-below c = search needs

@@ -4,16 +4,9 @@ use mathlib.Core.Bool.{cond, _&&_}
 use lib.Dec.{ltb, leb, eqb}
 use Rattle.sheet.specs.Model.{conditionLimit, symbolLimit, leafLimit}
 use Rattle.records.specs.declared.Refusal.the-variants.{WrongItems, OverLimit}
-use Rattle.tally.specs.declared.Tally.{Tally}
-use Rattle.reader.specs.declared.Section.{Section}
-use Rattle.reader.specs.declared.Section.the-variants as section
-use Rattle.reader.specs.declared.Section.the-variants.{Done}
-use Rattle.reader.specs.declared.Begun.{Begun}
-use Rattle.reader.specs.declared.Stepped.{Stepped}
-use Rattle.reader.specs.declared.Stepped.the-variants.{On, Refused}
-
-abbrev pub nothingCounted : Tally
-nothingCounted = record { conditions = 0; points = 0; methods = 0; steps = 0; certificates = 0 }
+use Rattle.checks.specs.declared.Begun.{Begun}
+use Rattle.checks.specs.declared.Stepped.{Stepped}
+use Rattle.checks.specs.declared.Stepped.the-variants.{On, Refused}
 
 abbrev pub nothingBegun : Begun
 nothingBegun = record { items = 0; symbols = 0; leaves = 0 }
@@ -45,7 +38,3 @@ endStep b n at =
 
 abbrev pub conditionStep : Begun → ℕ → ℕ → ℕ → Stepped
 conditionStep b kind n at = cond (ltb kind 6) (symbolStep b kind at) (endStep b n at)
-
-abbrev pub sectionPast : Stepped → ℕ → Tally → Section
-sectionPast (On b) at t = Done at t
-sectionPast (Refused x) at t = section.Refused x

@@ -1,6 +1,6 @@
 use borrow.Author.Tests.{le-ltb, lt-ltb}
-use Rattle.reader.proofs.items_taken.Statement.{statement}
-use Rattle.reader.proofs.items_taken.Tie as tie
+use Rattle.checks.proofs.items_taken.Statement.{statement}
+use Rattle.checks.proofs.items_taken.Tie as tie
 
 returns : tie.Need-returns
 returns c = simp (lt-ltb _ _ (c .if1 .taken))

@@ -1,8 +1,8 @@
 use mathlib.Core.Path.{_∙_}
 use borrow.Author.Tests.{lt-ltb, le-ltb}
 use borrow.Author.Needs.{needs}
-use Rattle.reader.proofs.condition_step.Statement.{statement}
-use Rattle.reader.proofs.condition_step.Tie as tie
+use Rattle.checks.proofs.condition_step.Statement.{statement}
+use Rattle.checks.proofs.condition_step.Tie as tie
 
 symbol-step-requires : tie.Need-symbol-step-requires
 symbol-step-requires c κs = search needs
