@@ -1,4 +1,4 @@
-pub mod Rows
+pub mod Least
 pub mod Serving
 pub mod FirstMissing
 pub mod ByTables

@@ -1,6 +1,6 @@
 -- `clauses::inside` meets its contract: both comparisons are the definition's.
 use borrow.Author.Tests.{lt-ltb, le-ltb}
-use Rattle.clauses.proofs.Rows.{one-shifted}
+use Rattle.places.proofs.Filling.{one-shifted}
 use borrow.Author.Needs.{needs}
 use Rattle.clauses.proofs.inside.Statement.{statement}
 use Rattle.clauses.proofs.inside.Tie as tie

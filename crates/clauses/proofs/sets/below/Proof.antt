@@ -5,7 +5,7 @@ use native.Mathlib.Omega.{arith}
 use lib.Dec.{ltb}
 use lib.Pow.{pow-pos}
 use Rattle.bits.proofs.Bitwise.{has-below}
-use Rattle.clauses.proofs.Rows.{one-shifted}
+use Rattle.places.proofs.Filling.{one-shifted}
 use borrow.Author.Needs.{needs}
 use Rattle.clauses.proofs.sets.below.Statement.{statement}
 use Rattle.clauses.proofs.sets.below.Tie as tie

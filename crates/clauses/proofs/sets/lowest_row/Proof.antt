@@ -5,7 +5,7 @@ use mathlib.Core.Bool.{false}
 use native.Mathlib.Omega.{arith}
 use Rattle.clauses.specs.Clauses.{rowHas}
 use borrow.Author.Count.{below-more}
-use Rattle.clauses.proofs.Rows.{lowest-here, lowest-none}
+use Rattle.clauses.proofs.Least.{lowest-here, lowest-none}
 use borrow.Author.Needs.{needs}
 use Rattle.clauses.proofs.sets.lowest_row.Statement.{statement}
 use Rattle.clauses.proofs.sets.lowest_row.Tie as tie
