@@ -3,8 +3,9 @@ use mathlib.Core.Path.{sym, subst}
 use mathlib.Core.List.{List, [], _∷_, _++_, map, List·Memᴰ, List·Memᴰ·cases-cons, List·Memᴰ·not-nil}
 use mathlib.Core.Logic.{⊎-elim}
 use mathlib.Core.Option.{Option, none, some}
-use Prim.Native.Nat.{ℕ, zero, suc}
-use lib.ListN.{getD, getElem?}
+use Prim.Native.Nat.{ℕ, zero, suc, _<_}
+use native.Mathlib.Nat.{le-of-suc-le-suc, not-suc-le-zero}
+use lib.ListN.{length, getD, getElem?}
 use Rattle.sheet.specs.Each.{Each, nil, cons}
 
 module _ {A : Type 0} {P : A → Type 0} {x : A} {xs : List A} where
@@ -53,6 +54,11 @@ pub each-getD : {A : Type 0} (P : A → Type 0) {xs : List A} → Each P xs → 
 each-getD P nil d h i = h
 each-getD P (cons x t) d h zero = x
 each-getD P (cons x t) d h (suc i) = each-getD P t d h i
+
+pub each-nth : {A : Type 0} (P : A → Type 0) {xs : List A} → Each P xs → (d : A) (i : ℕ) → i < length xs → P (getD xs i d)
+each-nth P nil d i l = absurd (not-suc-le-zero l)
+each-nth P (cons x t) d zero l = x
+each-nth P (cons x t) d (suc i) l = each-nth P t d i (le-of-suc-le-suc l)
 
 pub each-get : {A : Type 0} (P : Option A → Type 0) → P none → {xs : List A} → Each (λ x. P (some x)) xs → (i : ℕ) → P (getElem? xs i)
 each-get P n nil i = n

@@ -4,6 +4,7 @@ use mathlib.Core.Option.{Option, none, some}
 use mathlib.Core.List.{List, [], _∷_}
 use Prim.Native.Nat.{ℕ, zero, suc, _+_, _<_}
 use lib.ListN.{getD, List·getD-eq-default}
+use lib.Dec.{lit<}
 use Rattle.sheet.specs.Record.{Symbol, leaf-symbol, empty-symbol, join-symbol, either-symbol, star-symbol, Record, symbol-record, end-of-condition, point-record, method-record, step-record, pair-record, end-of-certificate, byteAt, setAt, sectionOf, pointAt, methodAt, stepAt, recordsByKind, recordAt}
 
 module _ (s : List ℕ) (at : ℕ) where
@@ -61,3 +62,25 @@ by-table s at =
 -- the record that stands at an offset fits there
 pub fits : (s : List ℕ) (at : ℕ) (x : Option Record) → recordAt s at ≡ x → Fits s at (byteAt s at) x
 fits s at x e = subst (Fits s at (byteAt s at)) (sym (by-kind s at) ∙ e) (by-table s at (byteAt s at))
+
+-- the section of a kind k: 5 for the records of certificates, and below for all others
+abbrev pub Placed : ℕ → Option Record → Type 0
+Placed k none = Unit {0}
+Placed k (some (symbol-record y)) = sectionOf k < 5
+Placed k (some end-of-condition) = sectionOf k < 5
+Placed k (some (point-record p)) = sectionOf k < 5
+Placed k (some (method-record m)) = sectionOf k < 5
+Placed k (some (step-record t)) = sectionOf k < 5
+Placed k (some (pair-record p)) = sectionOf k ≡ 5
+Placed k (some end-of-certificate) = sectionOf k ≡ 5
+
+pub placed : (s : List ℕ) (at : ℕ) (x : Option Record) → recordAt s at ≡ x → Placed (byteAt s at) x
+placed s at x e =
+    let one : 1 < 5 = lit< tt in
+    let two : 2 < 5 = lit< tt in
+    let three : 3 < 5 = lit< tt in
+    let four : 4 < 5 = lit< tt in
+    subst (Placed (byteAt s at)) (sym (by-kind s at) ∙ e)
+    (numbered Placed (recordsByKind s at) none
+    (tt and one and one and one and one and one and one and two and three and three and four and four and four and refl and refl and (λ i. tt))
+    (byteAt s at))

@@ -12,3 +12,4 @@ pub mod Items
 pub mod Symbols
 pub mod Postfix
 pub mod Certified
+pub mod Bounded

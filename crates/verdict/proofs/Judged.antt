@@ -15,7 +15,7 @@ use Rattle.runs.specs.Rules.{Claim, _isIn_, holdsEmpty, Rule, _of_says_, rules,
 use Rattle.verdict.specs.Verdict.{Report, accepted, refused, unproved, testOf, needed, certificatesNeeded, nextOf, leftAfter, reported, firstFault, judged}
 use Rattle.verdict.specs.Promise.{EachCertified, done, bare, certified, Passes, FirstFault}
 
-needed-is : (x : Rule) (xs : List Rule) → certificatesNeeded (x ∷ xs) ≡ needed (x .claim) + certificatesNeeded xs
+pub needed-is : (x : Rule) (xs : List Rule) → certificatesNeeded (x ∷ xs) ≡ needed (x .claim) + certificatesNeeded xs
 unfolding certificatesNeeded total
 needed-is x xs = refl
 
@@ -29,7 +29,7 @@ module _ (events : ℕ) (otherwise : Report) where
     all-pass : EachCertified (Passes events) xs cs → report ≡ otherwise → Tried xs cs report
     one-fails : (r k c i e l : ℕ) → FirstFault events xs cs r k c i e l → report ≡ unproved r k c i e l → Tried xs cs report
 
-  first-is : (x : Rule) (xs : List Rule) (cs : List Certificate)
+  pub first-is : (x : Rule) (xs : List Rule) (cs : List Certificate)
       → firstFault events (x ∷ xs) cs otherwise
       ≡ reported x (testOf events (x .claim) (nextOf cs)) (firstFault events xs (leftAfter (x .claim) cs) otherwise)
   unfolding firstFault

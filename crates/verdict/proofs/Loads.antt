@@ -45,26 +45,26 @@ countIn (unproved r k c i e l) = 0
 -- The verdict, by what reading finds ------------------------------------------------------------------------------------
 
 module _ (M : Model) (s : List ℕ) where
-  verdict-is : verdictOf M s ≡ verdictAfter M s (readSheet M s)
+  pub verdict-is : verdictOf M s ≡ verdictAfter M s (readSheet M s)
   unfolding verdictOf
   verdict-is = refl
 
-  after-whole : (r : Reading) → verdictAfter M s (whole r) ≡ judged M s (sheetOf M s)
+  pub after-whole : (r : Reading) → verdictAfter M s (whole r) ≡ judged M s (sheetOf M s)
   unfolding verdictAfter
   after-whole r = refl
 
-  after-refusal : (n at : ℕ) → verdictAfter M s (refusal n at) ≡ refused n (some at)
+  pub after-refusal : (n at : ℕ) → verdictAfter M s (refusal n at) ≡ refused n (some at)
   unfolding verdictAfter
   after-refusal n at = refl
 
   module _ (S : Sheet) where
-    abbrev enough : Bool
+    abbrev pub enough : Bool
     enough = eqb (length (S .certificates)) (certificatesNeeded (rules S))
 
-    abbrev first : Report
+    abbrev pub first : Report
     first = firstFault (M .events) (rules S) (S .certificates) (accepted (count S))
 
-    judged-is : judged M s S ≡ cond enough first (refused 10 (some (length s)))
+    pub judged-is : judged M s S ≡ cond enough first (refused 10 (some (length s)))
     unfolding judged
     judged-is = refl
 

@@ -39,7 +39,7 @@ refused-not t n at a e = ap (λ (x : Bool). cond x (untested n at) a) e
 
 -- Stray events ----------------------------------------------------------------------------------------------------------
 
-stray-is : (n i e : ℕ) (w : Word) (a : Answer) → firstStray n i (e ∷ w) a ≡ cond (ltb e n) (firstStray n (suc i) w a) (untested 13 (some i))
+pub stray-is : (n i e : ℕ) (w : Word) (a : Answer) → firstStray n i (e ∷ w) a ≡ cond (ltb e n) (firstStray n (suc i) w a) (untested 13 (some i))
 unfolding firstStray
 stray-is n i e w a = refl
 
@@ -62,23 +62,23 @@ stray-in n i a (cons {x = e} {xs = w} l o) =
 -- The whole -------------------------------------------------------------------------------------------------------------
 
 module _ (M : Model) (s : List ℕ) (c : ℕ) (w : Word) where
-  abbrev said : Answer
+  abbrev pub said : Answer
   said = tested (accepts (condition (sheetOf M s) c) w)
 
-  abbrev afterReading : Answer
+  abbrev pub afterReading : Answer
   afterReading =
       cond (leb (length (sheetOf M s .conditions)) c) (untested 14 none)
       (cond (ltb wordLimit (length w)) (untested 12 none) (firstStray (M .events) 0 w said))
 
-  test-is : wordTest M s c w ≡ testedAfter M s c w (readSheet M s)
+  pub test-is : wordTest M s c w ≡ testedAfter M s c w (readSheet M s)
   unfolding wordTest
   test-is = refl
 
-  after-whole : (r : Reading) → testedAfter M s c w (whole r) ≡ afterReading
+  pub after-whole : (r : Reading) → testedAfter M s c w (whole r) ≡ afterReading
   unfolding testedAfter
   after-whole r = refl
 
-  after-refusal : (n at : ℕ) → testedAfter M s c w (refusal n at) ≡ untested n (some at)
+  pub after-refusal : (n at : ℕ) → testedAfter M s c w (refusal n at) ≡ untested n (some at)
   unfolding testedAfter
   after-refusal n at = refl
 

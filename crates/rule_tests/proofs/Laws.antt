@@ -1,0 +1,71 @@
+-- Where the certificate of a rule ends, and what the test of a rule comes to.
+use mathlib.Core.Path.{_≡_, refl, sym, ap, _∙_}
+use mathlib.Core.Bool.{Bool}
+use mathlib.Core.List.{List, [], _∷_}
+use Prim.Native.Nat.{ℕ, zero, suc, _+_, _*_, _≤_, _<_}
+use native.Mathlib.Omega.{arith}
+use lib.ListN.{length}
+use lib.Dec.{T}
+use Rattle.bits.specs.Bits.{has}
+use Rattle.condition.specs.Condition.{Condition}
+use Rattle.condition.specs.Places.{nullable, ends}
+use Rattle.certificate.specs.Certificate.{Certificate, Finding, fine, fault, unless, startsRight, check}
+use Rattle.certificate.proofs.Valid.{valid}
+use Rattle.sheet.specs.Decode.{certificateAt}
+use Rattle.runs.specs.Rules.{Claim, Rule}
+use Rattle.verdict.specs.Verdict.{testOf}
+use Rattle.places.specs.declared.Side.{Side}
+use Rattle.places.specs.Tables.{Tables}
+use Rattle.pairs.specs.Found.{pairFound}
+use Rattle.pairs.specs.declared.Pair.{Pair}
+use Rattle.pairs.specs.declared.Pair.the-variants.{At, End}
+use Rattle.pairs.proofs.Laws.{Reached, reached-start, reached-next, reached-end}
+use Rattle.walk.specs.Trial.{Trial, passed, behind, afterTest, tryRules}
+use Rattle.walk.proofs.Trial.{trial-one}
+
+-- The certificate -----------------------------------------------------------------------------------------------------
+
+starts : (c : Certificate) → T (startsRight c) → 0 < length c
+starts [] h = absurd h
+starts (p ∷ c) h = omega arith
+
+-- a certificate without fault has a pair
+pub fine-starts : (events : ℕ) (l g : Condition) (c : Certificate) → check events l g c ≡ fine → 0 < length c
+fine-starts events l g c h = starts c (valid events l g c .0 h .clause1)
+
+-- and one with a pair ends before the end of the sheet, or in its last pair
+module _ (s : List ℕ) (from : ℕ) where
+  abbrev Ends : Type 0
+  Ends = from + 6 * length (certificateAt s from) ≤ length s + 5
+
+  -- short of the end the reader goes on
+  goes-on : (j at : ℕ) → j < length (certificateAt s from) → Reached s from j at → (next : ℕ) × (at < length s) × Reached s from (suc j) next
+  goes-on j at more r = go (pairFound s at) refl
+    where
+      go : (x : Pair) → pairFound s at ≡ x → (next : ℕ) × (at < length s) × Reached s from (suc j) next
+      go End e = absurd (omega (arith, reached-end s from j at r e))
+      go (At place set next) e = let o = reached-next s from j at r place set next e in (next, o .inside-sheet, o .reached)
+
+  ends-from : (left j at : ℕ) → length (certificateAt s from) ≡ suc (j + left) → Reached s from j at → Ends
+  ends-from zero j at l r = let (next, inside, more) = goes-on j at (omega arith) r in omega (arith, inside, r .offset)
+  ends-from (suc left) j at l r = let (next, inside, more) = goes-on j at (omega arith) r in ends-from left (suc j) next (omega arith) more
+
+  pub ends-inside : 0 < length (certificateAt s from) → Ends
+  ends-inside h = go (length (certificateAt s from)) refl h
+    where
+      go : (n : ℕ) → length (certificateAt s from) ≡ n → 0 < n → Ends
+      go zero e h = absurd (omega arith)
+      go (suc n) e h = ends-from n 0 from (omega arith) (reached-start s from)
+
+-- The test ------------------------------------------------------------------------------------------------------------
+
+-- the trial of one rule, by what its test finds
+pub trial-finds : (s : List ℕ) (x : Rule) (from : ℕ) (f : Finding) → f ≡ testOf 32 (x .claim) (certificateAt s from)
+    → afterTest x f (passed (behind s (x .claim) from)) ≡ tryRules 32 s (x ∷ []) from
+trial-finds s x from f e = ap (λ (f : Finding). afterTest x f (passed (behind s (x .claim) from))) e ∙ sym (trial-one 32 s x from)
+
+-- the empty word, by place 0
+pub ends-empty : (a : Condition) (side : Side) (follow sets : List ℕ) → Tables a side follow sets → (b : Bool) → has (side .ends) 0 ≡ b
+    → unless b (fault 5 0 0 0) ≡ unless (nullable a) (fault 5 0 0 0)
+unfolding ends
+ends-empty a side follow sets t b e = ap (λ (b : Bool). unless b (fault 5 0 0 0)) (sym e ∙ t .ends-is 0)

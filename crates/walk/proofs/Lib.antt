@@ -1,0 +1,5 @@
+pub mod Trial
+pub mod ByNumber
+pub mod Needed
+pub mod Indexed
+pub mod Verdict
