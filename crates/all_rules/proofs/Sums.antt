@@ -1,7 +1,7 @@
 -- A sum over a list, element after element.
 use mathlib.Core.Path.{_≡_, sym, subst}
 use mathlib.Core.Option.{Option, none, some}
-use mathlib.Core.List.{List}
+use mathlib.Core.List.{List, [], _∷_}
 use Prim.Native.Nat.{ℕ, suc, _+_, _*_, _≤_}
 use native.Mathlib.Numerals.{add-one}
 use native.Mathlib.Omega.{arith}
@@ -29,6 +29,11 @@ module _ {A : Type 0} (f : A → ℕ) (most : ℕ) (xs : List A) where
 
     pub all-summed : length xs ≤ i → sum ≡ total f xs
     all-summed h = omega (arith, s .rest, total-done f xs i h)
+
+pub total-most : {A : Type 0} (f : A → ℕ) (most : ℕ) → ((x : A) → f x ≤ most) → (xs : List A) → total f xs ≤ most * length xs
+unfolding total
+total-most f most all [] = omega arith
+total-most f most all (x ∷ xs) = omega (arith, all x, total-most f most all xs)
 
 bodies-most : (b : Option Body) → bodiesIn b ≤ 1
 bodies-most none = omega arith

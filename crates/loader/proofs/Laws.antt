@@ -1,0 +1,194 @@
+-- From a whole reading and its tables to the verdict and to the word test's answer.
+use mathlib.Core.Path.{_≡_, refl, sym, ap, _∙_, subst}
+use mathlib.Core.Bool.{Bool, cond}
+use mathlib.Core.Option.{none, some}
+use mathlib.Core.List.{List, [], _∷_}
+use Prim.Native.Nat.{ℕ, zero, suc, _+_, _*_, _≤_, _<_}
+use native.Mathlib.Nat.{not-suc-le-zero, le-of-suc-le-suc}
+use native.Mathlib.Omega.{arith}
+use lib.ListN.{length, getD}
+use borrow.Author.Tests.{lt-ltb, le-ltb, lt-leb, le-leb}
+use Rattle.condition.specs.Places.{accepts}
+use Rattle.sheet.specs.Model.{large}
+use Rattle.sheet.specs.Sheet.{condition}
+use Rattle.sheet.specs.Reading.{Tally, Reading, whole, readSheet}
+use Rattle.sheet.specs.Decode.{sheetOf}
+use Rattle.sheet.proofs.SheetOf.{conditions-counted, methods-counted, steps-counted}
+use Rattle.sheet.proofs.Counted.{tallyOf as countsOf, read-counted}
+use Rattle.sheet.proofs.Certified.{certificates-chained}
+use Rattle.sheet.proofs.Bounded.{FewIn, read-few}
+use Rattle.runs.specs.Rules.{bodyCount, total, rules, count}
+use Rattle.verdict.specs.Verdict.{accepted, refused, unproved, verdictOf}
+use Rattle.verdict.specs.WordTest.{Answer, tested, untested, firstStray, testedAfter, wordTest}
+use Rattle.verdict.proofs.WordTest.{stray-is, test-is, after-whole, after-refusal, afterReading}
+use Rattle.records.specs.declared.Refusal.{Refusal}
+use Rattle.records.specs.Refusal.{numberOf, placeOf}
+use Rattle.answers.specs.declared.Rule.{Rule}
+use Rattle.answers.specs.Answers.{ruleNumber, ruleSubject}
+use Rattle.tally.specs.Tally.{tallyOf}
+use Rattle.reader.specs.declared.Contents.{Contents}
+use Rattle.reader.specs.State.{lastState, overwritten}
+use Rattle.reader.specs.Contract.{Refuses, Takes, Tables}
+use Rattle.walk.specs.Trial.{tryRules, reportOn}
+use Rattle.walk.specs.Indexed.{Begins, Indexed, ConditionsHeld, StepsHeld}
+use Rattle.walk.specs.Counts.{stepCount}
+use Rattle.walk.proofs.Needed.{rules-need, count-is}
+use Rattle.walk.proofs.Verdict.{verdict-refused, verdict-miscounted, verdict-tried, chained-from}
+use Rattle.rule_tests.specs.Tested.{Tries, trialOf}
+use Rattle.rule_tests.specs.declared.Tested.{Tested}
+use Rattle.rule_tests.specs.declared.Tested.the-variants.{Passed, Failed}
+use Rattle.all_rules.proofs.Sums.{total-most, body-most, step-most}
+use Rattle.loader.specs.Stray.{FirstStray}
+
+-- Tables ----------------------------------------------------------------------------------------------------------------
+
+pub overwritten-begins : (os table : List ℕ) → length os ≤ length table → Begins os (overwritten os table)
+overwritten-begins [] table h i l = absurd (not-suc-le-zero l)
+overwritten-begins (o ∷ os) [] h i l = absurd (not-suc-le-zero h)
+overwritten-begins (o ∷ os) (x ∷ table) h zero l = refl
+overwritten-begins (o ∷ os) (x ∷ table) h (suc i) l = overwritten-begins os table (le-of-suc-le-suc h) i (le-of-suc-le-suc l)
+
+module _ (s : List ℕ) (c : Contents) (t : Takes large s c) where
+  -- how many there are of each, by the code's tally
+  counted : tallyOf (c .tally) ≡ countsOf (lastState large s .offsets)
+  counted = sym (t .tally) ∙ read-counted large s _ (t .outcome)
+
+  pub conditions-are : c .tally .conditions ≡ length (sheetOf large s .conditions)
+  conditions-are = ap (λ (x : Tally). x .conditions) counted ∙ sym (conditions-counted large s _ (t .outcome))
+
+  pub methods-are : c .tally .methods ≡ length (sheetOf large s .methods)
+  methods-are = ap (λ (x : Tally). x .methods) counted ∙ sym (methods-counted large s _ (t .outcome))
+
+  pub steps-are : c .tally .steps ≡ length (sheetOf large s .steps)
+  steps-are = ap (λ (x : Tally). x .steps) counted ∙ sym (steps-counted large s _ (t .outcome))
+
+  pub few : FewIn large (countsOf (lastState large s .offsets))
+  few = subst (FewIn large) (read-counted large s _ (t .outcome)) (read-few large s _ (t .outcome))
+
+  -- The verdict ---------------------------------------------------------------------------------------------------------
+
+  pub few-bodies : total bodyCount (sheetOf large s .methods) ≤ 64
+  few-bodies = omega (arith, total-most bodyCount 1 body-most (sheetOf large s .methods), methods-counted large s _ (t .outcome), few .few-methods)
+
+  pub few-moves : total stepCount (sheetOf large s .steps) ≤ 2560
+  few-moves = omega (arith, total-most stepCount 5 step-most (sheetOf large s .steps), steps-counted large s _ (t .outcome), few .few-steps)
+
+  -- 10
+  pub miscounted : (c .tally .certificates ≡ 3 * total bodyCount (sheetOf large s .methods) + total stepCount (sheetOf large s .steps) → ⊥)
+      → refused 10 (some (length s)) ≡ verdictOf large s
+  miscounted n =
+      sym (verdict-miscounted large s _ (t .outcome)
+      (λ e. n (ap (λ (x : Tally). x .certificates) counted ∙ e ∙ rules-need (sheetOf large s))))
+
+  -- what the trial of the rules comes to
+  judged-by : c .tally .certificates ≡ 3 * total bodyCount (sheetOf large s .methods) + total stepCount (sheetOf large s .steps)
+      → (got : Tested) → Tries s (rules (sheetOf large s)) (c .certificates) got
+      → reportOn (accepted (2 + 4 * total bodyCount (sheetOf large s .methods) + total stepCount (sheetOf large s .steps))) (trialOf got) ≡ verdictOf large s
+  judged-by e got tries =
+      let (from, end, chain) = certificates-chained large s _ (t .outcome) in
+      let (end, chain) = chained-from chain (length s) in
+      let enough = sym (ap (λ (x : Tally). x .certificates) counted) ∙ e ∙ sym (rules-need (sheetOf large s)) in
+      ap (λ (n : ℕ). reportOn (accepted n) (trialOf got)) (sym (count-is (sheetOf large s)))
+      ∙ ap (reportOn (accepted (count (sheetOf large s)))) (tries .comes-to)
+      ∙ ap (λ (q : ℕ). reportOn (accepted (count (sheetOf large s))) (tryRules 32 s (rules (sheetOf large s)) q)) (t .certificates)
+      ∙ sym (verdict-tried large s _ (t .outcome) end _ chain enough)
+
+  module _ (got : Tested) (tries : Tries s (rules (sheetOf large s)) (c .certificates) got)
+      (enough : c .tally .certificates ≡ 3 * total bodyCount (sheetOf large s .methods) + total stepCount (sheetOf large s .steps)) where
+    by-answer : (x : Tested) → got ≡ x
+        → reportOn (accepted (2 + 4 * total bodyCount (sheetOf large s .methods) + total stepCount (sheetOf large s .steps))) (trialOf x) ≡ verdictOf large s
+    by-answer x is =
+        let n : ℕ = 2 + 4 * total bodyCount (sheetOf large s .methods) + total stepCount (sheetOf large s .steps) in
+        subst (λ (x : Tested). reportOn (accepted n) (trialOf x) ≡ verdictOf large s) is (judged-by enough got tries)
+
+    pub accepted-by : (at : ℕ) → got ≡ Passed at → (n : ℕ) → n ≡ 2 + 4 * total bodyCount (sheetOf large s .methods) + total stepCount (sheetOf large s .steps)
+        → accepted n ≡ verdictOf large s
+    accepted-by at is n e = ap (λ (n : ℕ). accepted n) e ∙ by-answer (Passed at) is
+
+    pub unproved-by : {r : Rule} {k i e l : ℕ} → got ≡ Failed r k i e l → unproved (ruleNumber r) (ruleSubject r) k i e l ≡ verdictOf large s
+    unproved-by is = by-answer (Failed _ _ _ _ _) is
+
+  -- The tables, which are as long as the limits -------------------------------------------------------------------------
+
+  held : (os table table′ : List ℕ) → length os ≤ length table → table′ ≡ overwritten os table → Begins os table′
+  held os table table′ l e = subst (Begins os) (sym e) (overwritten-begins os table l)
+
+  module _ {conditions conditions′ points points′ methods methods′ steps steps′ : List ℕ}
+      (w : Tables conditions conditions′ points points′ methods methods′ steps steps′ (lastState large s .offsets)) where
+    pub conditions-held : length conditions ≡ 256 → ConditionsHeld large s conditions′
+    conditions-held l = record { reading = lastState large s; read = t .outcome; held = held (lastState large s .offsets .conditions) conditions _ (omega (arith, few .few-conditions)) (w .conditions) }
+
+    pub steps-held : length steps ≡ 512 → StepsHeld large s steps′
+    steps-held l = record { reading = lastState large s; read = t .outcome; held = held (lastState large s .offsets .steps) steps _ (omega (arith, few .few-steps)) (w .steps) }
+
+    pub indexed : length conditions ≡ 256 → length points ≡ 512 → length methods ≡ 64 → Indexed large s conditions′ points′ methods′
+    indexed a b c =
+        record {
+          reading = lastState large s;
+          read = t .outcome;
+          conditions-held = held (lastState large s .offsets .conditions) conditions _ (omega (arith, few .few-conditions)) (w .conditions);
+          points-held = held (lastState large s .offsets .points) points _ (omega (arith, few .few-points)) (w .points);
+          methods-held = held (lastState large s .offsets .methods) methods _ (omega (arith, few .few-methods)) (w .methods);
+        }
+
+-- 1 to 9
+module _ (s : List ℕ) (x : Refusal) (h : Refuses large s x) where
+  pub refused-by : refused (numberOf x) (placeOf x) ≡ verdictOf large s
+  refused-by = ap (refused (numberOf x)) (h .placed) ∙ sym (verdict-refused large s _ _ (h .outcome))
+
+  pub untested-by : (c : ℕ) (w : List ℕ) → untested (numberOf x) (placeOf x) ≡ wordTest large s c w
+  untested-by c w =
+      ap (untested (numberOf x)) (h .placed)
+      ∙ sym (test-is large s c w ∙ ap (testedAfter large s c w) (h .outcome) ∙ after-refusal large s c w _ _)
+
+-- The word test ---------------------------------------------------------------------------------------------------------
+
+word-whole : (s : List ℕ) (r : Reading) → readSheet large s ≡ whole r → (c : ℕ) (w : List ℕ) → wordTest large s c w ≡ afterReading large s c w
+word-whole s r h c w = test-is large s c w ∙ ap (testedAfter large s c w) h ∙ after-whole large s c w r
+
+module _ (n : ℕ) (a : Answer) where
+  one-past : (k e : ℕ) (w : List ℕ) → e < n → firstStray n k (e ∷ w) a ≡ firstStray n (suc k) w a
+  one-past k e w l = stray-is n k e w a ∙ ap (λ (b : Bool). cond b (firstStray n (suc k) w a) (untested 13 (some k))) (lt-ltb e n l)
+
+  stray-from : (k : ℕ) (w : List ℕ) (r : ℕ) → r < length w → ((i : ℕ) → i < r → getD w i 0 < n) → n ≤ getD w r 0 → firstStray n k w a ≡ untested 13 (some (k + r))
+  stray-from k [] r l below stops = absurd (not-suc-le-zero l)
+  stray-from k (e ∷ w) zero l below stops =
+      let here : k ≡ k + 0 = omega arith in
+      stray-is n k e w a
+      ∙ ap (λ (b : Bool). cond b (firstStray n (suc k) w a) (untested 13 (some k))) (le-ltb e n stops)
+      ∙ ap (λ (i : ℕ). untested 13 (some i)) here
+  stray-from k (e ∷ w) (suc r) l below stops =
+      let next : suc k + r ≡ k + suc r = omega arith in
+      one-past k e w (below 0 (omega arith))
+      ∙ stray-from (suc k) w r (le-of-suc-le-suc l) (λ i h. below (suc i) (omega arith)) stops
+      ∙ ap (λ (i : ℕ). untested 13 (some i)) next
+
+  none-from : (k : ℕ) (w : List ℕ) → ((i : ℕ) → i < length w → getD w i 0 < n) → firstStray n k w a ≡ a
+  unfolding firstStray
+  none-from k [] below = refl
+  none-from k (e ∷ w) below = one-past k e w (below 0 (omega arith)) ∙ none-from (suc k) w (λ i h. below (suc i) (omega arith))
+
+  stray-found : (w : List ℕ) (r : ℕ) → FirstStray n w r → r < length w → firstStray n 0 w a ≡ untested 13 (some r)
+  stray-found w r f l = let here : 0 + r ≡ r = omega arith in stray-from 0 w r l (f .before) (f .stops l) ∙ ap (λ (i : ℕ). untested 13 (some i)) here
+
+  no-stray : (w : List ℕ) → ((i : ℕ) → i < length w → getD w i 0 < n) → firstStray n 0 w a ≡ a
+  no-stray w below = none-from 0 w below
+
+module _ (s conditions : List ℕ) (x : ConditionsHeld large s conditions) (c : ℕ) (w : List ℕ) where
+  is-whole : wordTest large s c w ≡ afterReading large s c w
+  is-whole = word-whole s (x .reading) (x .read) c w
+
+  pub no-condition : length (sheetOf large s .conditions) ≤ c → untested 14 none ≡ wordTest large s c w
+  no-condition h = rw is-whole (simp (le-leb _ _ h))
+
+  module _ (there : c < length (sheetOf large s .conditions)) where
+    pub word-too-long : 4096 < length w → untested 12 none ≡ wordTest large s c w
+    word-too-long h = rw is-whole (simp (lt-leb _ _ there, lt-ltb _ _ h))
+
+    module _ (short : length w ≤ 4096) where
+      pub stray-event : (r : ℕ) → FirstStray 32 w r → r < length w → untested 13 (some r) ≡ wordTest large s c w
+      stray-event r f l = rw is-whole (simp (lt-leb _ _ there, le-ltb _ _ short) (sym (stray-found 32 _ w r f l)))
+
+      pub word-tested : ((i : ℕ) → i < length w → getD w i 0 < 32) → (b : Bool) → b ≡ accepts (condition (sheetOf large s) c) w
+          → tested b ≡ wordTest large s c w
+      word-tested below b e = rw is-whole (simp (lt-leb _ _ there, le-ltb _ _ short) (ap tested e ∙ sym (no-stray 32 _ w below)))

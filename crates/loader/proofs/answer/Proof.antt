@@ -1,0 +1,56 @@
+use mathlib.Core.Path.{sym, _∙_}
+use mathlib.Core.Bool.{true, false}
+use native.Mathlib.Omega.{arith}
+use Rattle.sheet.specs.Model.{large}
+use Rattle.walk.proofs.Indexed.{condition-at}
+use Rattle.loader.proofs.Laws.{no-condition, word-too-long, stray-event, word-tested}
+use borrow.Author.Needs.{needs}
+use Rattle.loader.proofs.answer.Statement.{statement}
+use Rattle.loader.proofs.answer.Tie as tie
+
+returns : tie.Need-returns
+returns c = no-condition _ _ (c .before .before .before .pre .0) _ _ (omega (arith, c .before .before .before .pre .1))
+
+returns-2 : tie.Need-returns-2
+returns-2 c = word-too-long _ _ (c .before .before .before .before .pre .0) _ _ (omega (arith, c .before .before .before .before .pre .1)) (c .if2 .taken)
+
+first-stray-requires : tie.Need-first-stray-requires
+first-stray-requires c κs = search needs
+
+returns-3 : tie.Need-returns-3
+returns-3 c = stray-event _ _ (c .before .before .before .before .before .before .pre .0) _ _ (omega (arith, c .before .before .before .before .before .before .pre .1)) (c .before .before .if2 .left) _ (c .before .first-stray .ensures) (c .if3 .taken)
+
+mul-holds-word : tie.Need-mul-holds-word
+mul-holds-word c = omega (arith, condition-at large _ _ (c .before .before .before .before .before .before .pre .0) (c .before .before .before .before .before .before .args .condition) (omega (arith, c .before .before .before .before .before .before .pre .1)) .0)
+
+element-copy-out-holds-word : tie.Need-element-copy-out-holds-word
+element-copy-out-holds-word c = condition-at large _ _ (c .before .before .before .before .before .before .pre .0) (c .before .before .before .before .before .before .args .condition) (omega (arith, c .before .before .before .before .before .before .pre .1)) .0
+
+holds-word-requires : tie.Need-holds-word-requires
+holds-word-requires c κs = (omega arith, λ i l. c .before .before .first-stray .ensures .before i (omega (arith, c .before .if3 .left)))
+
+returns-4 : tie.Need-returns-4
+returns-4 c = let (few, stands) = condition-at large _ _ (c .before .before .before .before .before .before .before .before .before .pre .0) (c .before .before .before .before .before .before .before .before .before .args .condition) (omega (arith, c .before .before .before .before .before .before .before .before .before .pre .1)) in
+    word-tested _ _ (c .before .before .before .before .before .before .before .before .before .pre .0) _ _ (omega (arith, c .before .before .before .before .before .before .before .before .before .pre .1)) (c .before .before .before .before .before .if2 .left)
+    (λ i l. c .before .before .before .before .first-stray .ensures .before i (omega (arith, c .before .before .before .if3 .left)))
+    true (sym (c .if4 .taken) ∙ c .before .holds-word .ensures _ stands)
+
+returns-5 : tie.Need-returns-5
+returns-5 c = let (few, stands) = condition-at large _ _ (c .before .before .before .before .before .before .before .before .before .pre .0) (c .before .before .before .before .before .before .before .before .before .args .condition) (omega (arith, c .before .before .before .before .before .before .before .before .before .pre .1)) in
+    word-tested _ _ (c .before .before .before .before .before .before .before .before .before .pre .0) _ _ (omega (arith, c .before .before .before .before .before .before .before .before .before .pre .1)) (c .before .before .before .before .before .if2 .left)
+    (λ i l. c .before .before .before .before .first-stray .ensures .before i (omega (arith, c .before .before .before .if3 .left)))
+    false (sym (c .if4 .left) ∙ c .before .holds-word .ensures _ stands)
+
+pub answer-spec : {M : Type 1} → statement M
+answer-spec =
+    tie.close
+    (tie.spec
+    returns
+    returns-2
+    first-stray-requires
+    returns-3
+    mul-holds-word
+    element-copy-out-holds-word
+    holds-word-requires
+    returns-4
+    returns-5)
