@@ -2,7 +2,7 @@
 ghost use mathlib.Core.Path.{_≡_};
 ghost use mathlib.Core.List.{_++_};
 ghost use Prim.Native.Nat.{_+_, _≤_, _<_};
-ghost use lib.ListN.{length};
+ghost use lib.ListN.{length, take};
 ghost use Rattle.verdict.specs.Verdict.{unproved};
 ghost use Rattle.verdict.specs.Line.{ascii, decimal, subjectName, refusedLine, line, answerLine};
 ghost use Rattle.records.specs.Refusal.{numberOf, placeOf};
@@ -150,4 +150,11 @@ pub fn write_answer(a: WordAnswer, out: &mut [u8; 160]) -> usize
         WordAnswer::No => put_text(b"no", out, 0),
         WordAnswer::Refused(x) => put_refusal(x, out),
     }
+}
+
+// The first n bytes of a buffer, or all where there are fewer.
+pub fn first<'a>(room: &'a [u8], n: usize) -> &'a [u8]
+    ensures { λ r. ⌜ now r ≡ take n (now (room .entry)) ⌝ }
+{
+    if n <= room.len() { &room[..n] } else { room }
 }

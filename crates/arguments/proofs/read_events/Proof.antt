@@ -1,0 +1,100 @@
+-- `arguments::read_events` ends: one argument fewer is left at each turn.
+use mathlib.Core.Path.{_≡_}
+use Prim.Native.Nat.{_-_, _≤_}
+use borrow.Author.Needs.{needs}
+use lib.ListN.{length}
+use Rattle.arguments.proofs.read_events.Statement.{statement}
+use Rattle.arguments.proofs.read_events.Tie as tie
+
+abbrev Inv-loop : tie.InvT-loop
+Inv-loop word₀ count i₀ word i = (3 ≤ i) × (length word ≡ length word₀)
+
+abbrev μ-loop : tie.MeasureT-loop
+μ-loop word₀ count i₀ word i = count - i
+
+arg-count-requires : tie.Need-arg-count-requires Inv-loop μ-loop
+arg-count-requires c κs = search needs
+
+loop-holds : tie.Need-loop-holds Inv-loop μ-loop
+loop-holds c = search needs
+
+sub-if1 : tie.Need-sub-if1 Inv-loop μ-loop
+sub-if1 c = search needs
+
+sub-t9 : tie.Need-sub-t9 Inv-loop μ-loop
+sub-t9 c = search needs
+
+same-length : tie.Need-same-length Inv-loop μ-loop
+same-length c = search needs
+
+returns : tie.Need-returns Inv-loop μ-loop
+returns c = search needs
+
+number-at-requires : tie.Need-number-at-requires Inv-loop μ-loop
+number-at-requires c κs = search needs
+
+enum-known-event : tie.Need-enum-known-event Inv-loop μ-loop
+enum-known-event c = search needs
+
+enum-told : tie.Need-enum-told Inv-loop μ-loop
+enum-told c = search needs
+
+same-length-2 : tie.Need-same-length-2 Inv-loop μ-loop
+same-length-2 c = search needs
+
+returns-2 : tie.Need-returns-2 Inv-loop μ-loop
+returns-2 c = search needs
+
+event-of-requires : tie.Need-event-of-requires Inv-loop μ-loop
+event-of-requires c κs = search needs
+
+sub-word : tie.Need-sub-word Inv-loop μ-loop
+sub-word c = search needs
+
+slice-write-word : tie.Need-slice-write-word Inv-loop μ-loop
+slice-write-word c = search needs
+
+add-i : tie.Need-add-i Inv-loop μ-loop
+add-i c = search needs
+
+loop-less : tie.Need-loop-less Inv-loop μ-loop
+loop-less c = search needs
+
+loop-again : tie.Need-loop-again Inv-loop μ-loop
+loop-again c = search needs
+
+sub-t12 : tie.Need-sub-t12 Inv-loop μ-loop
+sub-t12 c = search needs
+
+same-length-3 : tie.Need-same-length-3 Inv-loop μ-loop
+same-length-3 c = search needs
+
+returns-3 : tie.Need-returns-3 Inv-loop μ-loop
+returns-3 c = search needs
+
+pub read-events-spec : {M : Type 1} → statement M
+read-events-spec =
+    tie.close
+    (tie.spec
+    Inv-loop
+    μ-loop
+    arg-count-requires
+    loop-holds
+    sub-if1
+    sub-t9
+    same-length
+    returns
+    number-at-requires
+    enum-known-event
+    enum-told
+    same-length-2
+    returns-2
+    event-of-requires
+    sub-word
+    slice-write-word
+    add-i
+    loop-less
+    loop-again
+    sub-t12
+    same-length-3
+    returns-3)
