@@ -1,31 +1,35 @@
 -- What the pairs of a certificate leave of the events that are missing.
 use mathlib.Core.Path.{_≡_, refl, sym, ap, _∙_}
-use mathlib.Core.Bool.{Bool, true, false, cond, not, _&&_, _||_, and-true, or-false}
+use mathlib.Core.Bool.{Bool, true, false, cond, not, _&&_, _||_, and-true, and-false, or-false}
 use mathlib.Core.List.{List}
-use Prim.Native.Nat.{ℕ, suc, _+_, _≤_, _<_}
+use Prim.Native.Nat.{ℕ, suc, _+_, _-_, _^_, _≤_, _<_}
+use native.Mathlib.Nat.{lt-of-lt-of-le, lt-of-le-of-lt}
 use native.Mathlib.Omega.{arith}
 use lib.ListN.{length, getD, set, length-set}
 use lib.Seq.{getD-set-same, getD-set-other}
 use lib.Dec.{eqb}
-use lib.Bits.{bitAnd, bitXor}
+use lib.Bits.{bitAnd, bitXor, and-le-l}
+use lib.Count.{trailingZeros}
 use borrow.Author.Count.{below-more}
 use borrow.Author.Tests.{eq-eqb, ne-eqb, eqb-true, eqb-false}
-use Rattle.bits.specs.Bits.{_⇒_, has, anyBelow, allBelow}
+use Rattle.bits.specs.Bits.{has, anyBelow}
 use Rattle.bits.proofs.Tests.{and-out}
 use Rattle.bits.proofs.Sets.{has-none}
 use Rattle.bits.proofs.Masks.{has-and}
-use Rattle.bits.proofs.Bitwise.{all-next, has-without}
+use Rattle.bits.proofs.Bitwise.{has-without}
+use Rattle.places.proofs.Lowest.{positive, lowest, all-none, all-split}
 use Rattle.certificate.specs.Certificate.{Pair, pair, Certificate, pairOf}
 use Rattle.clauses.specs.Clauses.{rowHas, allHold, serving, serves, servedBy, Wanted, Unserved}
 
 -- One set ---------------------------------------------------------------------------------------------------------------
 
-and-hit : (a b h r : Bool) → h ≡ true → (a && b && r) ≡ (a && (b && (h ⇒ r)))
-and-hit true b h r e = rw e
-and-hit false b h r e = refl
+and-next : (a b d : Bool) → (a && (b && d)) ≡ ((a && b) && d)
+and-next true b d = refl
+and-next false b d = refl
 
-and-miss : (a b h r : Bool) → h ≡ false → (a && b) ≡ (a && (b && (h ⇒ r)))
-and-miss a b h r e = rw e (ap (λ (x : Bool). a && x) (sym (and-true b)))
+keep-all : (a w b : Bool) → (a && b) ≡ false → a ≡ (a && not (w && b))
+keep-all true w b e = sym (ap (λ (x : Bool). not (w && x)) e ∙ ap (λ (x : Bool). not x) (and-false w))
+keep-all false w b e = refl
 
 and-but : (a w b : Bool) → w ≡ true → (a && not (a && b)) ≡ (a && not (w && b))
 and-but true w b e = rw e
@@ -37,30 +41,41 @@ not-or true false d = refl
 not-or false b d = refl
 
 module _ (sets : List ℕ) (missing set : ℕ) where
-  -- `served` are the missing events that the places of the set below k hold
-  pub record Held (k served : ℕ) : Type 0 where
-    pub held : (e : ℕ) → has served e ≡ (has missing e && allHold k sets set e)
+  -- `served` are the missing events that the places of the set below m hold
+  pub record Held (m served : ℕ) : Type 0 where
+    pub held : (e : ℕ) → has served e ≡ (has missing e && allHold m sets set e)
 
-  pub held-all : Held 0 missing
-  unfolding allBelow
-  held-all = record { held = λ e. sym (and-true (has missing e)) }
+  -- they are those of `served` that the places of the rest hold
+  pub record Holding (m served rest : ℕ) : Type 0 where
+    pub small : rest < 2 ^ 64
+    pub whole : (e : ℕ) → (has missing e && allHold m sets set e) ≡ (has served e && allHold m sets rest e)
 
-  pub held-hit : {k served : ℕ} {b : Bool} → Held k served → b ≡ has set k → b ≡ true → Held (k + 1) (bitAnd served (getD sets k 0))
-  held-hit {k} {served} h e t = record {
-    held = λ x.
-        has-and served (getD sets k 0) x
-        ∙ ap (λ (y : Bool). y && rowHas sets k x) (h .held x)
-        ∙ and-hit (has missing x) (allHold k sets set x) (has set k) (rowHas sets k x) (sym e ∙ t)
-        ∙ ap (λ (y : Bool). has missing x && y) (sym (all-next k (λ j. has set j ⇒ rowHas sets j x)));
-  }
+  pub holding-all : (m : ℕ) → set < 2 ^ 64 → Holding m missing set
+  holding-all m h = record { small = h; whole = λ e. refl }
 
-  pub held-miss : {k served : ℕ} {b : Bool} → Held k served → b ≡ has set k → b ≡ false → Held (k + 1) served
-  held-miss {k} h e f = record {
-    held = λ x.
-        h .held x
-        ∙ and-miss (has missing x) (allHold k sets set x) (has set k) (rowHas sets k x) (sym e ∙ f)
-        ∙ ap (λ (y : Bool). has missing x && y) (sym (all-next k (λ j. has set j ⇒ rowHas sets j x)));
-  }
+  module _ {m served rest : ℕ} (g : Holding m served rest) where
+    -- the lowest place of the rest
+    pub holding-more : (rest ≡ 0 → ⊥) → trailingZeros 64 rest < m
+        → Holding m (bitAnd served (getD sets (trailingZeros 64 rest) 0)) (bitAnd rest (rest - 1))
+    holding-more z h = record {
+      small = lt-of-le-of-lt (and-le-l rest (rest - 1)) (g .small);
+      whole = λ e.
+          let row = getD sets (trailingZeros 64 rest) 0 in
+          let less = allHold m sets (bitAnd rest (rest - 1)) e in
+          g .whole e
+          ∙ ap (λ (b : Bool). has served e && b) (all-split (lowest 64 rest (positive rest z) (g .small)) m (λ k. rowHas sets k e) h)
+          ∙ and-next (has served e) (has row e) less
+          ∙ sym (ap (λ (b : Bool). b && less) (has-and served row e));
+    }
+
+    -- no place below m is left
+    pub holding-done : ((k : ℕ) → k < m → has rest k ≡ false) → Held m served
+    holding-done h = record {
+      held = λ e. sym (g .whole e ∙ ap (λ (b : Bool). has served e && b) (all-none m rest (λ k. rowHas sets k e) h) ∙ and-true (has served e));
+    }
+
+    pub holding-end : (rest ≡ 0 → ⊥) → m ≤ trailingZeros 64 rest → Held m served
+    holding-end z h = holding-done (λ k l. lowest 64 rest (positive rest z) (g .small) .below k (lt-of-lt-of-le l h))
 
   -- what the set leaves of the missing events
   abbrev Leaves : ℕ → ℕ → ℕ → Type 0
@@ -80,6 +95,11 @@ module _ (sets : List ℕ) (missing set : ℕ) where
       has-without missing served e (λ t. and-out (has missing e) (allHold m sets set e) (rw (h .held e) at t) .0)
       ∙ ap (λ (x : Bool). has missing e && not x) (h .held e)
       ∙ and-but (has missing e) (eqb (bitAnd set onward) set) (allHold m sets set e) (eq-eqb (bitAnd set onward) set w)
+
+  pub leaves-whole : (m onward : ℕ) {served rest : ℕ} → Holding m served rest → served ≡ 0 → Leaves m onward missing
+  leaves-whole m onward {served} {rest} g z e =
+      keep-all (has missing e) (eqb (bitAnd set onward) set) (allHold m sets set e)
+      (g .whole e ∙ ap (λ (b : Bool). b && allHold m sets rest e) (ap (λ (x : ℕ). has x e) z ∙ has-none e))
 
 -- The rows that are wanted ----------------------------------------------------------------------------------------------
 

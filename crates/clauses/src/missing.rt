@@ -42,12 +42,18 @@ pub fn unserved(missing: u64, set: u64, m: usize, onward: u64, sets: &[u64; 64])
         return missing;
     }
     let mut served: u64 = missing;
-    let mut k: usize = 0;
-    while k < m {
-        if member(set, k) {
-            served = served & sets[k];
+    let mut rest: u64 = set;
+    // the lowest place of the rest, and then the rest without it
+    while rest != 0 {
+        let k = u64::trailing_zeros(rest) as usize;
+        if k >= m {
+            return missing ^ served;
         }
-        k += 1;
+        served = served & sets[k];
+        if served == 0 {
+            return missing;
+        }
+        rest = rest & (rest - 1);
     }
     missing ^ served
 }

@@ -1,22 +1,24 @@
 -- The loops over sets and rows, one turn at a time.
-use mathlib.Core.Path.{_≡_, sym, ap, ap₂, _∙_}
-use mathlib.Core.Bool.{Bool, false, cond, _&&_, _||_, or-false, and-false, and-true}
+use mathlib.Core.Path.{_≡_, refl, sym, ap, ap₂, _∙_}
+use mathlib.Core.Bool.{Bool, true, false, cond, _&&_, _||_, or-false, and-false, and-true}
 use mathlib.Core.Logic.{_⊎_, inl, inr}
 use mathlib.Core.List.{List}
-use Prim.Native.Nat.{ℕ, _+_, _*_, _%_, _^_, _≤_, _<_}
+use Prim.Native.Nat.{ℕ, _+_, _-_, _*_, _%_, _^_, _≤_, _<_}
 use native.Mathlib.Omega.{arith}
-use native.Mathlib.Nat.{one-mul, eq-or-lt-of-le, le-of-suc-le-suc}
+use native.Mathlib.Nat.{one-mul, eq-or-lt-of-le, le-of-suc-le-suc, lt-of-lt-of-le, lt-of-le-of-lt}
 use native.Mathlib.Numerals.{add-one}
 use lib.ListN.{length, getD, set, length-set}
 use lib.Seq.{getD-set-same, getD-set-other}
 use lib.Dec.{eqb}
-use lib.Bits.{bitOr}
+use lib.Bits.{bitAnd, bitOr, and-le-l}
+use lib.Count.{trailingZeros}
 use lib.Pow.{shl-exact}
 use borrow.Author.Tests.{eq-eqb, ne-eqb}
 use Rattle.bits.specs.Bits.{has, anyBelow}
 use Rattle.bits.proofs.Sets.{has-none}
 use Rattle.bits.proofs.Masks.{has-or, has-cond, has-one}
 use Rattle.places.specs.Machine.{Linked, Holding}
+use Rattle.places.proofs.Lowest.{positive, lowest, any-none, any-split}
 
 pub one-shifted : (k : ℕ) → k < 64 → 1 * 2 ^ k % 2 ^ 64 ≡ 2 ^ k
 one-shifted k h = shl-exact 1 k 64 (omega arith) (omega arith) ∙ one-mul (2 ^ k)
@@ -24,6 +26,10 @@ one-shifted k h = shl-exact 1 k 64 (omega arith) (omega arith) ∙ one-mul (2 ^ 
 -- the numbers below p + 1: those below p, and p
 below-next : {k p : ℕ} → k < p + 1 → (k ≡ p) ⊎ (k < p)
 below-next {k} {p} h = eq-or-lt-of-le (le-of-suc-le-suc (rw (add-one p) at h))
+
+or-next : (a b d : Bool) → (a || (b || d)) ≡ ((a || b) || d)
+or-next true b d = refl
+or-next false b d = refl
 
 -- Linking: the rows below p are linked ----------------------------------------------------------------------------------
 
@@ -56,14 +62,40 @@ module _ {lasts firsts : ℕ} {F₀ F : List ℕ} {p : ℕ} (l : Linking lasts f
   pub linking-all : 64 ≤ p → Linked lasts firsts F₀ F
   linking-all h = record { linked-rows = l .long; linked-is = λ k m. l .done k (omega arith) }
 
--- Gathering: the union of the rows f p of the places below p -------------------------------------------------------------
+-- Gathering: `found` and the rows of the places of the rest make the union of the rows of the places of the set ---------
 
-pub gathered-more : (set : ℕ) (f : ℕ → ℕ) (p found : ℕ) → ((q : ℕ) → has found q ≡ anyBelow p (λ i. has set i && has (f i) q)) → {more : ℕ}
-    → more ≡ cond (has set p) (f p) 0 → (q : ℕ) → has (bitOr found more) q ≡ anyBelow (p + 1) (λ i. has set i && has (f i) q)
-unfolding anyBelow
-gathered-more set f p found h {more} e q =
-    rw (add-one p)
-    (has-or found more q ∙ ap₂ (λ (x y : Bool). x || y) (h q) (ap (λ (x : ℕ). has x q) e ∙ has-cond (has set p) (f p) q))
+-- the row of one of the places of the set x below n has q
+abbrev inRows : List ℕ → ℕ → ℕ → ℕ → Bool
+inRows F n x q = anyBelow n (λ p. has x p && has (getD F p 0) q)
+
+pub record Gathering (F : List ℕ) (n x found rest : ℕ) : Type 0 where
+  pub small : rest < 2 ^ 64
+  pub whole : (q : ℕ) → anyBelow n (λ p. has x p && has (getD F p 0) q) ≡ (has found q || anyBelow n (λ p. has rest p && has (getD F p 0) q))
+
+pub gathering-none : (F : List ℕ) (n x : ℕ) → x < 2 ^ 64 → Gathering F n x 0 x
+gathering-none F n x h = record { small = h; whole = λ q. sym (ap (λ (b : Bool). b || inRows F n x q) (has-none q)) }
+
+module _ {F : List ℕ} {n x found rest : ℕ} (g : Gathering F n x found rest) where
+  -- the row of the lowest place of the rest
+  pub gathering-more : (rest ≡ 0 → ⊥) → trailingZeros 64 rest < n
+      → Gathering F n x (bitOr found (getD F (trailingZeros 64 rest) 0)) (bitAnd rest (rest - 1))
+  gathering-more z h = record {
+    small = lt-of-le-of-lt (and-le-l rest (rest - 1)) (g .small);
+    whole = λ q.
+        let row = getD F (trailingZeros 64 rest) 0 in
+        g .whole q
+        ∙ ap (λ (b : Bool). has found q || b) (any-split (lowest 64 rest (positive rest z) (g .small)) n (λ p. has (getD F p 0) q) h)
+        ∙ or-next (has found q) (has row q) (inRows F n (bitAnd rest (rest - 1)) q)
+        ∙ sym (ap (λ (b : Bool). b || inRows F n (bitAnd rest (rest - 1)) q) (has-or found row q));
+  }
+
+  -- no place below n is left
+  pub gathering-all : ((p : ℕ) → p < n → has rest p ≡ false) → (q : ℕ) → has found q ≡ anyBelow n (λ p. has x p && has (getD F p 0) q)
+  gathering-all h q =
+      sym (g .whole q ∙ ap (λ (b : Bool). has found q || b) (any-none n rest (λ p. has (getD F p 0) q) h) ∙ or-false (has found q))
+
+  pub gathering-end : (rest ≡ 0 → ⊥) → n ≤ trailingZeros 64 rest → (q : ℕ) → has found q ≡ anyBelow n (λ p. has x p && has (getD F p 0) q)
+  gathering-end z h = gathering-all (λ p k. lowest 64 rest (positive rest z) (g .small) .below p (lt-of-lt-of-le k h))
 
 -- Holders: the leaves below q whose set has the event e ------------------------------------------------------------------
 

@@ -1,5 +1,6 @@
 pub mod Behind
 pub mod Items
+pub mod Lowest
 pub mod Filling
 pub mod Turns
 pub mod Reading

@@ -61,10 +61,15 @@ pub fn gather(follow: &[u64; 64], n: usize, set: u64) -> u64
     ensures { λ r. ⌜ ((q : ℕ) → has r q ≡ anyBelow n (λ p. has set p && has (getD (now (follow .entry)) p 0) q)) ⌝ }
 {
     let mut found: u64 = 0;
-    let mut p: usize = 0;
-    while p < n {
-        found = found | chosen(member(set, p), follow[p]);
-        p += 1;
+    let mut rest: u64 = set;
+    // the lowest place of the rest, and then the rest without it
+    while rest != 0 {
+        let p = u64::trailing_zeros(rest) as usize;
+        if p >= n {
+            return found;
+        }
+        found = found | follow[p];
+        rest = rest & (rest - 1);
     }
     found
 }

@@ -1,65 +1,68 @@
--- `clauses::missing::unserved` meets its contract. The loop's invariant: `served` are the missing events that the set's places below k hold.
-use Prim.Native.Nat.{_-_, _≤_, zero-le}
-use mathlib.Core.Path.{_≡_}
-use mathlib.Core.Logic.{⊎-elim}
+-- `clauses::missing::unserved` meets its contract. The loop's invariant: what is served are the events of `served` that the places of `rest` hold.
+use mathlib.Core.Path.{_≡_, sym, subst}
+use mathlib.Core.Bool.{false}
+use Prim.Native.Nat.{ℕ, _-_}
 use native.Mathlib.Omega.{arith}
-use Rattle.clauses.proofs.Serving.{Held, held-all, held-hit, held-miss, leaves-none, leaves-all, leaves-some}
+use lib.Bits.{and-le-r}
+use lib.Count.{trailing-le}
+use Rattle.bits.specs.Bits.{has}
+use Rattle.bits.proofs.Sets.{has-none}
+use Rattle.places.proofs.Lowest.{positive}
+use Rattle.clauses.proofs.Serving.{Holding, holding-all, holding-more, holding-done, holding-end, leaves-none, leaves-all, leaves-some, leaves-whole}
 use borrow.Author.Needs.{needs}
 use Rattle.clauses.proofs.missing.unserved.Statement.{statement}
 use Rattle.clauses.proofs.missing.unserved.Tie as tie
-use Rattle.clauses.proofs.missing.unserved.Reads as reads
-use Rattle.clauses.proofs.missing.unserved.Lts as lts
-use Rattle.places.proofs.masks.member.Reads as member-reads
 
 abbrev Inv-loop : tie.InvT-loop
-Inv-loop missing set m onward sets served₀ k₀ served k = (k ≤ m) × Held sets missing set k served
+Inv-loop missing set m onward sets served₀ rest₀ served rest = Holding sets missing set m served rest
 
 abbrev μ-loop : tie.MeasureT-loop
-μ-loop missing set m onward sets served₀ k₀ served k = m - k
+μ-loop missing set m onward sets served₀ rest₀ served rest = rest
 
--- src/missing.rt:40:9
 returns : tie.Need-returns Inv-loop μ-loop
 returns c = let a = c .before .args in leaves-none (a .sets .now) _ (a .set) (a .m) (a .onward) (c .if1 .taken)
 
--- src/missing.rt:43:9
 returns-2 : tie.Need-returns-2 Inv-loop μ-loop
 returns-2 c = let a = c .before .before .args in leaves-all (a .sets .now) _ (a .set) (a .m) (a .onward) (c .if2 .taken)
 
--- src/missing.rt:47:5
 loop-holds : tie.Need-loop-holds Inv-loop μ-loop
-loop-holds c = (zero-le, held-all _ _ _)
+loop-holds c = holding-all _ _ _ _ (search needs)
 
--- src/missing.rt:48:12
-member-requires : tie.Need-member-requires Inv-loop μ-loop
-member-requires c κs = search needs
+cast-k : tie.Need-cast-k Inv-loop μ-loop
+cast-k c = let h = trailing-le 64 (c .before .loop .rest) in omega arith
 
--- src/missing.rt:49:31
+returns-3 : tie.Need-returns-3 Inv-loop μ-loop
+returns-3 c = let a = c .before .before .before .before .before .args in
+    leaves-some (a .sets .now) (a .missing) (a .set) (a .m) (a .onward) (c .before .before .before .if2 .left)
+    (holding-end _ _ _ (c .before .before .loop .inv) (c .before .loop-test .taken) (c .if3 .taken))
+
 mul-served : tie.Need-mul-served Inv-loop μ-loop
-mul-served c = search needs
+mul-served c = let h = trailing-le 64 (c .before .before .loop .rest) in omega arith
 
--- src/missing.rt:49:31
 element-copy-out-served : tie.Need-element-copy-out-served Inv-loop μ-loop
 element-copy-out-served c = search needs
 
--- src/missing.rt:51:9
-add-k : tie.Need-add-k Inv-loop μ-loop
-add-k c = search needs
+returns-4 : tie.Need-returns-4 Inv-loop μ-loop
+returns-4 c = let a = c .before .before .before .before .before .before .before .args in
+    leaves-whole (a .sets .now) (a .missing) (a .set) (a .m) (a .onward)
+    (holding-more _ _ _ (c .before .before .before .before .loop .inv) (c .before .before .before .loop-test .taken) (c .before .before .if3 .left)) (c .if4 .taken)
 
--- src/missing.rt:47:5
+sub-rest : tie.Need-sub-rest Inv-loop μ-loop
+sub-rest c = positive _ (c .before .before .before .loop-test .taken)
+
 loop-less : tie.Need-loop-less Inv-loop μ-loop
-loop-less c = search needs
+loop-less c = let x = c .before .before .before .before .loop .rest in
+    let h = positive x (c .before .before .before .loop-test .taken) in
+    let l = and-le-r x (x - 1) in
+    omega arith
 
--- src/missing.rt:47:5
 loop-again : tie.Need-loop-again Inv-loop μ-loop
-loop-again c = let h = c .before .before .before .loop .inv .1 in
-    let e = c .before .member .ensures in
-    (omega arith, ⊎-elim (λ w. rw (w .2) (held-hit _ _ _ h e (w .0 .taken))) (λ w. rw (w .1) (held-miss _ _ _ h e (w .0 .left))) (c .if3 .came))
+loop-again c = holding-more _ _ _ (c .before .before .before .before .loop .inv) (c .before .before .before .loop-test .taken) (c .before .before .if3 .left)
 
--- src/missing.rt:35:1
-returns-3 : tie.Need-returns-3 Inv-loop μ-loop
-returns-3 c = let a = c .before .before .before .before .args in
-    let e : c .before .loop .k ≡ a .m = omega (arith, c .before .loop .inv .0, c .loop-test .left) in
-    leaves-some (a .sets .now) (a .missing) (a .set) (a .m) (a .onward) (c .before .before .if2 .left) (rw e at (c .before .loop .inv .1))
+returns-5 : tie.Need-returns-5 Inv-loop μ-loop
+returns-5 c = let a = c .before .before .before .before .args in
+    leaves-some (a .sets .now) (a .missing) (a .set) (a .m) (a .onward) (c .before .before .if2 .left)
+    (holding-done _ _ _ (c .before .loop .inv) (λ k _. subst (λ (x : ℕ). has x k ≡ false) (sym (c .loop-test .left)) (has-none k)))
 
 pub unserved-spec : {M : Type 1} → statement M
 unserved-spec =
@@ -70,10 +73,12 @@ unserved-spec =
     returns
     returns-2
     loop-holds
-    member-requires
+    cast-k
+    returns-3
     mul-served
     element-copy-out-served
-    add-k
+    returns-4
+    sub-rest
     loop-less
     loop-again
-    returns-3)
+    returns-5)

@@ -1,68 +1,55 @@
--- `masks::gather` meets its contract. The invariant: `found` is the union over the places below p.
-use Prim.Native.Nat.{ℕ, _≤_, _-_, zero-le}
-use mathlib.Core.Path.{_≡_, ap, _∙_}
-use mathlib.Core.Bool.{Bool, cond, _&&_}
-use lib.ListN.{getD}
+-- `masks::gather` meets its contract. The invariant: `found` and the rows of the places of `rest` make the union.
+use mathlib.Core.Path.{_≡_, sym, subst}
+use mathlib.Core.Bool.{false}
+use Prim.Native.Nat.{ℕ, _-_}
 use native.Mathlib.Omega.{arith}
-use Rattle.bits.specs.Bits.{has, anyBelow}
+use lib.Bits.{and-le-r}
+use lib.Count.{trailing-le}
+use Rattle.bits.specs.Bits.{has}
 use Rattle.bits.proofs.Sets.{has-none}
-use Rattle.places.proofs.Filling.{gathered-more}
+use Rattle.places.proofs.Lowest.{positive}
+use Rattle.places.proofs.Filling.{Gathering, gathering-none, gathering-more, gathering-all, gathering-end}
 use borrow.Author.Needs.{needs}
 use Rattle.places.proofs.masks.gather.Statement.{statement}
 use Rattle.places.proofs.masks.gather.Tie as tie
 
 abbrev Inv-loop : tie.InvT-loop
-Inv-loop follow n set found₀ p₀ found p = (p ≤ n) × ((q : ℕ) → has found q ≡ anyBelow p (λ i. has set i && has (getD follow i 0) q))
+Inv-loop follow n set found₀ rest₀ found rest = Gathering follow n set found rest
 
 abbrev μ-loop : tie.MeasureT-loop
-μ-loop follow n set found₀ p₀ found p = n - p
+μ-loop follow n set found₀ rest₀ found rest = rest
 
 loop-holds : tie.Need-loop-holds Inv-loop μ-loop
-unfolding anyBelow
-loop-holds c = (zero-le, λ q. has-none q)
+loop-holds c = gathering-none _ _ _ (search needs)
 
-member-requires : tie.Need-member-requires Inv-loop μ-loop
-member-requires c κs = search needs
-
-mul-chosen : tie.Need-mul-chosen Inv-loop μ-loop
-mul-chosen c = search needs
-
-element-copy-out-chosen : tie.Need-element-copy-out-chosen Inv-loop μ-loop
-element-copy-out-chosen c = search needs
-
-chosen-requires : tie.Need-chosen-requires Inv-loop μ-loop
-chosen-requires c κs = search needs
-
-add-p : tie.Need-add-p Inv-loop μ-loop
-add-p c = search needs
-
-loop-less : tie.Need-loop-less Inv-loop μ-loop
-loop-less c = search needs
-
-loop-again : tie.Need-loop-again Inv-loop μ-loop
-loop-again c = let a = c .before .before .before .before .before .args in (
-  omega arith,
-  gathered-more (a .set) (λ i. getD (a .follow .now) i 0) (c .before .before .before .before .loop .p) (c .before .before .before .before .loop .found) (c .before .before .before .before .loop .inv .1)
-      (c .chosen .ensures ∙ ap (λ (x : Bool). cond x (getD (a .follow .now) (c .before .before .before .before .loop .p) 0) 0) (c .before .before .member .ensures)),
-)
+cast-p : tie.Need-cast-p Inv-loop μ-loop
+cast-p c = let h = trailing-le 64 (c .before .loop .rest) in omega arith
 
 returns : tie.Need-returns Inv-loop μ-loop
-returns c = λ q.
-    let n : c .before .loop .p ≡ c .before .before .args .n = omega arith in
-    c .before .loop .inv .1 q ∙ ap (λ (n : ℕ). anyBelow n (λ p. has (c .before .before .args .set) p && has (getD (c .before .before .args .follow .now) p 0) q)) n
+returns c = gathering-end (c .before .before .loop .inv) (c .before .loop-test .taken) (c .if1 .taken)
+
+mul-found : tie.Need-mul-found Inv-loop μ-loop
+mul-found c = let h = trailing-le 64 (c .before .before .loop .rest) in omega arith
+
+element-copy-out-found : tie.Need-element-copy-out-found Inv-loop μ-loop
+element-copy-out-found c = search needs
+
+sub-rest : tie.Need-sub-rest Inv-loop μ-loop
+sub-rest c = positive _ (c .before .before .loop-test .taken)
+
+loop-less : tie.Need-loop-less Inv-loop μ-loop
+loop-less c =
+    let x = c .before .before .before .loop .rest in
+    let h = positive x (c .before .before .loop-test .taken) in
+    let l = and-le-r x (x - 1) in
+    omega arith
+
+loop-again : tie.Need-loop-again Inv-loop μ-loop
+loop-again c = gathering-more (c .before .before .before .loop .inv) (c .before .before .loop-test .taken) (c .before .if1 .left)
+
+returns-2 : tie.Need-returns-2 Inv-loop μ-loop
+returns-2 c =
+    gathering-all (c .before .loop .inv) (λ p _. subst (λ (x : ℕ). has x p ≡ false) (sym (c .loop-test .left)) (has-none p))
 
 pub gather-spec : {M : Type 1} → statement M
-gather-spec =
-    tie.close
-    (tie.spec
-    Inv-loop
-    μ-loop
-    loop-holds
-    member-requires
-    mul-chosen
-    element-copy-out-chosen
-    chosen-requires
-    add-p
-    loop-less
-    loop-again
-    returns)
+gather-spec = tie.close (tie.spec Inv-loop μ-loop loop-holds cast-p returns mul-found element-copy-out-found sub-rest loop-less loop-again returns-2)
