@@ -12,7 +12,7 @@ use Rattle.condition.specs.Places.{nullable, ends}
 use Rattle.certificate.specs.Certificate.{Certificate, Finding, fine, fault, unless, startsRight, check}
 use Rattle.certificate.proofs.Valid.{valid}
 use Rattle.sheet.specs.Decode.{certificateAt}
-use Rattle.runs.specs.Rules.{Claim, Rule}
+use Rattle.runs.specs.Rules.{Rule}
 use Rattle.verdict.specs.Verdict.{testOf}
 use Rattle.places.specs.declared.Side.{Side}
 use Rattle.places.specs.Tables.{Tables}
@@ -20,7 +20,7 @@ use Rattle.pairs.specs.Found.{pairFound}
 use Rattle.pairs.specs.declared.Pair.{Pair}
 use Rattle.pairs.specs.declared.Pair.the-variants.{At, End}
 use Rattle.pairs.proofs.Laws.{Reached, reached-start, reached-next, reached-end}
-use Rattle.walk.specs.Trial.{Trial, passed, behind, afterTest, tryRules}
+use Rattle.walk.specs.Trial.{passed, behind, afterTest, tryRules}
 use Rattle.walk.proofs.Trial.{trial-one}
 
 -- The certificate -----------------------------------------------------------------------------------------------------

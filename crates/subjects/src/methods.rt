@@ -1,7 +1,6 @@
 // Rules 1 to 6.
 ghost use mathlib.Core.Option.{some};
 ghost use Rattle.sheet.specs.Model.{large};
-ghost use Rattle.sheet.specs.Sheet.{Body};
 ghost use Rattle.sheet.specs.Decode.{sheetOf};
 ghost use Rattle.runs.specs.Rules.{firstRules, methodRules};
 ghost use Rattle.walk.specs.Indexed.{PointIn, MethodIn};

@@ -1,12 +1,12 @@
 -- The rules of a sheet, one subject at a time: those from the number k on are those of the method, or the step, k and those from the next on.
-use mathlib.Core.Path.{_≡_, refl, sym, ap, _∙_, subst}
-use mathlib.Core.Option.{Option, none, some}
+use mathlib.Core.Path.{_≡_, refl, sym, ap, _∙_}
+use mathlib.Core.Option.{Option, some}
 use mathlib.Core.List.{List, [], _∷_, _++_}
-use Prim.Native.Nat.{ℕ, zero, suc, _+_, _≤_, _<_}
+use Prim.Native.Nat.{ℕ, zero, suc, _+_, _≤_}
 use native.Mathlib.Nat.{not-suc-le-zero, le-of-suc-le-suc}
 use native.Mathlib.Omega.{arith}
 use lib.ListN.{length, getElem?, drop}
-use Rattle.sheet.specs.Sheet.{Body, Method, Step, Sheet, bodyIn, body}
+use Rattle.sheet.specs.Sheet.{Method, Step, Sheet, bodyIn, body}
 use Rattle.runs.specs.Rules.{Rule, firstRules, methodRules, stepRules, methodsRules, stepsRules, rulesFrom, rules, total}
 
 module _ {A : Type 0} where

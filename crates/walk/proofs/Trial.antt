@@ -1,12 +1,12 @@
 -- Testing rules one after the other: laws, and the verdict that it comes to.
-use mathlib.Core.Path.{_≡_, refl, sym, ap, _∙_, subst}
+use mathlib.Core.Path.{_≡_, refl, sym, ap, _∙_}
 use mathlib.Core.List.{List, [], _∷_, _++_, map}
 use Prim.Native.Nat.{ℕ, suc, _+_, _*_}
 use native.Mathlib.Omega.{arith}
 use lib.ListN.{length}
 use Rattle.certificate.specs.Certificate.{Certificate, Finding, fine, fault}
 use Rattle.sheet.specs.Decode.{certificateAt}
-use Rattle.sheet.proofs.Certified.{Certified, certified-length, Chain, no-certificate, a-certificate-more}
+use Rattle.sheet.proofs.Certified.{certified-length, Chain, no-certificate, a-certificate-more}
 use Rattle.runs.specs.Rules.{Claim, _isIn_, holdsEmpty, Rule, _of_says_}
 use Rattle.verdict.specs.Verdict.{Report, testOf, needed, certificatesNeeded, leftAfter, nextOf, reported, firstFault}
 use Rattle.verdict.proofs.Judged.{needed-is, first-is}

@@ -1,6 +1,6 @@
 -- The verdict, by what reading finds, by the number of certificates, and by the trial of the rules.
 use mathlib.Core.Path.{_≡_, sym, ap, _∙_}
-use mathlib.Core.Bool.{Bool, cond}
+use mathlib.Core.Bool.{cond}
 use mathlib.Core.Option.{some}
 use mathlib.Core.List.{List}
 use Prim.Native.Nat.{ℕ}
@@ -8,15 +8,14 @@ use lib.ListN.{length, getD}
 use borrow.Author.Tests.{eq-eqb, ne-eqb}
 use Rattle.certificate.specs.Certificate.{Certificate}
 use Rattle.sheet.specs.Model.{Model}
-use Rattle.sheet.specs.Sheet.{Sheet}
 use Rattle.sheet.specs.Reading.{Reading, whole, refusal, readSheet}
 use Rattle.sheet.specs.Decode.{sheetOf}
 use Rattle.sheet.proofs.SheetOf.{certificates-are, certificates-counted}
 use Rattle.sheet.proofs.Certified.{Chain, no-certificate, a-certificate-more}
-use Rattle.runs.specs.Rules.{Rule, rules, count}
-use Rattle.verdict.specs.Verdict.{Report, accepted, refused, certificatesNeeded, firstFault, verdictAfter, verdictOf}
+use Rattle.runs.specs.Rules.{rules, count}
+use Rattle.verdict.specs.Verdict.{accepted, refused, certificatesNeeded, firstFault, verdictAfter, verdictOf}
 use Rattle.verdict.proofs.Loads.{verdict-is, after-whole, after-refusal, enough, first, judged-is}
-use Rattle.walk.specs.Trial.{Trial, tryRules, reportOn}
+use Rattle.walk.specs.Trial.{tryRules, reportOn}
 use Rattle.walk.proofs.Trial.{tried-chained}
 
 module _ (M : Model) (s : List ℕ) where

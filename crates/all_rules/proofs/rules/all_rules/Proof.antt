@@ -1,4 +1,3 @@
-use native.Mathlib.Omega.{arith}
 use mathlib.Core.List.{_++_}
 use Rattle.sheet.specs.Model.{large}
 use Rattle.sheet.specs.Sheet.{Sheet}

@@ -1,11 +1,9 @@
-use mathlib.Core.Path.{_≡_, sym, ap, _∙_, subst}
-use Prim.Native.Nat.{ℕ, _+_}
+use mathlib.Core.Path.{sym, ap, _∙_}
 use native.Mathlib.Omega.{arith}
 use Rattle.sheet.specs.Model.{large}
 use Rattle.sheet.specs.Decode.{sheetOf}
 use Rattle.runs.specs.Rules.{methodRules}
-use Rattle.walk.specs.Indexed.{PointIn}
-use Rattle.walk.proofs.Indexed.{methods-held, method-at, method-few, primitive, with-body, point-at}
+use Rattle.walk.proofs.Indexed.{methods-held, method-at, primitive, with-body, point-at}
 use Rattle.all_rules.proofs.Laws.{none-left, body-tries}
 use borrow.Author.Needs.{needs}
 use Rattle.all_rules.proofs.rules.method_rules.Statement.{statement}
