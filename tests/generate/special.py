@@ -3,12 +3,14 @@ from pathlib import Path
 
 from reference.conditions import ANY, EITHER, EMPTY, JOIN, LEAF, STAR
 from reference.reading import (CALL_STEP, EVENT_STEP, MAX_BYTES, PASS_STEP,
-                               Method, Point, Sheet, Step)
+                               Method, Point, Sheet, Step, read_sheet)
 from reference.rules import rule_count
 from sheets.assemble import assemble
 from sheets.records import encode, with_certificates
 
+from .draws import Draws
 from .refusals import Case
+from .trees import random_tree
 
 EXAMPLES = Path(__file__).resolve().parent.parent.parent / "examples"
 ANY_STAR = (STAR, (LEAF, ANY))
@@ -150,6 +152,23 @@ def event_edges():
         yield accepted("event loop", sheet)
 
 
+def closing_loops(seed, count):
+    """The loop with close last and event 0 first, with random point conditions
+    and all reachable pairs: never accepted."""
+    text = (EXAMPLES / "close_loop_open.txt").read_text(encoding="utf-8")
+    sheet, draws = read_sheet(assemble(text)), Draws(seed)
+    for _ in range(count):
+        trees = [random_tree(draws, draws.between(1, 4), [0, 1, 2])
+                 for _ in range(4)] + [ANY_STAR, EMPTY_TREE]
+        conditions = sheet.conditions + trees
+        points = [Point(*(draws.below(len(conditions)) for _ in range(3)))
+                  for _ in sheet.points]
+        methods = [sheet.methods[0]._replace(trace=1), sheet.methods[1]]
+        tried = with_certificates(
+            Sheet(conditions, points, methods, sheet.steps, []))
+        yield Case("closing loop", encode(tried), "unproved ")
+
+
 def special_cases():
     """All single sheets."""
     yield from starred()
@@ -161,3 +180,4 @@ def special_cases():
     yield large_certificate()
     yield from truncations()
     yield from event_edges()
+    yield from closing_loops(66, 60)
