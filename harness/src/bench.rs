@@ -17,13 +17,14 @@ struct Family {
     parts: usize,
 }
 
-pub fn bench(all: &[Doors]) {
+/// Prints the table of the families whose name has the word.
+pub fn bench(all: &[Doors], word: &str) {
     let names: Vec<&str> = all.iter().map(|doors| doors.name).collect();
     let ratio = all.len() == 2;
     print!("| family | {} |", names.join(" | "));
     println!("{}", if ratio { " ratio |" } else { "" });
     println!("|---|{}", "---|".repeat(all.len() + ratio as usize));
-    for family in families() {
+    for family in families().into_iter().filter(|family| family.name.contains(word)) {
         let times = medians(&family, all);
         let cells: Vec<String> = times.iter().map(|&time| shown(time)).collect();
         print!("| {} | {} |", family.name, cells.join(" | "));

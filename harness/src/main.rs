@@ -23,7 +23,7 @@ const USAGE: &str = "commands:
   compare N --seed S      N sheets: library against reference, or reference against naive
   self-check N --seed S   N sheets: reference against naive
   vectors CRATES          stored cases of the gate's programs
-  bench                   timings
+  bench [WORD]            timings of the families, or of those with WORD in their name
   stack                   stack used by one call
   load                    the line for the sheet on standard input";
 
@@ -56,7 +56,11 @@ fn run(words: &[&str]) -> Result<usize, String> {
         }
         ["vectors", folder] => vectors::run(folder, &loaders()),
         ["bench"] => {
-            bench::bench(&loaders());
+            bench::bench(&loaders(), "");
+            Ok(0)
+        }
+        ["bench", word] => {
+            bench::bench(&loaders(), word);
             Ok(0)
         }
         ["stack"] => {
