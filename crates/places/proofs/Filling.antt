@@ -1,6 +1,6 @@
 -- The loops over sets and rows, one turn at a time.
 use mathlib.Core.Path.{_≡_, refl, sym, ap, ap₂, _∙_}
-use mathlib.Core.Bool.{Bool, true, false, cond, _&&_, _||_, or-false, and-false, and-true}
+use mathlib.Core.Bool.{Bool, true, false, cond, not, _&&_, _||_, or-false, and-false, and-true}
 use mathlib.Core.Logic.{_⊎_, inl, inr}
 use mathlib.Core.List.{List}
 use Prim.Native.Nat.{ℕ, _+_, _-_, _*_, _%_, _^_, _≤_, _<_}
@@ -10,15 +10,16 @@ use native.Mathlib.Numerals.{add-one}
 use lib.ListN.{length, getD, set, length-set}
 use lib.Seq.{getD-set-same, getD-set-other}
 use lib.Dec.{eqb}
-use lib.Bits.{bitAnd, bitOr, and-le-l}
+use lib.Bits.{bitAnd, bitOr, and-le-l, or-zero-r}
 use lib.Count.{trailingZeros}
 use lib.Pow.{shl-exact}
-use borrow.Author.Tests.{eq-eqb, ne-eqb}
+use borrow.Author.Tests.{eqb-true, eqb-false, eq-eqb, ne-eqb}
 use Rattle.bits.specs.Bits.{has, anyBelow}
+use Rattle.bits.proofs.Tests.{T-true}
 use Rattle.bits.proofs.Sets.{has-none}
 use Rattle.bits.proofs.Masks.{has-or, has-cond, has-one}
 use Rattle.places.specs.Machine.{Linked, Holding}
-use Rattle.places.proofs.Lowest.{positive, lowest, any-none, any-split}
+use Rattle.places.proofs.Lowest.{Lowest, positive, lowest, lowest-lt, any-none, any-split}
 
 pub one-shifted : (k : ℕ) → k < 64 → 1 * 2 ^ k % 2 ^ 64 ≡ 2 ^ k
 one-shifted k h = shl-exact 1 k 64 (omega arith) (omega arith) ∙ one-mul (2 ^ k)
@@ -31,36 +32,64 @@ or-next : (a b d : Bool) → (a || (b || d)) ≡ ((a || b) || d)
 or-next true b d = refl
 or-next false b d = refl
 
--- Linking: the rows below p are linked ----------------------------------------------------------------------------------
+-- Linking: the rows, once those at the places of the rest are linked, are linked at the places of `lasts` ---------------
 
-pub record Linking (lasts firsts : ℕ) (F₀ F : List ℕ) (p : ℕ) : Type 0 where
-  pub bound : p ≤ 64
+-- row k of F, linked where the set x has k
+abbrev pub rowLinked : ℕ → List ℕ → ℕ → ℕ → ℕ
+rowLinked firsts F x k = bitOr (getD F k 0) (cond (has x k) firsts 0)
+
+pub record Linking (lasts firsts : ℕ) (F₀ F : List ℕ) (rest : ℕ) : Type 0 where
+  pub small : rest < 2 ^ 64
   pub long : length F ≡ 64
-  pub done : (k : ℕ) → k < p → getD F k 0 ≡ bitOr (getD F₀ k 0) (cond (has lasts k) firsts 0)
-  pub rest : (k : ℕ) → p ≤ k → getD F k 0 ≡ getD F₀ k 0
+  pub whole : (k : ℕ) → rowLinked firsts F rest k ≡ rowLinked firsts F₀ lasts k
 
-module _ {lasts firsts : ℕ} {F₀ F : List ℕ} {p : ℕ} (l : Linking lasts firsts F₀ F p) where
-  pub linking-more : {more : ℕ} → p < 64 → more ≡ cond (has lasts p) firsts 0
-      → Linking lasts firsts F₀ (set F p (bitOr (getD F p 0) more)) (p + 1)
-  linking-more {more} h e =
+pub linking-none : {lasts firsts : ℕ} {F : List ℕ} → lasts < 2 ^ 64 → length F ≡ 64 → Linking lasts firsts F F lasts
+linking-none h l = record { small = h; long = l; whole = λ k. refl }
+
+module _ {lasts firsts : ℕ} {F₀ F : List ℕ} {rest : ℕ} (l : Linking lasts firsts F₀ F rest) where
+  -- the row of the lowest place of the rest
+  pub linking-more : (rest ≡ 0 → ⊥)
+      → Linking lasts firsts F₀ (set F (trailingZeros 64 rest) (bitOr (getD F (trailingZeros 64 rest) 0) firsts)) (bitAnd rest (rest - 1))
+  linking-more z =
       record {
-        bound = omega arith;
+        small = lt-of-le-of-lt (and-le-l rest (rest - 1)) (l .small);
         long = length-set F p row ∙ l .long;
-        done = λ k m. at k (below-next m);
-        rest = λ k m. getD-set-other F p k row 0 (λ (z : k ≡ p). omega arith) ∙ l .rest k (omega arith);
+        whole = λ k. at k (eqb k p) refl ∙ l .whole k;
       }
     where
+      p : ℕ
+      p = trailingZeros 64 rest
+
       row : ℕ
-      row = bitOr (getD F p 0) more
+      row = bitOr (getD F p 0) firsts
 
-      at : (k : ℕ) → (k ≡ p) ⊎ (k < p) → getD (set F p row) k 0 ≡ bitOr (getD F₀ k 0) (cond (has lasts k) firsts 0)
-      at k (inl z) =
-          let y = l .long in
-          rw z (getD-set-same F p row 0 (omega arith) ∙ ap₂ (λ (u v : ℕ). bitOr u v) (l .rest p (omega arith)) e)
-      at k (inr z) = getD-set-other F p k row 0 (λ (y : k ≡ p). omega arith) ∙ l .done k z
+      low : Lowest rest p
+      low = lowest 64 rest (positive rest z) (l .small)
 
-  pub linking-all : 64 ≤ p → Linked lasts firsts F₀ F
-  linking-all h = record { linked-rows = l .long; linked-is = λ k m. l .done k (omega arith) }
+      left : (k : ℕ) (b : Bool) → eqb k p ≡ b → has (bitAnd rest (rest - 1)) k ≡ (has rest k && not b)
+      left k b e = low .without k ∙ ap (λ (b : Bool). has rest k && not b) e
+
+      at : (k : ℕ) (b : Bool) → eqb k p ≡ b → rowLinked firsts (set F p row) (bitAnd rest (rest - 1)) k ≡ rowLinked firsts F rest k
+      at k true e =
+          let i = lowest-lt rest z (l .small) in
+          let n = l .long in
+          rw (eqb-true k p e)
+          (ap₂ (λ (x : ℕ) (b : Bool). bitOr x (cond b firsts 0))
+          (getD-set-same F p row 0 (omega arith))
+          (left p true (eq-eqb p p refl) ∙ and-false (has rest p))
+          ∙ or-zero-r row
+          ∙ sym (ap (λ (b : Bool). bitOr (getD F p 0) (cond b firsts 0)) (T-true (has rest p) (low .here))))
+      at k false e =
+          ap₂ (λ (x : ℕ) (b : Bool). bitOr x (cond b firsts 0))
+          (getD-set-other F p k row 0 (eqb-false k p e))
+          (left k false e ∙ and-true (has rest k))
+
+  pub linking-all : rest ≡ 0 → Linked lasts firsts F₀ F
+  linking-all z = record {
+    linked-rows = l .long;
+    linked-is = λ k _.
+        sym (ap (λ (b : Bool). bitOr (getD F k 0) (cond b firsts 0)) (ap (λ (x : ℕ). has x k) z ∙ has-none k) ∙ or-zero-r (getD F k 0)) ∙ l .whole k;
+  }
 
 -- Gathering: `found` and the rows of the places of the rest make the union of the rows of the places of the set ---------
 

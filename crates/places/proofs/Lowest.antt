@@ -11,7 +11,7 @@ use lib.Count.{trailingZeros}
 use borrow.Author.Tests.{eqb-true}
 use Rattle.bits.specs.Bits.{_⇒_, has, anyBelow, allBelow}
 use Rattle.bits.proofs.Tests.{and-out, and-in, or-out, or-left, or-right, if-out, if-in, T-ext, any-out, any-in, all-out, all-in}
-use Rattle.bits.proofs.Sets.{has-suc}
+use Rattle.bits.proofs.Sets.{has-suc, has-lt}
 use Rattle.bits.proofs.Masks.{has-and}
 
 -- p is the lowest number of x, and `x & (x - 1)` is x without it
@@ -90,6 +90,9 @@ lowest (suc k) x h l = go (lowest k (x / 2)) (digit (x % 2) (omega arith))
         subst (λ (p : ℕ). Lowest x p) (sym (zeros-even k x e))
         (lowest-even x (trailingZeros k (x / 2)) e h (more (omega arith) (omega (arith, pow-suc 2 k))))
     go more (inr e) = subst (λ (p : ℕ). Lowest x p) (sym (zeros-odd k x e)) (lowest-odd x e)
+
+pub lowest-lt : (x : ℕ) → (x ≡ 0 → ⊥) → x < 2 ^ 64 → trailingZeros 64 x < 64
+lowest-lt x h l = has-lt 64 x (trailingZeros 64 x) l (lowest 64 x (positive x h) l .here)
 
 -- Tests of the numbers of a set -----------------------------------------------------------------------------------------
 

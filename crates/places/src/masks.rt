@@ -48,10 +48,12 @@ pub fn link(lasts: u64, firsts: u64, follow: &mut [u64; 64])
     requires { ⌜ length (now follow) ≡ 64 ⌝ }
     ensures { λ _. ⌜ Linked lasts firsts (now (follow .entry)) (now (follow .exit)) ⌝ }
 {
-    let mut p: usize = 0;
-    while p < 64 {
-        follow[p] = follow[p] | chosen(member(lasts, p), firsts);
-        p += 1;
+    let mut rest: u64 = lasts;
+    // the lowest place of the rest, and then the rest without it
+    while rest != 0 {
+        let p = u64::trailing_zeros(rest) as usize;
+        follow[p] = follow[p] | firsts;
+        rest = rest & (rest - 1);
     }
 }
 

@@ -1,49 +1,58 @@
--- `masks::link` meets its contract. The invariant, `Linking`: the rows below p are linked, the others as before.
+-- `masks::link` meets its contract. The invariant, `Linking`: the rows are as asked once those at the places of `rest` are linked.
 use Prim.Native.Nat.{_-_}
-use mathlib.Core.Path.{_∙_, ap}
-use mathlib.Core.Bool.{Bool, cond}
-use Rattle.places.proofs.Filling.{Linking, linking-more, linking-all}
+use native.Mathlib.Omega.{arith}
+use lib.Bits.{and-le-r}
+use lib.Count.{trailing-le}
+use Rattle.places.proofs.Lowest.{positive, lowest-lt}
+use Rattle.places.proofs.Filling.{Linking, linking-none, linking-more, linking-all}
 use borrow.Author.Needs.{needs}
 use Rattle.places.proofs.masks.link.Statement.{statement}
 use Rattle.places.proofs.masks.link.Tie as tie
 
 abbrev Inv-loop : tie.InvT-loop
-Inv-loop lasts firsts follow₀ p₀ follow p = Linking lasts firsts follow₀ follow p
+Inv-loop lasts firsts follow₀ rest₀ follow rest = Linking lasts firsts follow₀ follow rest
 
 abbrev μ-loop : tie.MeasureT-loop
-μ-loop lasts firsts follow₀ p₀ follow p = 64 - p
+μ-loop lasts firsts follow₀ rest₀ follow rest = rest
 
 loop-holds : tie.Need-loop-holds Inv-loop μ-loop
-loop-holds c = search needs
+loop-holds c = linking-none (search needs) (c .pre)
+
+cast-p : tie.Need-cast-p Inv-loop μ-loop
+cast-p c = let h = trailing-le 64 (c .before .loop .rest) in omega arith
 
 mul-follow : tie.Need-mul-follow Inv-loop μ-loop
-mul-follow c = search needs
+mul-follow c = let g = c .before .loop in
+    let h = lowest-lt (g .rest) (c .loop-test .taken) (g .inv .small) in
+    search needs
 
 element-copy-out-follow : tie.Need-element-copy-out-follow Inv-loop μ-loop
-element-copy-out-follow c = search needs
-
-member-requires : tie.Need-member-requires Inv-loop μ-loop
-member-requires c κs = search needs
-
-chosen-requires : tie.Need-chosen-requires Inv-loop μ-loop
-chosen-requires c κs = search needs
+element-copy-out-follow c = let g = c .before .loop in
+    let h = lowest-lt (g .rest) (c .loop-test .taken) (g .inv .small) in
+    search needs
 
 mul-follow-2 : tie.Need-mul-follow-2 Inv-loop μ-loop
-mul-follow-2 c = search needs
+mul-follow-2 c = let g = c .before .before .loop in
+    let h = lowest-lt (g .rest) (c .before .loop-test .taken) (g .inv .small) in
+    search needs
 
 element-write-follow : tie.Need-element-write-follow Inv-loop μ-loop
-element-write-follow c = search needs
+element-write-follow c = let g = c .before .before .loop in
+    let h = lowest-lt (g .rest) (c .before .loop-test .taken) (g .inv .small) in
+    search needs
 
-add-p : tie.Need-add-p Inv-loop μ-loop
-add-p c = search needs
+sub-rest : tie.Need-sub-rest Inv-loop μ-loop
+sub-rest c = positive _ (c .before .loop-test .taken)
 
 loop-less : tie.Need-loop-less Inv-loop μ-loop
-loop-less c = search needs
+loop-less c =
+    let x = c .before .before .loop .rest in
+    let h = positive x (c .before .loop-test .taken) in
+    let l = and-le-r x (x - 1) in
+    omega arith
 
 loop-again : tie.Need-loop-again Inv-loop μ-loop
-loop-again c = let a = c .before .before .before .before .before .args in
-    linking-more (c .before .before .before .before .loop .inv) (c .before .before .before .loop-test .taken)
-    (c .chosen .ensures ∙ ap (λ (x : Bool). cond x (a .firsts) 0) (c .before .member .ensures))
+loop-again c = linking-more (c .before .before .loop .inv) (c .before .loop-test .taken)
 
 returns : tie.Need-returns Inv-loop μ-loop
 returns c = linking-all (c .before .loop .inv) (c .loop-test .left)
@@ -55,13 +64,12 @@ link-spec =
     Inv-loop
     μ-loop
     loop-holds
+    cast-p
     mul-follow
     element-copy-out-follow
-    member-requires
-    chosen-requires
     mul-follow-2
     element-write-follow
-    add-p
+    sub-rest
     loop-less
     loop-again
     returns)
