@@ -1,25 +1,25 @@
 -- The loops over sets and rows, one turn at a time.
-use mathlib.Core.Path.{_≡_, refl, sym, ap, ap₂, _∙_}
+use mathlib.Core.Path.{_≡_, refl, sym, ap, ap₂, _∙_, subst}
 use mathlib.Core.Bool.{Bool, true, false, cond, not, _&&_, _||_, or-false, and-false, and-true}
 use mathlib.Core.Logic.{_⊎_, inl, inr}
 use mathlib.Core.List.{List}
 use Prim.Native.Nat.{ℕ, _+_, _-_, _*_, _%_, _^_, _≤_, _<_}
 use native.Mathlib.Omega.{arith}
-use native.Mathlib.Nat.{one-mul, eq-or-lt-of-le, le-of-suc-le-suc, lt-of-lt-of-le, lt-of-le-of-lt}
+use native.Mathlib.Nat.{one-mul, eq-or-lt-of-le, le-of-suc-le-suc, lt-of-le-of-lt}
 use native.Mathlib.Numerals.{add-one}
 use lib.ListN.{length, getD, set, length-set}
 use lib.Seq.{getD-set-same, getD-set-other}
-use lib.Dec.{eqb}
+use lib.Dec.{T, eqb, ltb, ltb→lt}
 use lib.Bits.{bitAnd, bitOr, and-le-l, or-zero-r}
 use lib.Count.{trailingZeros}
 use lib.Pow.{shl-exact}
-use borrow.Author.Tests.{eqb-true, eqb-false, eq-eqb, ne-eqb}
+use borrow.Author.Tests.{eqb-true, eqb-false, lt-ltb, eq-eqb, ne-eqb}
 use Rattle.bits.specs.Bits.{has, anyBelow}
-use Rattle.bits.proofs.Tests.{T-true}
+use Rattle.bits.proofs.Tests.{T-true, and-out, any-cong}
 use Rattle.bits.proofs.Sets.{has-none}
-use Rattle.bits.proofs.Masks.{has-or, has-cond, has-one}
+use Rattle.bits.proofs.Masks.{has-and, has-or, has-cond, has-one}
 use Rattle.places.specs.Machine.{Linked, Holding}
-use Rattle.places.proofs.Lowest.{Lowest, positive, lowest, lowest-lt, any-none, any-split}
+use Rattle.places.proofs.Lowest.{Lowest, positive, lowest, lowest-lt, of-rest, any-none, any-split}
 
 pub one-shifted : (k : ℕ) → k < 64 → 1 * 2 ^ k % 2 ^ 64 ≡ 2 ^ k
 one-shifted k h = shl-exact 1 k 64 (omega arith) (omega arith) ∙ one-mul (2 ^ k)
@@ -99,32 +99,47 @@ inRows F n x q = anyBelow n (λ p. has x p && has (getD F p 0) q)
 
 pub record Gathering (F : List ℕ) (n x found rest : ℕ) : Type 0 where
   pub small : rest < 2 ^ 64
+  pub few : (p : ℕ) → T (has rest p) → p < n
   pub whole : (q : ℕ) → anyBelow n (λ p. has x p && has (getD F p 0) q) ≡ (has found q || anyBelow n (λ p. has rest p && has (getD F p 0) q))
 
-pub gathering-none : (F : List ℕ) (n x : ℕ) → x < 2 ^ 64 → Gathering F n x 0 x
-gathering-none F n x h = record { small = h; whole = λ q. sym (ap (λ (b : Bool). b || inRows F n x q) (has-none q)) }
+-- all is left: the places of x below n, where m are the numbers below n
+pub gathering-none : (F : List ℕ) (n x m : ℕ) → x < 2 ^ 64 → ((k : ℕ) → has m k ≡ ltb k n) → Gathering F n x 0 (bitAnd x m)
+gathering-none F n x m h e =
+    record {
+      small = lt-of-le-of-lt (and-le-l x m) h;
+      few = λ p t. ltb→lt p n (subst T (e p) (and-out (has x p) (has m p) (subst T (has-and x m p) t) .1));
+      whole = λ q.
+          sym
+          (ap (λ (b : Bool). b || inRows F n (bitAnd x m) q) (has-none q)
+          ∙ any-cong n _ _ (λ p l. ap (λ (b : Bool). b && has (getD F p 0) q) (same p l)));
+    }
+  where
+    same : (p : ℕ) → p < n → has (bitAnd x m) p ≡ has x p
+    same p l = has-and x m p ∙ ap (λ (b : Bool). has x p && b) (e p ∙ lt-ltb p n l) ∙ and-true (has x p)
 
 module _ {F : List ℕ} {n x found rest : ℕ} (g : Gathering F n x found rest) where
   -- the row of the lowest place of the rest
-  pub gathering-more : (rest ≡ 0 → ⊥) → trailingZeros 64 rest < n
-      → Gathering F n x (bitOr found (getD F (trailingZeros 64 rest) 0)) (bitAnd rest (rest - 1))
-  gathering-more z h = record {
-    small = lt-of-le-of-lt (and-le-l rest (rest - 1)) (g .small);
-    whole = λ q.
-        let row = getD F (trailingZeros 64 rest) 0 in
-        g .whole q
-        ∙ ap (λ (b : Bool). has found q || b) (any-split (lowest 64 rest (positive rest z) (g .small)) n (λ p. has (getD F p 0) q) h)
-        ∙ or-next (has found q) (has row q) (inRows F n (bitAnd rest (rest - 1)) q)
-        ∙ sym (ap (λ (b : Bool). b || inRows F n (bitAnd rest (rest - 1)) q) (has-or found row q));
-  }
+  pub gathering-more : (rest ≡ 0 → ⊥) → Gathering F n x (bitOr found (getD F (trailingZeros 64 rest) 0)) (bitAnd rest (rest - 1))
+  gathering-more z =
+      let low = lowest 64 rest (positive rest z) (g .small) in
+      let row = getD F (trailingZeros 64 rest) 0 in
+      record {
+        small = lt-of-le-of-lt (and-le-l rest (rest - 1)) (g .small);
+        few = λ p t. g .few p (of-rest low p t);
+        whole = λ q.
+            g .whole q
+            ∙ ap (λ (b : Bool). has found q || b) (any-split low n (λ p. has (getD F p 0) q) (g .few (trailingZeros 64 rest) (low .here)))
+            ∙ or-next (has found q) (has row q) (inRows F n (bitAnd rest (rest - 1)) q)
+            ∙ sym (ap (λ (b : Bool). b || inRows F n (bitAnd rest (rest - 1)) q) (has-or found row q));
+      }
 
-  -- no place below n is left
-  pub gathering-all : ((p : ℕ) → p < n → has rest p ≡ false) → (q : ℕ) → has found q ≡ anyBelow n (λ p. has x p && has (getD F p 0) q)
-  gathering-all h q =
-      sym (g .whole q ∙ ap (λ (b : Bool). has found q || b) (any-none n rest (λ p. has (getD F p 0) q) h) ∙ or-false (has found q))
-
-  pub gathering-end : (rest ≡ 0 → ⊥) → n ≤ trailingZeros 64 rest → (q : ℕ) → has found q ≡ anyBelow n (λ p. has x p && has (getD F p 0) q)
-  gathering-end z h = gathering-all (λ p k. lowest 64 rest (positive rest z) (g .small) .below p (lt-of-lt-of-le k h))
+  -- no place is left
+  pub gathering-all : rest ≡ 0 → (q : ℕ) → has found q ≡ anyBelow n (λ p. has x p && has (getD F p 0) q)
+  gathering-all z q =
+      sym
+      (g .whole q
+      ∙ ap (λ (b : Bool). has found q || b) (any-none n rest (λ p. has (getD F p 0) q) (λ p _. ap (λ (y : ℕ). has y p) z ∙ has-none p))
+      ∙ or-false (has found q))
 
 -- Holders: the leaves below q whose set has the event e ------------------------------------------------------------------
 

@@ -5,7 +5,7 @@ use mathlib.Core.Logic.{_⊎_, inl, inr, ⊎-elim}
 use Prim.Native.Nat.{ℕ, zero, suc, _-_, _/_, _%_, _^_, _<_}
 use native.Mathlib.Nat.{le-refl, le-of-suc-le-suc, zero-lt-suc, pow-suc}
 use native.Mathlib.Omega.{arith}
-use lib.Dec.{T, eqb, eqb·zero-suc, eqb·suc-zero, eqb·suc-suc}
+use lib.Dec.{T, eqb, eqb·suc-zero, eqb·suc-suc}
 use lib.Bits.{bitAnd, and-step}
 use lib.Count.{trailingZeros}
 use borrow.Author.Tests.{eqb-true}
@@ -117,7 +117,7 @@ module _ {x p : ℕ} (l : Lowest x p) where
       go true e = inl (eqb-true i p e)
       go false e = inr (subst T (sym (l .without i ∙ ap (λ (b : Bool). has x i && not b) e ∙ and-true (has x i))) t)
 
-  of-rest : (i : ℕ) → T (has (bitAnd x (x - 1)) i) → T (has x i)
+  pub of-rest : (i : ℕ) → T (has (bitAnd x (x - 1)) i) → T (has x i)
   of-rest i t = and-out (has x i) (not (eqb i p)) (subst T (l .without i) t) .0
 
   module _ (n : ℕ) (g : ℕ → Bool) (h : p < n) where

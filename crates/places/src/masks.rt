@@ -2,6 +2,7 @@
 ghost use mathlib.Core.Path.{_≡_};
 ghost use mathlib.Core.Bool.{cond, _&&_, _||_};
 ghost use Prim.Native.Nat.{ℕ, _^_, _<_, _≤_};
+ghost use lib.Dec.{ltb};
 ghost use lib.ListN.{length, getD};
 ghost use Rattle.bits.specs.Bits.{has, anyBelow};
 ghost use Rattle.places.specs.Machine.{Linked, Holding};
@@ -20,6 +21,18 @@ pub fn bit(k: usize) -> u64
     ensures { λ r. ⌜ r ≡ 2 ^ k ⌝ }
 {
     1 << k
+}
+
+// The numbers below n.
+pub fn below(n: usize) -> u64
+    requires { ⌜ n ≤ 64 ⌝ }
+    ensures { λ r. ⌜ ((k : ℕ) → has r k ≡ ltb k n) ⌝ }
+{
+    if n < 64 {
+        (1 << n) - 1
+    } else {
+        18446744073709551615
+    }
 }
 
 // The set where the test passes, and no number where it fails.
@@ -63,13 +76,10 @@ pub fn gather(follow: &[u64; 64], n: usize, set: u64) -> u64
     ensures { λ r. ⌜ ((q : ℕ) → has r q ≡ anyBelow n (λ p. has set p && has (getD (now (follow .entry)) p 0) q)) ⌝ }
 {
     let mut found: u64 = 0;
-    let mut rest: u64 = set;
+    let mut rest: u64 = set & below(n);
     // the lowest place of the rest, and then the rest without it
     while rest != 0 {
         let p = u64::trailing_zeros(rest) as usize;
-        if p >= n {
-            return found;
-        }
         found = found | follow[p];
         rest = rest & (rest - 1);
     }
