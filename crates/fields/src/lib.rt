@@ -1,5 +1,6 @@
 // Fields of a sheet, low byte first. A byte past the end reads as 0, so each of these is total.
 ghost use mathlib.Core.Path.{_≡_};
+ghost use Prim.Native.Nat.{_+_, _*_};
 ghost use Rattle.sheet.specs.Record.{byteAt, shortAt, setAt};
 
 // The byte at an offset.
@@ -22,27 +23,47 @@ pub fn wide(b: u8) -> u64
     b as u64
 }
 
+// Two bytes as a field, and four as a set, the low byte first.
+fn short_of(low: u8, high: u8) -> usize
+    ensures { λ r. ⌜ r ≡ low + 256 * high ⌝ }
+{
+    index(low) + 256 * index(high)
+}
+
+fn set_of(a: u8, b: u8, c: u8, d: u8) -> u64
+    ensures { λ r. ⌜ r ≡ a + 256 * b + 65536 * (c + 256 * d) ⌝ }
+{
+    wide(a) + 256 * wide(b) + 65536 * (wide(c) + 256 * wide(d))
+}
+
 // The two-byte field at an offset.
 pub fn short_at(s: &[u8], i: usize) -> usize
     ensures { λ r. ⌜ r ≡ shortAt (now (s .entry)) i ⌝ }
 {
     if i < s.len() {
-        index(byte_at(s, i)) + 256 * index(byte_at(s, i + 1))
+        if 2 <= s.len() - i {
+            return short_of(s[i], s[i + 1]);
+        }
+        short_of(s[i], 0)
     } else {
         0
     }
 }
 
-// The four-byte set at an offset.
+// The four-byte set at an offset. Where four bytes are there, one test serves them all.
 pub fn set_at(s: &[u8], i: usize) -> u64
     ensures { λ r. ⌜ r ≡ setAt (now (s .entry)) i ⌝ }
 {
     if i < s.len() {
-        let a = wide(byte_at(s, i));
-        let b = wide(byte_at(s, i + 1));
-        let c = wide(byte_at(s, i + 2));
-        let d = wide(byte_at(s, i + 3));
-        a + 256 * b + 65536 * (c + 256 * d)
+        if 4 <= s.len() - i {
+            return set_of(s[i], s[i + 1], s[i + 2], s[i + 3]);
+        }
+        set_of(
+            s[i],
+            byte_at(s, i + 1),
+            byte_at(s, i + 2),
+            byte_at(s, i + 3),
+        )
     } else {
         0
     }

@@ -1,109 +1,94 @@
-use mathlib.Core.Path.{sym}
+-- `set_at` meets its contract: the four bytes are read at once where they are there, each by itself near the end.
+use mathlib.Core.Path.{sym, _∙_}
+use Rattle.sheet.specs.Record.{byteAt}
 use Rattle.fields.proofs.Laws.{set-past, set-is}
 use borrow.Author.Needs.{needs}
 use Rattle.fields.proofs.set_at.Statement.{statement}
 use Rattle.fields.proofs.set_at.Tie as tie
-use Rattle.fields.proofs.set_at.Reads as reads
-use Rattle.fields.proofs.set_at.Lts as lts
-use Rattle.fields.proofs.byte_at.Reads as byte-at-reads
-use Rattle.fields.proofs.wide.Reads as wide-reads
 
--- src/lib.rt:41:22
-byte-at-requires : tie.Need-byte-at-requires
-byte-at-requires c κs = search needs
+sub-if2 : tie.Need-sub-if2
+sub-if2 c = search needs
 
--- src/lib.rt:41:13
-wide-requires : tie.Need-wide-requires
-wide-requires c κs = search needs
+shared-slice-read-set-of : tie.Need-shared-slice-read-set-of
+shared-slice-read-set-of c = search needs
 
--- src/lib.rt:42:33
+add-set-of : tie.Need-add-set-of
+add-set-of c = search needs
+
+shared-slice-read-set-of-2 : tie.Need-shared-slice-read-set-of-2
+shared-slice-read-set-of-2 c = search needs
+
+add-set-of-2 : tie.Need-add-set-of-2
+add-set-of-2 c = search needs
+
+shared-slice-read-set-of-3 : tie.Need-shared-slice-read-set-of-3
+shared-slice-read-set-of-3 c = search needs
+
+add-set-of-3 : tie.Need-add-set-of-3
+add-set-of-3 c = search needs
+
+shared-slice-read-set-of-4 : tie.Need-shared-slice-read-set-of-4
+shared-slice-read-set-of-4 c = search needs
+
+set-of-requires : tie.Need-set-of-requires
+set-of-requires c κs = search needs
+
+returns : tie.Need-returns
+unfolding byteAt
+returns c = let a = c .before .before .before .before .before .before .before .before .args in c .set-of .ensures ∙ sym (set-is (a .s .now) (a .i))
+
+shared-slice-read-set-of-5 : tie.Need-shared-slice-read-set-of-5
+shared-slice-read-set-of-5 c = search needs
+
 add-byte-at : tie.Need-add-byte-at
 add-byte-at c = search needs
 
--- src/lib.rt:42:22
-byte-at-requires-2 : tie.Need-byte-at-requires-2
-byte-at-requires-2 c κs = search needs
+byte-at-requires : tie.Need-byte-at-requires
+byte-at-requires c κs = search needs
 
--- src/lib.rt:42:13
-wide-requires-2 : tie.Need-wide-requires-2
-wide-requires-2 c κs = search needs
-
--- src/lib.rt:43:33
 add-byte-at-2 : tie.Need-add-byte-at-2
 add-byte-at-2 c = search needs
 
--- src/lib.rt:43:22
-byte-at-requires-3 : tie.Need-byte-at-requires-3
-byte-at-requires-3 c κs = search needs
+byte-at-requires-2 : tie.Need-byte-at-requires-2
+byte-at-requires-2 c κs = search needs
 
--- src/lib.rt:43:13
-wide-requires-3 : tie.Need-wide-requires-3
-wide-requires-3 c κs = search needs
-
--- src/lib.rt:44:33
 add-byte-at-3 : tie.Need-add-byte-at-3
 add-byte-at-3 c = search needs
 
--- src/lib.rt:44:22
-byte-at-requires-4 : tie.Need-byte-at-requires-4
-byte-at-requires-4 c κs = search needs
+byte-at-requires-3 : tie.Need-byte-at-requires-3
+byte-at-requires-3 c κs = search needs
 
--- src/lib.rt:44:13
-wide-requires-4 : tie.Need-wide-requires-4
-wide-requires-4 c κs = search needs
+set-of-requires-2 : tie.Need-set-of-requires-2
+set-of-requires-2 c κs = search needs
 
--- src/lib.rt:45:13
-mul-result : tie.Need-mul-result
-mul-result c = search needs
-
--- src/lib.rt:45:9
-add-result : tie.Need-add-result
-add-result c = search needs
-
--- src/lib.rt:45:36
-mul-result-2 : tie.Need-mul-result-2
-mul-result-2 c = search needs
-
--- src/lib.rt:45:32
-add-result-2 : tie.Need-add-result-2
-add-result-2 c = search needs
-
--- src/lib.rt:45:23
-mul-result-3 : tie.Need-mul-result-3
-mul-result-3 c = search needs
-
--- src/lib.rt:45:9
-add-result-3 : tie.Need-add-result-3
-add-result-3 c = search needs
-
--- src/lib.rt:37:1
-returns : tie.Need-returns
-returns c = let a = c .before .before .before .before .before .before .before .before .before .before .args in search (needs, set-is (a .s .now) (a .i))
-
--- src/lib.rt:37:1
 returns-2 : tie.Need-returns-2
-returns-2 c = sym (set-past (c .before .before .args .s .now) _ (c .if1 .left))
+unfolding byteAt
+returns-2 c = let a = c .before .before .before .before .before .before .before .before .args in search (needs, set-is (a .s .now) (a .i))
+
+returns-3 : tie.Need-returns-3
+returns-3 c = sym (set-past (c .before .before .args .s .now) _ (c .if1 .left))
 
 pub set-at-spec : {M : Type 1} → statement M
 set-at-spec =
     tie.close
     (tie.spec
-    byte-at-requires
-    wide-requires
-    add-byte-at
-    byte-at-requires-2
-    wide-requires-2
-    add-byte-at-2
-    byte-at-requires-3
-    wide-requires-3
-    add-byte-at-3
-    byte-at-requires-4
-    wide-requires-4
-    mul-result
-    add-result
-    mul-result-2
-    add-result-2
-    mul-result-3
-    add-result-3
+    sub-if2
+    shared-slice-read-set-of
+    add-set-of
+    shared-slice-read-set-of-2
+    add-set-of-2
+    shared-slice-read-set-of-3
+    add-set-of-3
+    shared-slice-read-set-of-4
+    set-of-requires
     returns
-    returns-2)
+    shared-slice-read-set-of-5
+    add-byte-at
+    byte-at-requires
+    add-byte-at-2
+    byte-at-requires-2
+    add-byte-at-3
+    byte-at-requires-3
+    set-of-requires-2
+    returns-2
+    returns-3)
