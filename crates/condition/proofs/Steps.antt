@@ -1,10 +1,10 @@
 -- Stepping and ending with sets as machine words, and stepping a word event by event.
 use mathlib.Core.Path.{_≡_, refl, sym, ap, _∙_}
-use mathlib.Core.Bool.{Bool, not, _&&_}
+use mathlib.Core.Bool.{Bool, false, not, _&&_}
 use mathlib.Core.List.{[], _∷_, _++_}
 use Prim.Native.Nat.{ℕ, zero, suc, _≤_, _<_, zero-le, suc-le-suc}
 use lib.Dec.{T, eqb}
-use lib.ListN.{length, getD, take}
+use lib.ListN.{length, getD, take, drop, take-append-drop}
 use lib.Seq.{take-suc}
 use lib.Bits.{bitAnd}
 use Rattle.bits.specs.Bits.{has, anyBelow}
@@ -13,6 +13,7 @@ use Rattle.bits.proofs.Masks.{has-and, bits-ext, set-has, nonzero-in, nonzero-o
 use Rattle.condition.specs.Condition.{Condition, Word}
 use Rattle.condition.specs.Places.{leaves, places, leafHolds, follows, ends, step, stepAll, someEnds}
 use Rattle.condition.proofs.Beside.{follows-leaf, last-leaf}
+use Rattle.condition.proofs.Words.{none-ends}
 
 module _ (r : Condition) where
   -- some place of the set s is followed by leaf q
@@ -78,3 +79,10 @@ module _ (r : Condition) where
       → stepAll r s (take (suc i) w) ≡ step r (stepAll r s (take i w)) (getD w i 0)
   unfolding stepAll
   stepAll-take s w i h = rw (take-suc w i 0 h) (stepAll-append (take i w) (getD w i 0 ∷ []) s)
+
+  -- a word is not accepted where no place is left after its first i events
+  pub none-left : (s : ℕ) (w : Word) (i : ℕ) → stepAll r s (take i w) ≡ 0 → someEnds r (stepAll r s w) ≡ false
+  none-left s w i e =
+      ap (λ (v : Word). someEnds r (stepAll r s v)) (sym (take-append-drop i w))
+      ∙ ap (λ (x : ℕ). someEnds r x) (stepAll-append (take i w) (drop i w) s ∙ ap (λ (x : ℕ). stepAll r x (drop i w)) e)
+      ∙ none-ends r (drop i w)

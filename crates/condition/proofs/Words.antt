@@ -1,6 +1,6 @@
 -- The word test is right: it accepts exactly the words that the condition holds.
 use mathlib.Core.Path.{_≡_, refl}
-use mathlib.Core.Bool.{Bool, _&&_}
+use mathlib.Core.Bool.{Bool, false, _&&_}
 use mathlib.Core.Logic.{inl, inr, ⊎-elim, _↔_}
 use mathlib.Core.List.{[], _∷_}
 use Prim.Native.Nat.{ℕ, _^_, _<_, zero-le, suc-le-suc}
@@ -9,8 +9,8 @@ use native.Mathlib.Omega.{arith}
 use lib.Dec.{T}
 use lib.Pow.{pow-pos}
 use Rattle.bits.specs.Bits.{has, anyBelow}
-use Rattle.bits.proofs.Tests.{and-out, and-in, any-out, any-in}
-use Rattle.bits.proofs.Sets.{start-has, has-start, set-in, set-lt, has-lt}
+use Rattle.bits.proofs.Tests.{and-out, and-in, T-ext, any-out, any-in}
+use Rattle.bits.proofs.Sets.{has-none, start-has, has-start, set-in, set-lt, has-lt}
 use Rattle.condition.specs.Condition.{Condition, leaf, empty, join, either, star, Word, Holds}
 use Rattle.condition.specs.Places.{leaves, places, leafSet, leafHolds, nullable, first, last, follows, ends, step, stepAll, someEnds, accepts}
 use Rattle.condition.proofs.Beside.{follows-leaf}
@@ -105,6 +105,13 @@ module _ (r : Condition) where
       let (p, y, k) = h in
       let (q, n, t, z) = k in
       stepAll-in w (step r s e) (step-lt s e) (q, step-in s e p q (has-lt (places r) s p l y) y n t, z)
+
+-- no word is accepted from no place
+pub none-ends : (r : Condition) (w : Word) → someEnds r (stepAll r 0 w) ≡ false
+none-ends r w =
+    T-ext (someEnds r (stepAll r 0 w)) false
+    (λ h. let (p, x, _) = stepAll-out r w 0 h in absurd (rw (has-none p) at x))
+    (λ h. absurd h)
 
 -- The word test ---------------------------------------------------------------------------------------------------------
 

@@ -18,7 +18,7 @@ use Rattle.condition.specs.Condition.{Condition, leaf}
 use Rattle.condition.specs.Places.{leaves, places, leafSet, leafHolds, nullable, first, last, follow, follows, ends, step, stepAll, someEnds, accepts}
 use Rattle.condition.proofs.Beside.{first-leaf, last-leaf, follow-leaf}
 use Rattle.condition.proofs.Words.{accepts-is}
-use Rattle.condition.proofs.Steps.{step-mask, ends-mask, stepAll-take}
+use Rattle.condition.proofs.Steps.{step-mask, ends-mask, stepAll-take, none-left}
 use Rattle.places.specs.declared.Side.{Side}
 use Rattle.places.specs.declared.Part.{Part}
 use Rattle.places.specs.declared.Part.the-variants.{Condition as ConditionAt, Event}
@@ -151,3 +151,7 @@ word-all {r} {side} t w i s l e =
     ends-mask r s (side .ends) (t .ends-is)
     ∙ ap (λ (x : ℕ). someEnds r x) (e ∙ ap (λ (x : List ℕ). stepAll r 1 x) (take-all i w l))
     ∙ sym (accepts-is r w)
+
+-- no place is left
+pub word-left : (r : Condition) (w : List ℕ) (i s : ℕ) → s ≡ 0 → s ≡ stepAll r 1 (take i w) → false ≡ accepts r w
+word-left r w i s z e = sym (accepts-is r w ∙ none-left r 1 w i (sym e ∙ z))

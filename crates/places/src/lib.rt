@@ -97,6 +97,10 @@ pub fn holds_word(s: &[u8], at: usize, events: usize, word: &[u8]) -> bool
     let mut places: u64 = 1;
     let mut i: usize = 0;
     while i < word.len() {
+        // from no place no word is accepted
+        if places == 0 {
+            return false;
+        }
         let e = index(word[i]);
         places = gather(&follow, leaves + 1, places) & holding[e];
         i += 1;

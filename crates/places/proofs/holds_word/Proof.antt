@@ -7,7 +7,7 @@ use lib.Bits.{bitAnd}
 use Rattle.condition.specs.Condition.{Condition}
 use Rattle.condition.specs.Places.{stepAll}
 use Rattle.places.specs.Tables.{StandsAt}
-use Rattle.places.proofs.Sides.{word-none, word-more, word-all}
+use Rattle.places.proofs.Sides.{word-none, word-more, word-left, word-all}
 use borrow.Author.Needs.{needs}
 use Rattle.places.proofs.holds_word.Statement.{statement}
 use Rattle.places.proofs.holds_word.Tie as tie
@@ -27,6 +27,10 @@ fill-holding-requires c κs = search needs
 loop-holds : tie.Need-loop-holds Inv-loop μ-loop
 loop-holds c = λ r h. word-none r (c .before .before .before .before .before .before .before .before .args .word .now)
 
+returns : tie.Need-returns Inv-loop μ-loop
+returns c = let g = c .before .before .loop in
+    λ r h. word-left r (c .before .before .before .before .before .before .before .before .before .before .before .args .word .now) (g .i) (g .places) (c .if1 .taken) (g .inv r h)
+
 shared-slice-read-index : tie.Need-shared-slice-read-index Inv-loop μ-loop
 shared-slice-read-index c = search needs
 
@@ -40,14 +44,14 @@ gather-requires : tie.Need-gather-requires Inv-loop μ-loop
 gather-requires c κs = search needs
 
 mul-places : tie.Need-mul-places Inv-loop μ-loop
-mul-places c = let g = c .before .before .before .before .before .loop in
-    let h = c .before .before .before .before .before .before .before .before .before .before .before .before .before .before .pre .1 (g .i) (c .before .before .before .before .loop-test .taken) in
+mul-places c = let turn = c .before .before .before .before .before in
+    let h = turn .before .before .before .before .before .before .before .before .before .before .pre .1 (turn .before .loop .i) (turn .loop-test .taken) in
     let e = c .before .before .index .ensures in
     search needs
 
 array-read-places : tie.Need-array-read-places Inv-loop μ-loop
-array-read-places c = let g = c .before .before .before .before .before .loop in
-    let h = c .before .before .before .before .before .before .before .before .before .before .before .before .before .before .pre .1 (g .i) (c .before .before .before .before .loop-test .taken) in
+array-read-places c = let turn = c .before .before .before .before .before in
+    let h = turn .before .before .before .before .before .before .before .before .before .before .pre .1 (turn .before .loop .i) (turn .loop-test .taken) in
     let e = c .before .before .index .ensures in
     search needs
 
@@ -58,17 +62,18 @@ loop-less : tie.Need-loop-less Inv-loop μ-loop
 loop-less c = search needs
 
 loop-again : tie.Need-loop-again Inv-loop μ-loop
-loop-again c = let g = c .before .before .before .before .before .loop in
-    let held = c .before .before .before .before .before .before .fill-holding in
-    let inside = c .before .before .before .before .loop-test .taken in
-    let start = c .before .before .before .before .before .before .before .before .before .before .before .before .before .before in
+loop-again c = let turn = c .before .before .before .before .before in
+    let g = turn .before .loop in
+    let held = turn .before .before .fill-holding in
+    let inside = turn .loop-test .taken in
+    let start = turn .before .before .before .before .before .before .before .before .before .before in
     λ r h.
     ap (λ (x : ℕ). bitAnd (c .gather .result) (getD (held .last .1 .1 .1 .0) x 0)) (c .before .before .index .ensures)
-    ∙ word-more (c .before .before .before .before .before .before .before .before .before .side-of .ensures .1 .1 r h) (held .ensures) (start .args .word .now) (g .i) (g .places) (c .gather .result) inside
+    ∙ word-more (turn .before .before .before .before .before .side-of .ensures .1 .1 r h) (held .ensures) (start .args .word .now) (g .i) (g .places) (c .gather .result) inside
     (start .pre .1 (g .i) inside) (g .inv r h) (c .gather .ensures)
 
-returns : tie.Need-returns Inv-loop μ-loop
-returns c = let g = c .before .loop in
+returns-2 : tie.Need-returns-2 Inv-loop μ-loop
+returns-2 c = let g = c .before .loop in
     λ r h. word-all (c .before .before .before .before .before .side-of .ensures .1 .1 r h) (c .before .before .before .before .before .before .before .before .before .before .args .word .now) (g .i) (g .places) (c .loop-test .left) (g .inv r h)
 
 pub holds-word-spec : {M : Type 1} → statement M
@@ -80,6 +85,7 @@ holds-word-spec =
     side-of-requires
     fill-holding-requires
     loop-holds
+    returns
     shared-slice-read-index
     index-requires
     add-gather
@@ -89,4 +95,4 @@ holds-word-spec =
     add-i
     loop-less
     loop-again
-    returns)
+    returns-2)
