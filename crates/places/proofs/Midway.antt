@@ -12,7 +12,7 @@ use Rattle.sheet.specs.Record.{Symbol, leaf-symbol, empty-symbol, join-symbol, 
 use Rattle.sheet.specs.Decode.{symbolIn, symbolsOn, symbolsAt, postfix}
 use Rattle.places.specs.Tables.{StandsAt}
 use Rattle.places.specs.Machine.{Stacked, Roomy, Rows, Pushed, Starred, Merged}
-use Rattle.places.proofs.Reading.{leaf-here, empty-here, join-here, either-here, star-here, Other, no-symbol, next-is, next-above, byte-inside, Reduces, reduces-postfix, total, reduces-leaves, TakesOne, TakesTwo, leaf-taken, empty-taken, join-taken, either-taken, star-taken, done-taken}
+use Rattle.places.proofs.Reading.{leaf-here, empty-here, join-here, either-here, star-here, takes, no-symbol, next-is, next-above, byte-inside, Reduces, reduces-postfix, total, reduces-leaves, TakesOne, TakesTwo, leaf-taken, empty-taken, join-taken, either-taken, star-taken, done-taken}
 
 -- Midway through the records of r ---------------------------------------------------------------------------------------
 
@@ -160,7 +160,7 @@ module _ {s : List ℕ} {from : ℕ} {Entry : List Condition → Type 0} {N : Li
   module _ {N′ : List Bool} {A′ L′ : List ℕ} where
     pub going-leaf : {F′ S′ : List ℕ} {x : ℕ} → byteAt s at ≡ 1 → m < base + 31 → x ≡ setAt s (at + 1)
         → Pushed (λ c. c ≡ leaf x) N A L F S N′ A′ L′ F′ S′ d m (m + 1)
-        → Going s from Entry N′ A′ L′ F′ S′ floor base (d + 1) (m + 1) (at + 5) (n + 1)
+        → Going s from Entry N′ A′ L′ F′ S′ floor base (d + 1) (m + 1) (at + 1 + 4) (n + 1)
     unfolding leaves
     going-leaf {F′} {S′} {x} k l e t = record {
       deep = omega (arith, g .deep);
@@ -240,9 +240,6 @@ module _ {s : List ℕ} {from : ℕ} {N₀ : List Bool} {A₀ L₀ F₀ S₀ : L
   out : ((r : Condition) → StandsAt s from r → (rs : List Condition) → Stacked N₀ A₀ L₀ F₀ S₀ floor base rs → Stacked N A L F S (floor + 1) m (r ∷ rs)) → Done
   out h = record { few = g .few; room = g .room; rows = g .rows; pushed = h }
 
-  pub out-end : Other s at (byteAt s at) → Done
-  out-end o = out (λ r h. let v = g .midway r h in ended v (sym (v .reads) ∙ no-symbol s at o (v .fuel)))
-
   pub out-full : 96 ≤ n → Done
   out-full l = out (λ r h. let v = g .midway r h in ended v (none-left (v .ys) (omega (arith, v .steps))))
     where
@@ -258,26 +255,33 @@ module _ {s : List ℕ} {from : ℕ} {N₀ : List Bool} {A₀ L₀ F₀ S₀ : L
       let f = leaf-few v (past v (leaf-symbol (setAt s (at + 1))) (leaf-here s at k) (byte-inside s at 0 k)) in
       absurd (omega (arith, h .few-leaves)))
 
-  pub out-join : byteAt s at ≡ 3 → d < floor + 2 → Done
-  out-join k l =
-      out
-      (λ r h.
-      let v = g .midway r h in
-      let f = two-there v (join-taken (past v join-symbol (join-here s at k) (byte-inside s at 2 k) .reduces)) in
-      absurd (omega arith))
+  -- fewer items than the symbol takes
+  pub out-few : d < floor + takes (byteAt s at) → Done
+  out-few = go (byteAt s at) refl
+    where
+      ends : takes (byteAt s at) ≡ 97 → Done
+      ends e = out (λ r h. let v = g .midway r h in ended v (sym (v .reads) ∙ no-symbol s at e (v .fuel)))
 
-  pub out-either : byteAt s at ≡ 4 → d < floor + 2 → Done
-  out-either k l =
-      out
-      (λ r h.
-      let v = g .midway r h in
-      let f = two-there v (either-taken (past v either-symbol (either-here s at k) (byte-inside s at 3 k) .reduces)) in
-      absurd (omega arith))
-
-  pub out-star : byteAt s at ≡ 5 → d < floor + 1 → Done
-  out-star k l =
-      out
-      (λ r h.
-      let v = g .midway r h in
-      let f = one-there v (star-taken (past v star-symbol (star-here s at k) (byte-inside s at 4 k) .reduces)) in
-      absurd (omega arith))
+      go : (k : ℕ) → byteAt s at ≡ k → d < floor + takes k → Done
+      go zero k l = ends (ap takes k)
+      go (suc zero) k l = out (λ r h. absurd (omega (arith, g .midway r h .height)))
+      go (suc (suc zero)) k l = out (λ r h. absurd (omega (arith, g .midway r h .height)))
+      go (suc (suc (suc zero))) k l =
+          out
+          (λ r h.
+          let v = g .midway r h in
+          let f = two-there v (join-taken (past v join-symbol (join-here s at k) (byte-inside s at 2 k) .reduces)) in
+          absurd (omega arith))
+      go (suc (suc (suc (suc zero)))) k l =
+          out
+          (λ r h.
+          let v = g .midway r h in
+          let f = two-there v (either-taken (past v either-symbol (either-here s at k) (byte-inside s at 3 k) .reduces)) in
+          absurd (omega arith))
+      go (suc (suc (suc (suc (suc zero))))) k l =
+          out
+          (λ r h.
+          let v = g .midway r h in
+          let f = one-there v (star-taken (past v star-symbol (star-here s at k) (byte-inside s at 4 k) .reduces)) in
+          absurd (omega arith))
+      go (suc (suc (suc (suc (suc (suc i)))))) k l = ends (ap takes k)

@@ -6,14 +6,45 @@ use mathlib.Core.List.{List, [], _∷_, _++_, append-assoc, append-nil}
 use Prim.Native.Nat.{ℕ, zero, suc, _+_, _-_, _≤_, _<_}
 use native.Mathlib.Omega.{arith}
 use lib.ListN.{length, getD, List·getD-eq-default}
-use lib.Dec.{leb}
-use borrow.Author.Tests.{leb-true, leb-false}
+use lib.Dec.{leb, eqb}
+use borrow.Author.Tests.{leb-true, leb-false, eqb-true, eqb-false}
 use Rattle.condition.specs.Condition.{Condition, leaf, empty, join, either, star}
 use Rattle.condition.specs.Places.{leaves}
 use Rattle.sheet.specs.Each.{nil, cons}
 use Rattle.sheet.proofs.Each.{each-getD}
 use Rattle.sheet.specs.Record.{Symbol, leaf-symbol, empty-symbol, join-symbol, either-symbol, star-symbol, byteAt, setAt, bodyLength, nextAt, recordAt, recordsByKind}
 use Rattle.sheet.specs.Decode.{symbolIn, symbolsOn, postfix}
+
+-- The kinds of symbols -------------------------------------------------------------------------------------------------
+
+-- how many items a symbol of kind k takes: 97, more than a condition has, where no symbol is of kind k
+abbrev pub takes : ℕ → ℕ
+takes k = getD (97 ∷ 0 ∷ 0 ∷ 2 ∷ 2 ∷ 1 ∷ []) k 97
+
+pub takes-other : (k : ℕ) → (k ≡ 1 → ⊥) → (k ≡ 2 → ⊥) → (k ≡ 3 → ⊥) → (k ≡ 4 → ⊥) → (k ≡ 5 → ⊥) → 97 ≡ takes k
+takes-other zero a b c d e = refl
+takes-other (suc zero) a b c d e = absurd (a refl)
+takes-other (suc (suc zero)) a b c d e = absurd (b refl)
+takes-other (suc (suc (suc zero))) a b c d e = absurd (c refl)
+takes-other (suc (suc (suc (suc zero)))) a b c d e = absurd (d refl)
+takes-other (suc (suc (suc (suc (suc zero))))) a b c d e = absurd (e refl)
+takes-other (suc (suc (suc (suc (suc (suc k)))))) a b c d e = refl
+
+pub takes-most : (k : ℕ) → takes k ≤ 97
+takes-most k =
+    each-getD (λ x. x ≤ 97)
+    (cons (omega arith) (cons (omega arith) (cons (omega arith) (cons (omega arith) (cons (omega arith) (cons (omega arith) nil))))))
+    97
+    (omega arith)
+    k
+
+-- the last of the kinds
+pub kind-star : (k : ℕ) → takes k < 97 → (k ≡ 1 → ⊥) → (k ≡ 2 → ⊥) → (k ≡ 3 → ⊥) → (k ≡ 4 → ⊥) → k ≡ 5
+kind-star k l a b c d = go (eqb k 5) refl
+  where
+    go : (t : Bool) → eqb k 5 ≡ t → k ≡ 5
+    go true e = eqb-true k 5 e
+    go false e = let h = takes-other k a b c d (eqb-false k 5 e) in absurd (omega arith)
 
 -- The records of symbols ------------------------------------------------------------------------------------------------
 
@@ -39,16 +70,13 @@ module _ (s : List ℕ) (at : ℕ) where
   star-here k = simp k
 
   -- a record of another kind is no symbol
-  abbrev pub Other : ℕ → Type 0
-  Other k = (k ≡ 1 → ⊥) × (k ≡ 2 → ⊥) × (k ≡ 3 → ⊥) × (k ≡ 4 → ⊥) × (k ≡ 5 → ⊥)
-
-  other-kind : (k : ℕ) → Other k → symbolIn (getD (recordsByKind s at) k none) ≡ none
+  other-kind : (k : ℕ) → takes k ≡ 97 → symbolIn (getD (recordsByKind s at) k none) ≡ none
   other-kind zero h = refl
-  other-kind (suc zero) h = absurd (h .0 refl)
-  other-kind (suc (suc zero)) h = absurd (h .1 refl)
-  other-kind (suc (suc (suc zero))) h = absurd (h .2 refl)
-  other-kind (suc (suc (suc (suc zero)))) h = absurd (h .3 refl)
-  other-kind (suc (suc (suc (suc (suc zero))))) h = absurd (h .4 refl)
+  other-kind (suc zero) h = absurd (omega arith)
+  other-kind (suc (suc zero)) h = absurd (omega arith)
+  other-kind (suc (suc (suc zero))) h = absurd (omega arith)
+  other-kind (suc (suc (suc (suc zero)))) h = absurd (omega arith)
+  other-kind (suc (suc (suc (suc (suc zero))))) h = absurd (omega arith)
   other-kind (suc (suc (suc (suc (suc (suc k)))))) h =
       each-getD (λ x. symbolIn x ≡ none)
       (cons refl (cons refl (cons refl (cons refl (cons refl (cons refl (cons refl (cons refl (cons refl nil)))))))))
@@ -56,7 +84,7 @@ module _ (s : List ℕ) (at : ℕ) where
       refl
       k
 
-  pub no-symbol : Other (byteAt s at) → (fuel : ℕ) → symbolsOn s fuel at ≡ []
+  pub no-symbol : takes (byteAt s at) ≡ 97 → (fuel : ℕ) → symbolsOn s fuel at ≡ []
   unfolding symbolsOn recordAt
   no-symbol h zero = refl
   no-symbol h (suc fuel) = rw (other-kind (byteAt s at) h)
@@ -77,6 +105,11 @@ module _ (s : List ℕ) (at : ℕ) where
       go : (b : Bool) → leb (length s) at ≡ b → at < length s
       go true h = let z = List·getD-eq-default s 0 {n = at} (leb-true (length s) at h) in absurd (omega arith)
       go false h = leb-false (length s) at h
+
+  -- so does the record of a symbol
+  pub symbol-inside : (k : ℕ) → byteAt s at ≡ k → takes k < 97 → at < length s
+  symbol-inside zero e l = absurd (omega arith)
+  symbol-inside (suc k) e l = byte-inside k e
 
 -- Reducing a postfix form -----------------------------------------------------------------------------------------------
 

@@ -1,9 +1,9 @@
 // The stack of items by which a condition's places are found from its postfix form. Item i says of a condition whether it is nullable, and has
 // its first and its last leaves; `follow` and `sets` have the rows of the leaves of all items.
 ghost use mathlib.Core.Path.{_≡_};
-ghost use mathlib.Core.List.{List};
+ghost use mathlib.Core.List.{List, [], _∷_};
 ghost use Prim.Native.Nat.{ℕ, _+_, _-_, _<_, _≤_};
-ghost use lib.ListN.{length};
+ghost use lib.ListN.{length, getD};
 ghost use Rattle.condition.specs.Condition.{Condition, leaf, empty, join, either};
 ghost use Rattle.places.specs.Tables.{StandsAt, PartIs};
 ghost use Rattle.places.specs.Machine.{Roomy, Rows, Pushed, Starred, Merged};
@@ -121,6 +121,20 @@ pub fn star_top(
     nullable[top] = true;
 }
 
+// How many items a symbol of the kind takes: 97, more than a condition has, where no symbol is of the kind.
+fn operands(kind: u8) -> usize
+    ensures { λ n. ⌜ n ≡ getD (97 ∷ 0 ∷ 0 ∷ 2 ∷ 2 ∷ 1 ∷ []) kind 97 ⌝ }
+{
+    match kind {
+        1 => 0,
+        2 => 0,
+        3 => 2,
+        4 => 2,
+        5 => 1,
+        _ => 97,
+    }
+}
+
 // The condition whose records start at `from`, on top of `floor` items with `base` leaves. It returns how many leaves there are then.
 pub fn push_condition(
     s: &[u8],
@@ -144,51 +158,33 @@ pub fn push_condition(
     let mut n: usize = 0;
     while n < 96 {
         let kind = byte_at(s, at);
+        // no symbol, or its items are not there
+        if depth < floor + operands(kind) {
+            return leaves;
+        }
         n += 1;
+        at += 1;
         if kind == 1 {
             if base + 31 <= leaves {
                 return leaves;
             }
-            let set = set_at(s, at + 1);
+            let set = set_at(s, at);
             push_leaf(set, depth, leaves, nullable, first, last, follow, sets);
             depth += 1;
             leaves += 1;
-            at += 5;
-            continue;
-        }
-        if kind == 2 {
+            at += 4;
+        } else if kind == 2 {
             push_empty(depth, nullable, first, last);
             depth += 1;
-            at += 1;
-            continue;
-        }
-        if kind == 3 {
-            if depth < floor + 2 {
-                return leaves;
-            }
+        } else if kind == 3 {
             join_top(depth, nullable, first, last, follow);
             depth -= 1;
-            at += 1;
-            continue;
-        }
-        if kind == 4 {
-            if depth < floor + 2 {
-                return leaves;
-            }
+        } else if kind == 4 {
             either_top(depth, nullable, first, last);
             depth -= 1;
-            at += 1;
-            continue;
-        }
-        if kind == 5 {
-            if depth < floor + 1 {
-                return leaves;
-            }
+        } else {
             star_top(depth, nullable, first, last, follow);
-            at += 1;
-            continue;
         }
-        return leaves;
     }
     leaves
 }
