@@ -1,5 +1,5 @@
 -- The pairs of a certificate, one after another.
-use mathlib.Core.Path.{_≡_, refl, sym, ap, ap₂, _∙_}
+use mathlib.Core.Path.{_≡_, refl, sym, ap, ap₂, _∙_, subst}
 use mathlib.Core.Bool.{Bool, true, false, _||_}
 use mathlib.Core.Logic.{⊎-elim}
 use mathlib.Core.Option.{Option, none, some}
@@ -173,3 +173,31 @@ module _ (s : List ℕ) (from j at : ℕ) (r : Reached s from j at) where
   reached-end h =
       let e = r .rest ∙ certificate-none s at h in
       omega (arith, r .few, ap length e, length-drop j (certificateAt s from))
+
+  -- where j is not past the last pair, a pair stands there
+  reached-more : j < length (certificateAt s from) → Onward s from j at (byteAt s (at + 1)) (setAt s (at + 2)) (at + 6)
+  reached-more l = reached-next (byteAt s (at + 1)) (setAt s (at + 2)) (at + 6) (a-pair-is s at (go (eqb (byteAt s at) 13) refl))
+    where
+      go : (b : Bool) → eqb (byteAt s at) 13 ≡ b → byteAt s at ≡ 13
+      go true e = eqb-true (byteAt s at) 13 e
+      go false e =
+          let n = r .rest ∙ certificate-end s at (eqb-false (byteAt s at) 13 e) in
+          absurd (omega (arith, l, ap length n, length-drop j (certificateAt s from)))
+
+-- Pair i stands 6 * i bytes on ------------------------------------------------------------------------------------------
+
+module _ (s : List ℕ) (from : ℕ) where
+  reached-at : (i : ℕ) → i ≤ length (certificateAt s from) → Reached s from i (from + 6 * i)
+  reached-at zero l = let e : from ≡ from + 6 * 0 = omega arith in subst (λ (at : ℕ). Reached s from 0 at) e (reached-start s from)
+  reached-at (suc i) l =
+      let e : from + 6 * i + 6 ≡ from + 6 * suc i = omega arith in
+      subst (λ (at : ℕ). Reached s from (suc i) at) e (reached-more s from i (from + 6 * i) (reached-at i (omega arith)) l .reached)
+
+  pub pair-at : (i : ℕ) → i < length (certificateAt s from)
+      → Onward s from i (from + 6 * i) (byteAt s (from + 6 * i + 1)) (setAt s (from + 6 * i + 2)) (from + 6 * i + 6)
+  pair-at i l = reached-more s from i (from + 6 * i) (reached-at i (omega arith)) l
+
+  -- the certificate ends where it starts, or after a pair that stands in the sheet
+  pub end-near : (n k : ℕ) → n ≡ length (certificateAt s from) → from < k → length s + 6 ≤ k → from + 6 * n < k
+  end-near zero k e h l = omega arith
+  end-near (suc n) k e h l = let o = pair-at n (omega arith) in omega (arith, o .inside-sheet)

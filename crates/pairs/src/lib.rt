@@ -53,11 +53,12 @@ pub fn pair_from(s: &[u8], at: usize) -> Pair
     next_pair(hold(s, at))
 }
 
-// The offset of the first record that is no pair.
-pub fn certificate_end(s: &[u8], from: usize) -> usize
-    ensures { λ r. ⌜ r ≡ from + 6 * length (certificateAt (now (s .entry)) from) ⌝ }
+// How many pairs the certificate at an offset has.
+pub fn pair_count(s: &[u8], from: usize) -> usize
+    ensures { λ r. ⌜ r ≡ length (certificateAt (now (s .entry)) from) ⌝ }
 {
     let mut at: usize = from;
+    let mut count: usize = 0;
     loop {
         let found = pair_from(s, at);
         let Pair::At {
@@ -66,8 +67,16 @@ pub fn certificate_end(s: &[u8], from: usize) -> usize
             next,
         } = found
         else {
-            return at;
+            return count;
         };
         at = next;
+        count += 1;
     }
+}
+
+// The offset of the first record that is no pair.
+pub fn certificate_end(s: &[u8], from: usize) -> usize
+    ensures { λ r. ⌜ r ≡ from + 6 * length (certificateAt (now (s .entry)) from) ⌝ }
+{
+    from + 6 * pair_count(s, from)
 }
