@@ -6,14 +6,14 @@ use Prim.Native.Nat.{ℕ, _≤_, _<_}
 use native.Mathlib.Omega.{arith}
 use lib.ListN.{length, getD}
 use lib.Dec.{T, ltb}
-use lib.Bits.{bitAnd}
 use borrow.Author.Tests.{lt-ltb, ltb-true, ltb-false}
 use Rattle.bits.specs.Bits.{_⇒_, has, anyBelow}
-use Rattle.bits.proofs.Tests.{T-true, any-in, any-out, any-cong}
-use Rattle.bits.proofs.Masks.{has-and, has-cond}
+use Rattle.bits.proofs.Tests.{T-true, any-in, any-out}
+use Rattle.bits.proofs.Masks.{has-and}
 use Rattle.certificate.specs.Certificate.{Certificate, fine, fault, inOrder, unless}
 use Rattle.certificate.proofs.Findings.{Fine, fine-is, unless-in, inOrder-in, inOrder-stops, inOrder-cong}
-use Rattle.clauses.specs.Clauses.{rowHas, gathered, Lowest, servedBy, Wanted, Unserved, missingAt, unlistedAt}
+use Rattle.clauses.specs.Clauses.{rowHas, gathered, Lowest, servedBy, misses, Wanted, Served, missingAt, unlistedAt}
+use Rattle.clauses.proofs.Serving.{served-round}
 
 T-of : {b : Bool} → b ≡ true → T b
 T-of e = rw e tt
@@ -24,51 +24,46 @@ fails e = rw e tt
 
 -- In the rows ---------------------------------------------------------------------------------------------------------
 
-module _ (rows : List ℕ) (n i all low : ℕ) (low-is : (k : ℕ) → has low k ≡ ltb k n) (all-is : (k : ℕ) → has all k ≡ gathered rows n low k) where
-  -- `all` are the events that some row below n has
-  some-row : (e : ℕ) → has all e ≡ anyBelow n (λ p. rowHas rows p e)
-  some-row e =
-      all-is e
-      ∙ any-cong n (λ p. has low p && rowHas rows p e) (λ p. rowHas rows p e)
-      (λ p l. ap (λ (x : Bool). x && rowHas rows p e) (low-is p ∙ lt-ltb p n l))
-
-  no-row : (e : ℕ) → has all e ≡ false → (p : ℕ) → p < n → rowHas rows p e ≡ false
-  no-row e h p l = go (rowHas rows p e) refl
+module _ (missers : ℕ) (rows : List ℕ) (n i all : ℕ) (all-is : (k : ℕ) → has all k ≡ gathered rows n missers k) where
+  -- `all` are the events that some place below n misses
+  no-place : (e : ℕ) → has all e ≡ false → (p : ℕ) → p < n → misses missers rows p e ≡ false
+  no-place e h p l = go (misses missers rows p e) refl
     where
-      go : (b : Bool) → rowHas rows p e ≡ b → b ≡ false
+      go : (b : Bool) → misses missers rows p e ≡ b → b ≡ false
       go false x = refl
-      go true x = sym (T-true (anyBelow n (λ p. rowHas rows p e)) (any-in n (λ p. rowHas rows p e) p l (T-of x))) ∙ sym (some-row e) ∙ h
+      go true x =
+          sym (T-true (anyBelow n (λ p. misses missers rows p e)) (any-in n (λ p. misses missers rows p e) p l (T-of x))) ∙ sym (all-is e) ∙ h
 
-  event-fine : (e : ℕ) → has all e ≡ false → Fine (missingAt n i rows e)
+  event-fine : (e : ℕ) → has all e ≡ false → Fine (missingAt n i missers rows e)
   event-fine e h =
-      inOrder-in n (λ l. unless (not (rowHas rows l e)) (fault 4 i e l))
-      (λ l k. unless-in (not (rowHas rows l e)) (fault 4 i e l) (fails (no-row e h l k)))
+      inOrder-in n (λ l. unless (not (misses missers rows l e)) (fault 4 i e l))
+      (λ l k. unless-in (not (misses missers rows l e)) (fault 4 i e l) (fails (no-place e h l k)))
 
-  pub missing-none : (events e : ℕ) → Lowest events (λ k. has all k) e → events ≤ e → fine ≡ inOrder events (missingAt n i rows)
+  pub missing-none : (events e : ℕ) → Lowest events (λ k. has all k) e → events ≤ e → fine ≡ inOrder events (missingAt n i missers rows)
   missing-none events e low h =
-      sym (fine-is _ (inOrder-in events (missingAt n i rows) (λ k l. event-fine k (low .before k (omega arith)))))
+      sym (fine-is _ (inOrder-in events (missingAt n i missers rows) (λ k l. event-fine k (low .before k (omega arith)))))
 
-  module _ (e l : ℕ) (at-place : Lowest n (λ q. rowHas rows q e) l) where
+  module _ (e l : ℕ) (at-place : Lowest n (λ q. misses missers rows q e) l) where
     on-side : has all e ≡ true → l < n
     on-side h =
-        let (p, a, x) = any-out n (λ p. rowHas rows p e) (T-of (sym (some-row e) ∙ h)) in
+        let (p, a, x) = any-out n (λ p. misses missers rows p e) (T-of (sym (all-is e) ∙ h)) in
         go (ltb l n) refl p a x
       where
-        go : (b : Bool) → ltb l n ≡ b → (p : ℕ) → p < n → T (rowHas rows p e) → l < n
+        go : (b : Bool) → ltb l n ≡ b → (p : ℕ) → p < n → T (misses missers rows p e) → l < n
         go true y p a x = ltb-true l n y
         go false y p a x = let z = ltb-false l n y in absurd (rw (at-place .before p (omega arith)) at x)
 
-    event-fault : has all e ≡ true → missingAt n i rows e ≡ fault 4 i e l
+    event-fault : has all e ≡ true → missingAt n i missers rows e ≡ fault 4 i e l
     event-fault h =
-        inOrder-stops n (λ l. unless (not (rowHas rows l e)) (fault 4 i e l)) l (on-side h)
-        (inOrder-in l (λ l. unless (not (rowHas rows l e)) (fault 4 i e l)) (λ k a. unless-in (not (rowHas rows k e)) (fault 4 i e k) (fails (at-place .before k a))))
+        inOrder-stops n (λ l. unless (not (misses missers rows l e)) (fault 4 i e l)) l (on-side h)
+        (inOrder-in l (λ l. unless (not (misses missers rows l e)) (fault 4 i e l)) (λ k a. unless-in (not (misses missers rows k e)) (fault 4 i e k) (fails (at-place .before k a))))
         4 i e l
         (ap (λ (b : Bool). unless (not b) (fault 4 i e l)) (at-place .stops (on-side h)))
 
-    pub missing-first : (events : ℕ) → Lowest events (λ k. has all k) e → e < events → fault 4 i e l ≡ inOrder events (missingAt n i rows)
+    pub missing-first : (events : ℕ) → Lowest events (λ k. has all k) e → e < events → fault 4 i e l ≡ inOrder events (missingAt n i missers rows)
     missing-first events low h =
-        sym (inOrder-stops events (missingAt n i rows) e h
-        (inOrder-in e (missingAt n i rows) (λ k a. event-fine k (low .before k a)))
+        sym (inOrder-stops events (missingAt n i missers rows) e h
+        (inOrder-in e (missingAt n i missers rows) (λ k a. event-fine k (low .before k a)))
         4 i e l
         (event-fault (low .stops h)))
 
@@ -81,21 +76,22 @@ one-test true true m false e = rw e
 one-test true false m s e = refl
 one-test false r m s e = refl
 
-module _ (c : Certificate) (followers mask : ℕ) (lsets : List ℕ) (m onward : ℕ) (rsets wanted left : List ℕ) where
-  pub unlisted-is : (events n i : ℕ) → n ≤ 64 → ((k : ℕ) → has mask k ≡ ltb k events) → Wanted followers lsets mask 64 wanted
-      → Unserved c m onward rsets (length c) wanted left
-      → inOrder events (missingAt n i left) ≡ inOrder events (unlistedAt c n i followers lsets m onward rsets)
-  unlisted-is events n i h mask-is w u =
-      inOrder-cong events (missingAt n i left) (unlistedAt c n i followers lsets m onward rsets)
-      (λ e a. inOrder-cong n (λ l. unless (not (rowHas left l e)) (fault 4 i e l)) _
-      (λ l b. ap (λ (x : Bool). unless x (fault 4 i e l)) (test e l a (omega arith))))
+module _ (c : Certificate) (followers mask : ℕ) (lsets : List ℕ) (m onward : ℕ) (rsets : List ℕ) {missers missers′ missers″ : ℕ} {rows rows′ rows″ : List ℕ} where
+  pub unlisted-is : {count start stop : ℕ} (events n i : ℕ) → ((k : ℕ) → has mask k ≡ ltb k events) → count ≡ length c
+      → Wanted followers lsets mask missers rows → Served c m onward rsets start count missers rows missers′ rows′
+      → Served c m onward rsets 0 stop missers′ rows′ missers″ rows″ → start ≤ stop → stop ≤ count
+      → inOrder events (missingAt n i missers″ rows″) ≡ inOrder events (unlistedAt c n i followers lsets m onward rsets)
+  unlisted-is {count} events n i mask-is count-is w ahead rest h k =
+      inOrder-cong events (missingAt n i missers″ rows″) (unlistedAt c n i followers lsets m onward rsets)
+      (λ e a. inOrder-cong n (λ l. unless (not (misses missers″ rows″ l e)) (fault 4 i e l)) _
+      (λ l b. ap (λ (x : Bool). unless x (fault 4 i e l)) (test e l a)))
     where
-      test : (e l : ℕ) → e < events → l < 64 → not (rowHas left l e) ≡ ((has followers l && rowHas lsets l e) ⇒ servedBy c m onward rsets (length c) l e)
-      test e l a b =
+      test : (e l : ℕ) → e < events
+          → not (misses missers″ rows″ l e) ≡ ((has followers l && rowHas lsets l e) ⇒ servedBy c m onward rsets (length c) l e)
+      test e l a =
           ap (λ (x : Bool). not x)
-          (u .row l e b
+          (served-round c m onward rsets ahead rest h k l e
+          ∙ ap (λ (k : ℕ). misses missers rows l e && not (servedBy c m onward rsets k l e)) count-is
           ∙ ap (λ (x : Bool). x && not (servedBy c m onward rsets (length c) l e))
-          (ap (λ (x : ℕ). has x e) (w .row l b)
-          ∙ has-cond (has followers l) (bitAnd (getD lsets l 0) mask) e
-          ∙ ap (λ (x : Bool). has followers l && x) (has-and (getD lsets l 0) mask e)))
+          (w .wanted l e ∙ ap (λ (x : Bool). has followers l && x) (has-and (getD lsets l 0) mask e)))
           ∙ one-test (has followers l) (rowHas lsets l e) (has mask e) (servedBy c m onward rsets (length c) l e) (mask-is e ∙ lt-ltb e events a)

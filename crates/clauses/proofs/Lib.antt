@@ -1,4 +1,6 @@
 pub mod Least
+pub mod Rows
+pub mod Wanting
 pub mod Serving
 pub mod FirstMissing
 pub mod ByTables

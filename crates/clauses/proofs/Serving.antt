@@ -1,25 +1,26 @@
 -- What the pairs of a certificate leave of the events that are missing.
-use mathlib.Core.Path.{_≡_, refl, sym, ap, _∙_}
-use mathlib.Core.Bool.{Bool, true, false, cond, not, _&&_, _||_, and-true, and-false, or-false}
+use mathlib.Core.Path.{_≡_, refl, sym, ap, ap₂, _∙_, subst}
+use mathlib.Core.Bool.{Bool, true, false, cond, not, _&&_, and-true, and-false, false≢true}
+use mathlib.Core.Logic.{_⊎_, inl, inr, ⊎-elim}
 use mathlib.Core.List.{List}
-use Prim.Native.Nat.{ℕ, suc, _+_, _-_, _^_, _≤_, _<_}
+use Prim.Native.Nat.{ℕ, _+_, _-_, _^_, _≤_, _<_, zero-le}
 use native.Mathlib.Nat.{lt-of-lt-of-le, lt-of-le-of-lt}
 use native.Mathlib.Omega.{arith}
 use lib.ListN.{length, getD, set, length-set}
-use lib.Seq.{getD-set-same, getD-set-other}
-use lib.Dec.{eqb}
+use lib.Dec.{T, not-T, eqb, ltb, eqb→eq}
 use lib.Bits.{bitAnd, bitXor, and-le-l}
 use lib.Count.{trailingZeros}
 use borrow.Author.Count.{below-more}
-use borrow.Author.Tests.{eq-eqb, ne-eqb, eqb-true, eqb-false}
+use borrow.Author.Tests.{eq-eqb, ne-eqb, eqb-true, eqb-false, ltb-true, ltb-false, not-true}
 use Rattle.bits.specs.Bits.{has, anyBelow}
-use Rattle.bits.proofs.Tests.{and-out}
+use Rattle.bits.proofs.Tests.{and-out, and-in, T-true, T-ext, any-out, any-in}
 use Rattle.bits.proofs.Sets.{has-none}
-use Rattle.bits.proofs.Masks.{has-and}
+use Rattle.bits.proofs.Masks.{has-and, nonzero-in}
 use Rattle.bits.proofs.Bitwise.{has-without}
 use Rattle.places.proofs.Lowest.{positive, lowest, all-none, all-split}
 use Rattle.certificate.specs.Certificate.{Pair, pair, Certificate, pairOf}
-use Rattle.clauses.specs.Clauses.{rowHas, allHold, serving, serves, servedBy, Wanted, Unserved}
+use Rattle.clauses.specs.Clauses.{rowHas, allHold, serving, serves, servedBy, misses, Served}
+use Rattle.clauses.proofs.Rows.{row-set, chosen-has}
 
 -- One set ---------------------------------------------------------------------------------------------------------------
 
@@ -34,11 +35,6 @@ keep-all false w b e = refl
 and-but : (a w b : Bool) → w ≡ true → (a && not (a && b)) ≡ (a && not (w && b))
 and-but true w b e = rw e
 and-but false w b e = refl
-
-not-or : (a b d : Bool) → (a && not b && not d) ≡ (a && not (b || d))
-not-or true true d = refl
-not-or true false d = refl
-not-or false b d = refl
 
 module _ (sets : List ℕ) (missing set : ℕ) where
   -- `served` are the missing events that the places of the set below m hold
@@ -101,68 +97,155 @@ module _ (sets : List ℕ) (missing set : ℕ) where
       keep-all (has missing e) (eqb (bitAnd set onward) set) (allHold m sets set e)
       (g .whole e ∙ ap (λ (b : Bool). b && allHold m sets rest e) (ap (λ (x : ℕ). has x e) z ∙ has-none e))
 
--- The rows that are wanted ----------------------------------------------------------------------------------------------
+-- What one pair leaves --------------------------------------------------------------------------------------------------
 
-module _ (followers : ℕ) (sets : List ℕ) (mask : ℕ) where
-  pub wanted-none : {rows : List ℕ} → length rows ≡ 64 → Wanted followers sets mask 0 rows
-  wanted-none l = record { long = l; row = λ q h. absurd (omega arith) }
+fails-not : (b : Bool) → T (not b) → b ≡ false
+fails-not b h = not-true b (T-true (not b) h)
 
-  pub wanted-more : {q : ℕ} {rows : List ℕ} {b : Bool} {x : ℕ} → Wanted followers sets mask q rows → q < 64 → b ≡ has followers q
-      → x ≡ cond b (bitAnd (getD sets q 0) mask) 0 → Wanted followers sets mask (q + 1) (set rows q x)
-  wanted-more {q} {rows} {b} {x} w h e f =
-      let long = w .long in
-      record {
-        long = length-set rows q x ∙ w .long;
-        row = below-more (λ k. getD (set rows q x) k 0 ≡ cond (has followers k) (bitAnd (getD sets k 0) mask) 0) q
-            (λ k l. getD-set-other rows q k x 0 (λ (z : k ≡ q). omega arith) ∙ w .row k l)
-            (getD-set-same rows q x 0 (omega arith) ∙ f ∙ ap (λ (y : Bool). cond y (bitAnd (getD sets q 0) mask) 0) e);
+keep-test : (x z s : Bool) → (T z → x ≡ (x && not s)) → x ≡ (x && not (z && s))
+keep-test x true s h = h tt
+keep-test x false s h = sym (and-true x)
+
+-- the place of the pair, whose row becomes l: it is taken out where the row is empty
+row-here : (a empty l r s : Bool) → a ≡ true → l ≡ (r && not s) → (T l → empty ≡ false) → ((a && not (empty && true)) && l) ≡ ((a && r) && not s)
+row-here true empty true r s x y z = ap (λ (b : Bool). not (b && true) && true) (z tt) ∙ y
+row-here true empty false r s x y z = and-false (not (empty && true)) ∙ y
+row-here false empty l r s x y z = absurd (false≢true x)
+
+row-other : (a empty r : Bool) → ((a && not (empty && false)) && r) ≡ ((a && r) && true)
+row-other a empty r =
+    ap (λ (x : Bool). (a && not x) && r) (and-false empty) ∙ ap (λ (x : Bool). x && r) (and-true a) ∙ sym (and-true (a && r))
+
+module _ (m onward : ℕ) (sets : List ℕ) (place t missers : ℕ) (rows : List ℕ) where
+  -- after a pair of the place with the set t the places `missers′` miss what their rows have
+  pub record Left (missers′ : ℕ) (rows′ : List ℕ) : Type 0 where
+    pub rows-long : length rows′ ≡ 64
+    pub left-is : (q e : ℕ) → misses missers′ rows′ q e ≡ (misses missers rows q e && not (eqb place q && serving m onward sets t e))
+
+  module _ (long : length rows ≡ 64) where
+    -- the place misses nothing
+    pub left-off : has missers place ≡ false → Left missers rows
+    left-off h = record {
+      rows-long = long;
+      left-is = λ q e. keep-test (misses missers rows q e) (eqb place q) (serving m onward sets t e)
+          (λ z. let o : has missers q ≡ false = ap (λ (k : ℕ). has missers k) (sym (eqb→eq place q z)) ∙ h in rw o);
+    }
+
+    module _ (left : ℕ) (leaves : (e : ℕ) → has left e ≡ (rowHas rows place e && not (serving m onward sets t e))) where
+      -- its row stays
+      pub left-same : left ≡ getD rows place 0 → Left missers rows
+      left-same h = record {
+        rows-long = long;
+        left-is = λ q e. keep-test (misses missers rows q e) (eqb place q) (serving m onward sets t e)
+            (λ z. ap (λ (b : Bool). has missers q && b) (kept q e (eqb→eq place q z)) ∙ and-next (has missers q) (rowHas rows q e) (not (serving m onward sets t e)));
       }
+        where
+          kept : (q e : ℕ) → place ≡ q → rowHas rows q e ≡ (rowHas rows q e && not (serving m onward sets t e))
+          kept q e y = subst (λ (k : ℕ). rowHas rows k e ≡ (rowHas rows k e && not (serving m onward sets t e))) y (ap (λ (x : ℕ). has x e) (sym h) ∙ leaves e)
+
+      -- its row is written
+      pub left-row : {one gone : ℕ} → has missers place ≡ true → place < 64 → one ≡ 2 ^ place → gone ≡ cond (eqb left 0) one 0 → Left (bitXor missers gone) (set rows place left)
+      left-row {one} {gone} here l one-is gone-is = record {
+        rows-long = length-set rows place left ∙ long;
+        left-is = λ q e.
+            ap₂ (λ (x y : Bool). x && y) (missers-are q) (row-set rows place left (omega arith) q e) ∙ by q e (eqb q place) refl;
+      }
+        where
+          bits : (q : ℕ) → has gone q ≡ (eqb left 0 && eqb q place)
+          bits q = chosen-has (eqb left 0) place q one-is gone-is
+
+          missers-are : (q : ℕ) → has (bitXor missers gone) q ≡ (has missers q && not (eqb left 0 && eqb q place))
+          missers-are q =
+              has-without missers gone q
+              (λ h. let (_, y) = and-out (eqb left 0) (eqb q place) (rw (bits q) at h) in
+              subst (λ (k : ℕ). T (has missers k)) (sym (eqb→eq q place y)) (rw here tt))
+              ∙ ap (λ (x : Bool). has missers q && not x) (bits q)
+
+          not-empty : (e : ℕ) → T (has left e) → eqb left 0 ≡ false
+          not-empty e h = fails-not (eqb left 0) (nonzero-in left e h)
+
+          by : (q e : ℕ) (b : Bool) → eqb q place ≡ b
+              → ((has missers q && not (eqb left 0 && b)) && cond b (has left e) (rowHas rows q e)) ≡ (misses missers rows q e && not (eqb place q && serving m onward sets t e))
+          by q e true z =
+              let y = eqb-true q place z in
+              row-here (has missers q) (eqb left 0) (has left e) (rowHas rows q e) (serving m onward sets t e)
+              (ap (λ (k : ℕ). has missers k) y ∙ here)
+              (leaves e ∙ ap (λ (k : ℕ). rowHas rows k e && not (serving m onward sets t e)) (sym y))
+              (not-empty e)
+              ∙ ap (λ (b : Bool). misses missers rows q e && not (b && serving m onward sets t e)) (sym (eq-eqb place q (sym y)))
+          by q e false z =
+              row-other (has missers q) (eqb left 0) (rowHas rows q e)
+              ∙ ap (λ (b : Bool). misses missers rows q e && not (b && serving m onward sets t e)) (sym (ne-eqb place q (λ (y : place ≡ q). eqb-false q place z (sym y))))
 
 -- The pairs, one after another ------------------------------------------------------------------------------------------
 
-module _ (c : Certificate) (m onward : ℕ) (sets rows : List ℕ) where
-  pub unserved-none : length rows ≡ 64 → Unserved c m onward sets 0 rows rows
-  unfolding anyBelow
-  unserved-none l = record { long = l; row = λ q e h. sym (and-true (rowHas rows q e)) }
+any-more : (n k : ℕ) (f : ℕ → Bool) → n ≤ k → T (anyBelow n f) → T (anyBelow k f)
+any-more n k f l h = let (i, a, t) = any-out n f h in any-in k f i (lt-of-lt-of-le a l) t
 
-  -- a pair more, of a place off the table
-  pub unserved-far : {j : ℕ} {left : List ℕ} {place t : ℕ} → Unserved c m onward sets j rows left → pairOf c j ≡ pair place t → 64 ≤ place
-      → Unserved c m onward sets (suc j) rows left
-  unfolding anyBelow
-  unserved-far {j} {left} {place} {t} u p f = record {
-    long = u .long;
-    row = λ q e h.
-        u .row q e h
-        ∙ ap (λ (x : Bool). rowHas rows q e && not x)
-        (sym (or-false (servedBy c m onward sets j q e))
-        ∙ ap (λ (x : Bool). servedBy c m onward sets j q e || x)
-        (sym (ap (λ (y : Pair). serves m onward sets q e y) p ∙ ap (λ (b : Bool). b && serving m onward sets t e) (ne-eqb place q (λ (z : place ≡ q). omega arith)))));
-  }
+module _ (c : Certificate) (m onward : ℕ) (sets : List ℕ) (a : ℕ) (missers : ℕ) (rows : List ℕ) where
+  pub served-none : length rows ≡ 64 → Served c m onward sets a a missers rows missers rows
+  served-none l = record { long = l; was = λ q e t. t; unmet = λ q e t j h k. absurd (omega arith); met = λ q e t. inl t }
 
-  -- a pair more, whose place's row is what its set leaves
-  pub unserved-more : {j : ℕ} {left : List ℕ} {place t : ℕ} (x : ℕ) → Unserved c m onward sets j rows left → pairOf c j ≡ pair place t → place < 64
-      → ((e : ℕ) → has x e ≡ (rowHas left place e && not (serving m onward sets t e))) → Unserved c m onward sets (suc j) rows (set left place x)
-  unfolding anyBelow
-  unserved-more {j} {left} {place} {t} x u p f g = record { long = length-set left place x ∙ u .long; row = λ q e h. by q e h (eqb place q) refl }
+  module _ {b : ℕ} {missers′ : ℕ} {rows′ : List ℕ} (s : Served c m onward sets a b missers rows missers′ rows′) where
+    -- where nothing is missing, the rest of the pairs change nothing
+    pub served-stop : (n : ℕ) → missers′ ≡ 0 → b ≤ n → Served c m onward sets a n missers rows missers′ rows′
+    served-stop n z l = record {
+      long = s .long;
+      was = s .was;
+      unmet = λ q e t. absurd (rw (z, has-none q) at t);
+      met = λ q e t. ⊎-elim (λ u. inl u) (λ u. inr (any-more b n (λ i. serves m onward sets q e (pairOf c i)) l u)) (s .met q e t);
+    }
+
+    -- a pair more
+    pub served-more : {place t missers″ : ℕ} {rows″ : List ℕ} → pairOf c b ≡ pair place t → Left m onward sets place t missers′ rows′ missers″ rows″
+        → Served c m onward sets a (b + 1) missers rows missers″ rows″
+    served-more {place} {t} {missers″} {rows″} p f = record {
+      long = f .rows-long;
+      was = λ q e x. s .was q e (both q e x .0);
+      unmet = λ q e x j h k.
+          below-more (λ j. a ≤ j → serves m onward sets q e (pairOf c j) ≡ false) b (λ j l h. s .unmet q e (both q e x .0) j h l)
+          (λ _. fails-not (serves m onward sets q e (pairOf c b)) (both q e x .1)) j k h;
+      met = λ q e x. ⊎-elim (λ u. here q e u (serves m onward sets q e (pairOf c b)) refl) (λ u. inr (any-more b (b + 1) (λ i. serves m onward sets q e (pairOf c i)) (omega arith) u)) (s .met q e x);
+    }
+      where
+        left-is : (q e : ℕ) → misses missers″ rows″ q e ≡ (misses missers′ rows′ q e && not (serves m onward sets q e (pairOf c b)))
+        left-is q e = f .left-is q e ∙ ap (λ (y : Pair). misses missers′ rows′ q e && not (serves m onward sets q e y)) (sym p)
+
+        both : (q e : ℕ) → T (misses missers″ rows″ q e) → T (misses missers′ rows′ q e) × T (not (serves m onward sets q e (pairOf c b)))
+        both q e x = and-out (misses missers′ rows′ q e) (not (serves m onward sets q e (pairOf c b))) (subst T (left-is q e) x)
+
+        here : (q e : ℕ) → T (misses missers′ rows′ q e) → (v : Bool) → serves m onward sets q e (pairOf c b) ≡ v
+            → T (misses missers″ rows″ q e) ⊎ T (servedBy c m onward sets (b + 1) q e)
+        here q e u true y = inr (any-in (b + 1) (λ i. serves m onward sets q e (pairOf c i)) b (omega arith) (rw y tt))
+        here q e u false y =
+            inl (subst T (sym (left-is q e)) (and-in (misses missers′ rows′ q e) (not (serves m onward sets q e (pairOf c b))) u (rw y tt)))
+
+-- All the way round -----------------------------------------------------------------------------------------------------
+
+-- the pairs from a on, and then those up to b, which is not before a
+module _ (c : Certificate) (m onward : ℕ) (sets : List ℕ) {a b n missers missers′ missers″ : ℕ} {rows rows′ rows″ : List ℕ}
+    (ahead : Served c m onward sets a n missers rows missers′ rows′) (rest : Served c m onward sets 0 b missers′ rows′ missers″ rows″) (h : a ≤ b) (l : b ≤ n) where
+  pub served-round : (q e : ℕ) → misses missers″ rows″ q e ≡ (misses missers rows q e && not (servedBy c m onward sets n q e))
+  served-round q e = T-ext (misses missers″ rows″ q e) (misses missers rows q e && not (servedBy c m onward sets n q e)) forth back
     where
-      pair-is : (q e : ℕ) → serves m onward sets q e (pairOf c j) ≡ (eqb place q && serving m onward sets t e)
-      pair-is q e = ap (λ (y : Pair). serves m onward sets q e y) p
+      test : ℕ → Bool
+      test i = serves m onward sets q e (pairOf c i)
 
-      by : (q e : ℕ) → q < 64 → (b : Bool) → eqb place q ≡ b
-          → rowHas (set left place x) q e ≡ (rowHas rows q e && not (servedBy c m onward sets j q e || serves m onward sets q e (pairOf c j)))
-      by q e h true z =
-          let y : place ≡ q = eqb-true place q z in
-          let long = u .long in
-          ap (λ (k : ℕ). rowHas (set left place x) k e) (sym y)
-          ∙ ap (λ (v : ℕ). has v e) (getD-set-same left place x 0 (omega arith))
-          ∙ g e
-          ∙ ap (λ (v : Bool). v && not (serving m onward sets t e)) (ap (λ (k : ℕ). rowHas left k e) y ∙ u .row q e h)
-          ∙ not-or (rowHas rows q e) (servedBy c m onward sets j q e) (serving m onward sets t e)
-          ∙ ap (λ (v : Bool). rowHas rows q e && not (servedBy c m onward sets j q e || v))
-          (sym (pair-is q e ∙ ap (λ (b : Bool). b && serving m onward sets t e) z))
-      by q e h false z =
-          ap (λ (v : ℕ). has v e) (getD-set-other left place q x 0 (λ (y : q ≡ place). eqb-false place q z (sym y)))
-          ∙ u .row q e h
-          ∙ ap (λ (v : Bool). rowHas rows q e && not v)
-          (sym (or-false (servedBy c m onward sets j q e))
-          ∙ ap (λ (v : Bool). servedBy c m onward sets j q e || v) (sym (pair-is q e ∙ ap (λ (b : Bool). b && serving m onward sets t e) z)))
+      -- no pair serves what is missing still
+      unserved : T (misses missers″ rows″ q e) → (j : ℕ) → j < n → (b : Bool) → ltb j a ≡ b → test j ≡ false
+      unserved t j k true y = rest .unmet q e t j zero-le (lt-of-lt-of-le (ltb-true j a y) h)
+      unserved t j k false y = ahead .unmet q e (rest .was q e t) j (ltb-false j a y) k
+
+      forth : T (misses missers″ rows″ q e) → T (misses missers rows q e && not (servedBy c m onward sets n q e))
+      forth t =
+          and-in (misses missers rows q e) (not (servedBy c m onward sets n q e)) (ahead .was q e (rest .was q e t))
+          (not-T (anyBelow n test) (λ h. let (j, k, x) = any-out n test h in absurd (rw (unserved t j k (ltb j a) refl) at x)))
+
+      back : T (misses missers rows q e && not (servedBy c m onward sets n q e)) → T (misses missers″ rows″ q e)
+      back t =
+          let (x, y) = and-out (misses missers rows q e) (not (servedBy c m onward sets n q e)) t in
+          let none : anyBelow n test ≡ false = fails-not (anyBelow n test) y in
+          ⊎-elim
+          (λ u. ⊎-elim (λ v. v) (λ v. absurd (rw none at (any-more b n test l v))) (rest .met q e u))
+          (λ u. absurd (rw none at u))
+          (ahead .met q e x)

@@ -1,10 +1,11 @@
 -- The clauses of a certificate as they are tested with the tables of two sides, and what an answer stands for.
 use mathlib.Core.Path.{_≡_}
-use mathlib.Core.Bool.{Bool, true, false, cond, not, _&&_}
+use mathlib.Core.Bool.{Bool, true, false, not, _&&_}
 use mathlib.Core.List.{List}
 use Prim.Native.Nat.{ℕ, suc, _≤_, _<_}
 use lib.ListN.{length, getD}
-use lib.Dec.{eqb}
+use mathlib.Core.Logic.{_⊎_}
+use lib.Dec.{T, eqb}
 use lib.Bits.{bitAnd}
 use Rattle.bits.specs.Bits.{_⇒_, has, anyBelow, allBelow}
 use Rattle.condition.specs.Condition.{Condition}
@@ -60,19 +61,26 @@ serves m onward sets q e p = eqb (p .place) q && serving m onward sets (p .set) 
 abbrev pub servedBy : Certificate → ℕ → ℕ → List ℕ → ℕ → ℕ → ℕ → Bool
 servedBy c m onward sets j q e = anyBelow j (λ i. serves m onward sets q e (pairOf c i))
 
--- the rows below j are the events of the mask that each follower holds
-pub record Wanted (followers : ℕ) (sets : List ℕ) (mask j : ℕ) (rows : List ℕ) : Type 0 where
+-- place q misses the event e: it is one of the places `missers`, and its row has e. Rows of other places say nothing.
+abbrev pub misses : ℕ → List ℕ → ℕ → ℕ → Bool
+misses missers rows q e = has missers q && rowHas rows q e
+
+-- each follower misses the events of the mask that it holds
+pub record Wanted (followers : ℕ) (sets : List ℕ) (mask missers : ℕ) (rows : List ℕ) : Type 0 where
   pub long : length rows ≡ 64
-  pub row : (q : ℕ) → q < j → getD rows q 0 ≡ cond (has followers q) (bitAnd (getD sets q 0) mask) 0
+  pub wanted : (q e : ℕ) → misses missers rows q e ≡ (has followers q && has (bitAnd (getD sets q 0) mask) e)
 
--- what the first j pairs leave of the rows
-pub record Unserved (c : Certificate) (m onward : ℕ) (sets : List ℕ) (j : ℕ) (rows left : List ℕ) : Type 0 where
-  pub long : length left ≡ 64
-  pub row : (q e : ℕ) → q < 64 → rowHas left q e ≡ (rowHas rows q e && not (servedBy c m onward sets j q e))
+-- what the pairs from number a up to b leave: an event that is missing still was missing, and none of these pairs serves it; an event that was
+-- missing is missing still, or one of the pairs up to b serves it
+pub record Served (c : Certificate) (m onward : ℕ) (sets : List ℕ) (a b missers : ℕ) (rows : List ℕ) (missers′ : ℕ) (rows′ : List ℕ) : Type 0 where
+  pub long : length rows′ ≡ 64
+  pub was : (q e : ℕ) → T (misses missers′ rows′ q e) → T (misses missers rows q e)
+  pub unmet : (q e : ℕ) → T (misses missers′ rows′ q e) → (j : ℕ) → a ≤ j → j < b → serves m onward sets q e (pairOf c j) ≡ false
+  pub met : (q e : ℕ) → T (misses missers rows q e) → T (misses missers′ rows′ q e) ⊎ T (servedBy c m onward sets b q e)
 
--- the fault of the lowest place below n whose row has the event e
-abbrev pub missingAt : ℕ → ℕ → List ℕ → ℕ → Finding
-missingAt n i rows e = inOrder n (λ l. unless (not (rowHas rows l e)) (fault 4 i e l))
+-- the fault of the lowest place below n that misses the event e
+abbrev pub missingAt : ℕ → ℕ → ℕ → List ℕ → ℕ → Finding
+missingAt n i missers rows e = inOrder n (λ l. unless (not (misses missers rows l e)) (fault 4 i e l))
 
 -- clause 4 of pair i at the event e
 abbrev pub unlistedAt : Certificate → ℕ → ℕ → ℕ → List ℕ → ℕ → ℕ → List ℕ → ℕ → Finding

@@ -13,6 +13,7 @@ ghost use Rattle.places.specs.Tables.{Tables};
 ghost use Rattle.clauses.specs.Clauses.{findingOf, eachPair, PlacesOf};
 use fields::index;
 use pairs::Pair;
+use pairs::pair_count;
 use pairs::pair_from;
 use places::Side;
 use places::masks::gather;
@@ -30,6 +31,12 @@ pub enum Fault {
         event: usize,
         place: usize,
     },
+}
+
+// What is found of a pair, and the pair at which the search for the next one's is to start.
+pub struct Found {
+    pub fault: Fault,
+    pub start: usize,
 }
 
 // An inclusion that a certificate is to show: where it stands, over how many events, and the two sides.
@@ -80,20 +87,26 @@ pub fn ends_too(lends: u64, rends: u64, place: usize, set: u64) -> bool
     }
 }
 
-// Clauses 2 to 4 of one pair.
+// Clauses 2 to 4 of one pair of `count`.
 pub fn pair_fault(
     s: &[u8],
     t: Inclusion,
+    count: usize,
     i: usize,
     place: usize,
     set: u64,
+    start: usize,
     lfollow: &[u64; 64],
     lsets: &[u64; 64],
     rfollow: &[u64; 64],
     rsets: &[u64; 64],
-) -> Fault
+    missing: &mut [u64; 64],
+) -> Found
     requires { ⌜ t .events ≤ 64 ⌝ }
-    ensures { λ r. ⌜ ((l g : Condition) → Tables l (t .left) (now (lfollow .entry)) (now (lsets .entry)) → Tables g (t .right) (now (rfollow .entry)) (now (rsets .entry)) → findingOf r ≡ pairFinding (t .events) l g (certificateAt (now (s .entry)) (t .from)) i (pair place set)) ⌝ }
+    requires { ⌜ (count ≡ length (certificateAt (now s) (t .from))) × (start ≤ count) × (length (now missing) ≡ 64) ⌝ }
+    ensures finding { λ r. ⌜ ((l g : Condition) → Tables l (t .left) (now (lfollow .entry)) (now (lsets .entry)) → Tables g (t .right) (now (rfollow .entry)) (now (rsets .entry)) → findingOf (r .fault) ≡ pairFinding (t .events) l g (certificateAt (now (s .entry)) (t .from)) i (pair place set)) ⌝ }
+    ensures next { λ r. ⌜ r .start ≤ count ⌝ }
+    ensures rows { λ _. ⌜ length (now (missing .exit)) ≡ 64 ⌝ }
 {
     let left = t.left;
     let right = t.right;
@@ -107,11 +120,31 @@ pub fn pair_fault(
             let events = t.events;
             let followers = lfollow[place];
             let onward = gather(rfollow, m, set);
-            return missing::unlisted(s, from, i, events, n, followers, lsets, m, onward, rsets);
+            return missing::unlisted(
+                s,
+                from,
+                count,
+                i,
+                events,
+                n,
+                followers,
+                lsets,
+                m,
+                onward,
+                rsets,
+                start,
+                missing,
+            );
         }
-        return fault_of(3, i);
+        return Found {
+            fault: fault_of(3, i),
+            start,
+        };
     }
-    fault_of(2, i)
+    Found {
+        fault: fault_of(2, i),
+        start,
+    }
 }
 
 // Clauses 2 to 4 of all pairs, in order.
@@ -126,17 +159,35 @@ pub fn pairs_fault(
     requires { ⌜ t .events ≤ 64 ⌝ }
     ensures { λ r. ⌜ ((l g : Condition) → Tables l (t .left) (now (lfollow .entry)) (now (lsets .entry)) → Tables g (t .right) (now (rfollow .entry)) (now (rsets .entry)) → findingOf r ≡ inOrder (length (certificateAt (now (s .entry)) (t .from))) (eachPair (t .events) l g (certificateAt (now (s .entry)) (t .from)))) ⌝ }
 {
+    let mut missing: [u64; 64] = [0; 64];
+    let count = pair_count(s, t.from);
+    let mut start: usize = 0;
     let mut at: usize = t.from;
     let mut i: usize = 0;
     loop {
-        let found = pair_from(s, at);
-        let Pair::At { place, set, next } = found else {
+        let pair = pair_from(s, at);
+        let Pair::At { place, set, next } = pair else {
             return Fault::None;
         };
-        let got = pair_fault(s, t, i, index(place), set, lfollow, lsets, rfollow, rsets);
-        let Fault::None = got else {
-            return got;
+        let found = pair_fault(
+            s,
+            t,
+            count,
+            i,
+            index(place),
+            set,
+            start,
+            lfollow,
+            lsets,
+            rfollow,
+            rsets,
+            &mut missing,
+        );
+        let fault = found.fault;
+        let Fault::None = fault else {
+            return fault;
         };
+        start = found.start;
         at = next;
         i += 1;
     }

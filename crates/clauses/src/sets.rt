@@ -3,7 +3,8 @@ ghost use mathlib.Core.Path.{_≡_};
 ghost use Prim.Native.Nat.{ℕ, _≤_, _<_};
 ghost use lib.Dec.{ltb};
 ghost use Rattle.bits.specs.Bits.{has};
-ghost use Rattle.clauses.specs.Clauses.{rowHas, Lowest};
+ghost use Rattle.clauses.specs.Clauses.{misses, Lowest};
+use places::masks::both;
 use places::masks::member;
 
 // The numbers below n.
@@ -18,29 +19,37 @@ pub fn below(n: usize) -> u64
     }
 }
 
+// The set has the number k, which may be any.
+pub fn listed(set: u64, k: usize) -> bool
+    ensures { λ r. ⌜ r ≡ has set k ⌝ }
+{
+    if k < 64 { member(set, k) } else { false }
+}
+
+// The lesser of two numbers.
+pub fn least(a: usize, b: usize) -> usize
+    ensures { λ r. ⌜ (r ≤ a) × (r ≤ b) ⌝ }
+{
+    if a < b { a } else { b }
+}
+
 // The lowest number of the set below n; n where it has none.
 pub fn lowest(set: u64, n: usize) -> usize
     requires { ⌜ n ≤ 64 ⌝ }
     ensures { λ r. ⌜ Lowest n (λ k. has set k) r ⌝ }
 {
-    let mut k: usize = 0;
-    while k < n {
-        if member(set, k) {
-            return k;
-        }
-        k += 1;
-    }
-    k
+    let k = u64::trailing_zeros(set) as usize;
+    if k < n { k } else { n }
 }
 
-// The lowest row below n that has the number k; n where none has.
-pub fn lowest_row(rows: &[u64; 64], n: usize, k: usize) -> usize
+// The lowest number below n of the set whose row has the number k; n where there is none.
+pub fn lowest_row(rows: &[u64; 64], set: u64, n: usize, k: usize) -> usize
     requires { ⌜ (n ≤ 64) × (k < 64) ⌝ }
-    ensures { λ r. ⌜ Lowest n (λ q. rowHas (now (rows .entry)) q k) r ⌝ }
+    ensures { λ r. ⌜ Lowest n (λ q. misses set (now (rows .entry)) q k) r ⌝ }
 {
     let mut q: usize = 0;
     while q < n {
-        if member(rows[q], k) {
+        if both(member(set, q), member(rows[q], k)) {
             return q;
         }
         q += 1;

@@ -4,7 +4,7 @@ use mathlib.Core.Bool.{Bool, true, false, _||_}
 use mathlib.Core.Logic.{⊎-elim}
 use mathlib.Core.Option.{Option, none, some}
 use mathlib.Core.List.{List, [], _∷_}
-use Prim.Native.Nat.{ℕ, zero, suc, _+_, _-_, _*_, _≤_, _<_, zero-le}
+use Prim.Native.Nat.{ℕ, zero, suc, _+_, _*_, _≤_, _<_, zero-le}
 use native.Mathlib.Omega.{arith}
 use lib.Dec.{T, eqb, ltb, eqb→eq}
 use lib.ListN.{length, drop, getD, length-drop, List·getD-eq-default}
@@ -196,6 +196,11 @@ module _ (s : List ℕ) (from : ℕ) where
   pub pair-at : (i : ℕ) → i < length (certificateAt s from)
       → Onward s from i (from + 6 * i) (byteAt s (from + 6 * i + 1)) (setAt s (from + 6 * i + 2)) (from + 6 * i + 6)
   pair-at i l = reached-more s from i (from + 6 * i) (reached-at i (omega arith)) l
+
+  -- what is read there is pair i
+  pub pair-read : (i : ℕ) {place set : ℕ} → i < length (certificateAt s from) → place ≡ byteAt s (from + 6 * i + 1) → set ≡ setAt s (from + 6 * i + 2)
+      → pairOf (certificateAt s from) i ≡ pair place set
+  pair-read i l e f = pair-at i l .pair-is ∙ ap₂ (λ (p t : ℕ). pair p t) (sym e) (sym f)
 
   -- the certificate ends where it starts, or after a pair that stands in the sheet
   pub end-near : (n k : ℕ) → n ≡ length (certificateAt s from) → from < k → length s + 6 ≤ k → from + 6 * n < k

@@ -7,15 +7,15 @@ use Rattle.clauses.proofs.ends_too.Reads as reads
 use Rattle.clauses.proofs.ends_too.Lts as lts
 use Rattle.places.proofs.masks.member.Reads as member-reads
 
--- src/lib.rt:66:8
+-- src/lib.rt:83:8
 member-requires : tie.Need-member-requires
 member-requires c κs = search needs
 
--- src/lib.rt:62:1
+-- src/lib.rt:79:1
 returns : tie.Need-returns
 returns c = simp (sym (c .before .member .ensures) ∙ c .if1 .taken)
 
--- src/lib.rt:62:1
+-- src/lib.rt:79:1
 returns-2 : tie.Need-returns-2
 returns-2 c = simp (sym (c .before .member .ensures) ∙ c .if1 .left)
 

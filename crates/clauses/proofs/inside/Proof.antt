@@ -7,15 +7,15 @@ use Rattle.clauses.proofs.inside.Tie as tie
 use Rattle.clauses.proofs.inside.Reads as reads
 use Rattle.clauses.proofs.inside.Lts as lts
 
--- src/lib.rt:58:26
+-- src/lib.rt:75:26
 shl-result : tie.Need-shl-result
 shl-result c = search needs
 
--- src/lib.rt:54:1
+-- src/lib.rt:71:1
 returns : tie.Need-returns
 returns c = simp (lt-ltb _ _ (c .if1 .taken), one-shifted _ (c .before .pre))
 
--- src/lib.rt:54:1
+-- src/lib.rt:71:1
 returns-2 : tie.Need-returns-2
 returns-2 c = simp (le-ltb _ _ (c .if1 .left))
 

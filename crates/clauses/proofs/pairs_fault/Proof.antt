@@ -1,5 +1,5 @@
 -- `clauses::pairs_fault` meets its contract. The loop's invariant: the reader stands after i pairs, and these have no fault.
-use Prim.Native.Nat.{_-_}
+use Prim.Native.Nat.{_-_, _≤_, zero-le}
 use mathlib.Core.Path.{_≡_, refl, sym, ap, _∙_}
 use native.Mathlib.Omega.{arith}
 use native.Mathlib.Numerals.{add-one}
@@ -18,82 +18,89 @@ use Rattle.clauses.proofs.pairs_fault.Reads as reads
 use Rattle.clauses.proofs.pairs_fault.Lts as lts
 use Rattle.clauses.proofs.pair_fault.Reads as pair-fault-reads
 use Rattle.fields.proofs.index.Reads as index-reads
+use Rattle.pairs.proofs.pair_count.Reads as pair-count-reads
 use Rattle.pairs.proofs.pair_from.Reads as pair-from-reads
 
 abbrev Inv-loop : tie.InvT-loop
-Inv-loop s t lfollow lsets rfollow rsets at₀ i₀ at i = Reached s (t .from) i at × ((l g : Condition) → Tables l (t .left) lfollow lsets → Tables g (t .right) rfollow rsets → inOrder i (eachPair (t .events) l g (certificateAt s (t .from))) ≡ fine)
+Inv-loop s t lfollow lsets rfollow rsets missing₀ count start₀ at₀ i₀ missing start at i = Reached s (t .from) i at × ((l g : Condition) → Tables l (t .left) lfollow lsets → Tables g (t .right) rfollow rsets → inOrder i (eachPair (t .events) l g (certificateAt s (t .from))) ≡ fine) × (start ≤ count) × (length missing ≡ 64)
 
 abbrev μ-loop : tie.MeasureT-loop
-μ-loop s t lfollow lsets rfollow rsets at₀ i₀ at i = length s - at
+μ-loop s t lfollow lsets rfollow rsets missing₀ count start₀ at₀ i₀ missing start at i = length s - at
 
--- src/lib.rt:131:5
+-- src/lib.rt:163:9
+pair-count-requires : tie.Need-pair-count-requires Inv-loop μ-loop
+pair-count-requires c κs = search needs
+
+-- src/lib.rt:167:5
 loop-holds : tie.Need-loop-holds Inv-loop μ-loop
 unfolding inOrder
-loop-holds c = (reached-start _ _, λ l g tl tg. refl)
+loop-holds c = (reached-start _ _, λ l g tl tg. refl, zero-le, search needs)
 
--- src/lib.rt:132:13
+-- src/lib.rt:168:13
 pair-from-requires : tie.Need-pair-from-requires Inv-loop μ-loop
 pair-from-requires c κs = search needs
 
--- src/lib.rt:133:24
-enum-known-found : tie.Need-enum-known-found Inv-loop μ-loop
-enum-known-found c = search needs
+-- src/lib.rt:169:24
+enum-known-pair : tie.Need-enum-known-pair Inv-loop μ-loop
+enum-known-pair c = search needs
 
--- src/lib.rt:134:13
+-- src/lib.rt:170:13
 enum-told : tie.Need-enum-told Inv-loop μ-loop
 enum-told c = search needs
 
--- src/lib.rt:134:13
+-- src/lib.rt:170:13
 returns : tie.Need-returns Inv-loop μ-loop
 returns c = λ l g tl tg.
     let e = reached-end _ _ _ _ (c .before .before .before .loop .inv .0) (sym (c .before .before .pair-from .ensures) ∙ c .enum-told .given .1) in
     sym (rw e at (c .before .before .before .loop .inv .1 l g tl tg))
 
--- src/lib.rt:136:39
+-- src/lib.rt:177:13
 index-requires : tie.Need-index-requires Inv-loop μ-loop
 index-requires c κs = search needs
 
--- src/lib.rt:136:13
+-- src/lib.rt:172:13
 pair-fault-requires : tie.Need-pair-fault-requires Inv-loop μ-loop
-pair-fault-requires c κs = search needs
+pair-fault-requires c κs = (c .before .before .before .before .before .before .before .before .before .pre, (c .before .before .before .before .before .before .before .pair-count .ensures, c .before .before .before .before .before .before .loop .inv .2, c .before .before .before .before .before .before .loop .inv .3))
 
 enum-told-2 : tie.Need-enum-told-2 Inv-loop μ-loop
 enum-told-2 c = search needs
 
--- src/lib.rt:138:13
+-- src/lib.rt:188:13
 enum-told-3 : tie.Need-enum-told-3 Inv-loop μ-loop
 enum-told-3 c = search needs
 
--- src/lib.rt:138:13
+-- src/lib.rt:188:13
 returns-2 : tie.Need-returns-2 Inv-loop μ-loop
 returns-2 c = λ l g tl tg.
-    let a = c .before .before .before .before .before .before .before .before .before .before .args in
-    let o = reached-next _ _ _ _ (c .before .before .before .before .before .before .before .before .loop .inv .0) _ _ _ (sym (c .before .before .before .before .before .before .before .pair-from .ensures) ∙ c .before .before .before .before .before .found .given .1) in
+    let a = c .before .before .before .before .before .before .before .before .before .before .before .before .args in
+    let w = c .before .before .before .before .before .before .before .before .before .loop in
+    let o = reached-next _ _ _ _ (w .inv .0) _ _ _ (sym (c .before .before .before .before .before .before .before .before .pair-from .ensures) ∙ c .before .before .before .before .before .before .pair .given .1) in
     let d = certificateAt (a .s .now) (a .t .from) in
-    let i = c .before .before .before .before .before .before .before .before .loop .i in
-    first-found (length d) i (eachPair (a .t .events) l g d) (o .more) (c .before .before .before .before .before .before .before .before .loop .inv .1 l g tl tg)
-    (found-of (a .t .events) l g d i (o .pair-is) (c .before .before .before .index .ensures) (c .before .before .pair-fault .ensures l g tl tg)) (c .enum-told3 .given .1)
+    first-found (length d) (w .i) (eachPair (a .t .events) l g d) (o .more) (w .inv .1 l g tl tg)
+    (found-of (a .t .events) l g d (w .i) (o .pair-is) (c .before .before .before .before .index .ensures) (c .before .before .pair-fault .ensures .0 l g tl tg)) (c .enum-told3 .given .1)
 
--- src/lib.rt:141:9
+-- src/lib.rt:192:9
 add-i : tie.Need-add-i Inv-loop μ-loop
-add-i c = let r = c .before .before .before .before .before .before .before .before .loop .inv .0 in
-    let o = reached-next _ _ _ _ (c .before .before .before .before .before .before .before .before .loop .inv .0) _ _ _ (sym (c .before .before .before .before .before .before .before .pair-from .ensures) ∙ c .before .before .before .before .before .found .given .1) in
+add-i c = let r = c .before .before .before .before .before .before .before .before .before .loop .inv .0 in
+    let o = reached-next _ _ _ _ r _ _ _ (sym (c .before .before .before .before .before .before .before .before .pair-from .ensures) ∙ c .before .before .before .before .before .before .pair .given .1) in
     omega (arith, r .offset)
 
--- src/lib.rt:131:5
+-- src/lib.rt:167:5
 loop-less : tie.Need-loop-less Inv-loop μ-loop
-loop-less c = let o = reached-next _ _ _ _ (c .before .before .before .before .before .before .before .before .loop .inv .0) _ _ _ (sym (c .before .before .before .before .before .before .before .pair-from .ensures) ∙ c .before .before .before .before .before .found .given .1) in omega arith
+loop-less c = let o = reached-next _ _ _ _ (c .before .before .before .before .before .before .before .before .before .loop .inv .0) _ _ _ (sym (c .before .before .before .before .before .before .before .before .pair-from .ensures) ∙ c .before .before .before .before .before .before .pair .given .1) in omega arith
 
--- src/lib.rt:131:5
+-- src/lib.rt:167:5
 loop-again : tie.Need-loop-again Inv-loop μ-loop
-loop-again c = let a = c .before .before .before .before .before .before .before .before .before .before .args in
-    let o = reached-next _ _ _ _ (c .before .before .before .before .before .before .before .before .loop .inv .0) _ _ _ (sym (c .before .before .before .before .before .before .before .pair-from .ensures) ∙ c .before .before .before .before .before .found .given .1) in
-    let i = c .before .before .before .before .before .before .before .before .loop .i in (
-      rw (add-one i) (o .reached),
+loop-again c = let a = c .before .before .before .before .before .before .before .before .before .before .before .before .args in
+    let w = c .before .before .before .before .before .before .before .before .before .loop in
+    let o = reached-next _ _ _ _ (w .inv .0) _ _ _ (sym (c .before .before .before .before .before .before .before .before .pair-from .ensures) ∙ c .before .before .before .before .before .before .pair .given .1) in (
+      rw (add-one (w .i)) (o .reached),
       λ l g tl tg.
           let d = certificateAt (a .s .now) (a .t .from) in
-          fine-more i (eachPair (a .t .events) l g d) (c .before .before .before .before .before .before .before .before .loop .inv .1 l g tl tg)
-          (sym (found-of (a .t .events) l g d i (o .pair-is) (c .before .before .before .index .ensures) (c .before .before .pair-fault .ensures l g tl tg)) ∙ ap findingOf (c .enum-told2 .given .1)),
+          fine-more (w .i) (eachPair (a .t .events) l g d) (w .inv .1 l g tl tg)
+          (sym (found-of (a .t .events) l g d (w .i) (o .pair-is) (c .before .before .before .before .index .ensures) (c .before .before .pair-fault .ensures .0 l g tl tg)) ∙ ap findingOf (c .enum-told2 .given .1)),
+      c .before .before .pair-fault .ensures .1 .0,
+      c .before .before .pair-fault .ensures .1 .1,
     )
 
 pub pairs-fault-spec : {M : Type 1} → statement M
@@ -102,9 +109,10 @@ pairs-fault-spec =
     (tie.spec
     Inv-loop
     μ-loop
+    pair-count-requires
     loop-holds
     pair-from-requires
-    enum-known-found
+    enum-known-pair
     enum-told
     returns
     index-requires

@@ -12,19 +12,19 @@ use Rattle.clauses.proofs.sets.below.Tie as tie
 use Rattle.clauses.proofs.sets.below.Reads as reads
 use Rattle.clauses.proofs.sets.below.Lts as lts
 
--- src/sets.rt:30:10
+-- src/sets.rt:16:10
 shl-result : tie.Need-shl-result
 shl-result c = search needs
 
--- src/sets.rt:30:9
+-- src/sets.rt:16:9
 sub-result : tie.Need-sub-result
 sub-result c = rw (one-shifted (c .before .args .n) (c .if1 .taken)) (pow-pos (c .before .args .n))
 
--- src/sets.rt:25:1
+-- src/sets.rt:11:1
 returns : tie.Need-returns
 returns c = λ k. simp (one-shifted _ (c .if1 .taken)) (has-below _ k)
 
--- src/sets.rt:25:1
+-- src/sets.rt:11:1
 returns-2 : tie.Need-returns-2
 returns-2 c = λ k. let e : 64 ≡ c .before .args .n = omega arith in has-below 64 k ∙ ap (λ (n : ℕ). ltb k n) e
 

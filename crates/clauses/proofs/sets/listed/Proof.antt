@@ -1,0 +1,28 @@
+-- `clauses::sets::listed` meets its contract: a word has no number from 64 on.
+use native.Mathlib.Omega.{arith}
+use mathlib.Core.Bool.{false}
+use Rattle.bits.specs.Bits.{has}
+use Rattle.bits.proofs.Tests.{T-ext}
+use Rattle.bits.proofs.Sets.{has-lt}
+use borrow.Author.Needs.{needs}
+use Rattle.clauses.proofs.sets.listed.Statement.{statement}
+use Rattle.clauses.proofs.sets.listed.Tie as tie
+use Rattle.clauses.proofs.sets.listed.Reads as reads
+use Rattle.clauses.proofs.sets.listed.Lts as lts
+use Rattle.places.proofs.masks.member.Reads as member-reads
+
+-- src/sets.rt:26:17
+member-requires : tie.Need-member-requires
+member-requires c κs = search needs
+
+-- src/sets.rt:23:1
+returns : tie.Need-returns
+returns c = search needs
+
+-- src/sets.rt:23:1
+returns-2 : tie.Need-returns-2
+returns-2 c = let a = c .before .args in
+    T-ext false (has (a .set) (a .k)) (λ h. absurd h) (λ h. absurd (omega (arith, has-lt 64 (a .set) (a .k) (search needs) h)))
+
+pub listed-spec : {M : Type 1} → statement M
+listed-spec = tie.close (tie.spec member-requires returns returns-2)
