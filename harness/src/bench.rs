@@ -45,22 +45,18 @@ fn families() -> Vec<Family> {
             black_box((doors.load)(black_box(sheet)));
         }
     });
-    let (sheet, word) = sheets::long_word();
-    let word_work = Box::new(move |doors: &Doors| {
-        black_box((doors.word_test)(black_box(&sheet), 1, black_box(&word)));
-    });
     let read_sheet = sheets::many_rules();
     let read_name = format!("reading alone, {} bytes", read_sheet.len());
     let read_work = Box::new(move |doors: &Doors| {
         black_box((doors.read)(black_box(&read_sheet)).is_ok());
     });
-    let word_name = "word of 4,096 events, 31 leaves".to_string();
     vec![
         Family { name, work, parts },
         one_load("as many rules as fit", sheets::many_rules()),
         one_load("large honest certificate", sheets::large_certificate()),
         one_load("hostile certificate", sheets::hostile()),
-        Family { name: word_name, work: word_work, parts: 1 },
+        one_word("in the same places", sheets::steady_word()),
+        one_word("in changing places", sheets::changing_word()),
         Family { name: read_name, work: read_work, parts: 1 },
     ]
 }
@@ -70,6 +66,14 @@ fn one_load(name: &str, sheet: Vec<u8>) -> Family {
     let name = format!("{name}, {} bytes, {pairs} pairs", sheet.len());
     let work = Box::new(move |doors: &Doors| {
         black_box((doors.load)(black_box(&sheet)));
+    });
+    Family { name, work, parts: 1 }
+}
+
+fn one_word(name: &str, (sheet, word): (Vec<u8>, Vec<u8>)) -> Family {
+    let name = format!("word of 4,096 events on 31 leaves, {name}");
+    let work = Box::new(move |doors: &Doors| {
+        black_box((doors.word_test)(black_box(&sheet), 1, black_box(&word)));
     });
     Family { name, work, parts: 1 }
 }

@@ -11,7 +11,9 @@ use crate::naive;
 use crate::random::Random;
 #[cfg(test)]
 pub use draft::{certificate, Draft, Step};
-pub use families::{hostile, large_certificate, long_word, many_rules, small_honest};
+pub use families::{
+    changing_word, hostile, large_certificate, many_rules, small_honest, steady_word,
+};
 #[cfg(test)]
 pub use stray::{least, row};
 pub use words::{words, Test};

@@ -16,7 +16,7 @@ const PAINT: u8 = 0xA5;
 pub fn stack(all: &[Doors]) {
     println!("| call | loader | bytes of stack |");
     println!("|---|---|---|");
-    let (word_sheet, word) = sheets::long_word();
+    let (word_sheet, word) = sheets::steady_word();
     let loads = [
         ("load, as many rules as fit", sheets::many_rules()),
         ("load, hostile certificate", sheets::hostile()),

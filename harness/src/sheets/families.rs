@@ -89,10 +89,20 @@ pub fn hostile() -> Vec<u8> {
     out
 }
 
-/// A sheet whose condition 1 has 31 leaves, and a word of 4,096 events of it.
-pub fn long_word() -> (Vec<u8>, Vec<u8>) {
+/// A sheet whose condition 1 has 31 leaves, and a word of 4,096 events of it
+/// that stays in the same places.
+pub fn steady_word() -> (Vec<u8>, Vec<u8>) {
+    with_word(row(31).star())
+}
+
+/// The same with a word that changes between two sets of places.
+pub fn changing_word() -> (Vec<u8>, Vec<u8>) {
+    with_word(row(15).join(row(16)).star())
+}
+
+fn with_word(tree: Tree) -> (Vec<u8>, Vec<u8>) {
     let mut draft = least();
-    draft.conditions.push(row(31).star());
+    draft.conditions.push(tree);
     let word = (0..4_096).map(|i| (i % 32) as u8).collect();
     (draft.certified(), word)
 }
