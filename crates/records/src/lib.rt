@@ -22,7 +22,7 @@ pub enum Refusal {
 }
 
 // Body lengths by kind, 1 to 14.
-const BODY_LENGTHS: [usize; 14] = [4, 0, 0, 0, 0, 0, 6, 6, 10, 5, 6, 4, 5, 0];
+const BODY_LENGTHS: [u8; 14] = [4, 0, 0, 0, 0, 0, 6, 6, 10, 5, 6, 4, 5, 0];
 
 // A record with the offset after it, or the refusal that ends reading.
 pub enum Found {
@@ -41,7 +41,7 @@ pub fn record_at(s: &[u8], at: usize) -> Found
     if 14 < kind {
         return Found::Refused(Refusal::UnknownKind(at));
     }
-    let next = at + 1 + BODY_LENGTHS[index(kind) - 1];
+    let next = at + 1 + index(BODY_LENGTHS[index(kind) - 1]);
     if s.len() < next {
         return Found::Refused(Refusal::BodyPastEnd(at));
     }

@@ -21,31 +21,31 @@ add-next c = let a = c .before .before .before .before .args in omega (arith, in
 index-requires : tie.Need-index-requires
 index-requires c κs = search needs
 
-sub-next : tie.Need-sub-next
-sub-next c = search needs
+sub-index : tie.Need-sub-index
+sub-index c = search needs
 
-mul-next : tie.Need-mul-next
-mul-next c = search needs
+array-read-index : tie.Need-array-read-index
+array-read-index c = search needs
 
-array-read-next : tie.Need-array-read-next
-array-read-next c = search needs
+index-requires-2 : tie.Need-index-requires-2
+index-requires-2 c κs = search needs
 
 add-next-2 : tie.Need-add-next-2
 add-next-2 c =
-    let a = c .before .before .before .before .before .args in
-    omega (arith, inside (a .s .now) (a .at) (omega arith), next-by (a .s .now) (a .at) (c .index .result) (omega arith) (omega arith), next-le (a .s .now) (a .at))
+    let a = c .before .before .before .before .before .before .args in
+    omega (arith, c .index2 .ensures, inside (a .s .now) (a .at) (omega arith), next-by (a .s .now) (a .at) (c .before .index .result) (omega arith) (omega arith), next-le (a .s .now) (a .at))
 
 returns-3 : tie.Need-returns-3
 returns-3 c =
-    let a = c .before .before .before .before .before .before .args in
-    let next = next-by (a .s .now) (a .at) (c .before .index .result) (omega arith) (omega arith) in
-    sym (body-past-end (a .s .now) (a .at) (omega arith) (omega arith) (omega arith))
+    let a = c .before .before .before .before .before .before .before .args in
+    let next = next-by (a .s .now) (a .at) (c .before .before .index .result) (omega arith) (omega arith) in
+    sym (body-past-end (a .s .now) (a .at) (omega arith) (omega arith) (omega (arith, c .before .index2 .ensures, next)))
 
 returns-4 : tie.Need-returns-4
 returns-4 c =
-    let a = c .before .before .before .before .before .before .args in
-    let next = next-by (a .s .now) (a .at) (c .before .index .result) (omega arith) (omega arith) in
-    cc (next, c .before .before .before .before .byte-at .ensures, whole-record (a .s .now) (a .at) (omega arith) (omega arith) (omega arith))
+    let a = c .before .before .before .before .before .before .before .args in
+    let next = next-by (a .s .now) (a .at) (c .before .before .index .result) (omega arith) (omega arith) in
+    cc (next, c .before .index2 .ensures, c .before .before .before .before .before .byte-at .ensures, whole-record (a .s .now) (a .at) (omega arith) (omega arith) (omega (arith, c .before .index2 .ensures, next)))
 
 pub record-at-spec : {M : Type 1} → statement M
 record-at-spec =
@@ -56,9 +56,9 @@ record-at-spec =
     returns-2
     add-next
     index-requires
-    sub-next
-    mul-next
-    array-read-next
+    sub-index
+    array-read-index
+    index-requires-2
     add-next-2
     returns-3
     returns-4)
