@@ -1,2 +1,4 @@
-pub mod Laws
+pub mod Tried
+pub mod Claimed
+pub mod Subjects
 pub mod Sums

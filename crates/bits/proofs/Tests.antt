@@ -83,3 +83,8 @@ pub all-in : (n : ℕ) (f : ℕ → Bool) → ((k : ℕ) → k < n → T (f k)) 
 unfolding allBelow
 all-in zero f h = tt
 all-in (suc n) f h = and-in (allBelow n f) (f n) (all-in n f (λ k l. h k (omega arith))) (h n (le-refl (suc n)))
+
+pub all-cong : (n : ℕ) (f g : ℕ → Bool) → ((k : ℕ) → k < n → f k ≡ g k) → allBelow n f ≡ allBelow n g
+unfolding allBelow
+all-cong zero f g e = refl
+all-cong (suc n) f g e = ap₂ (λ (x y : Bool). x && y) (all-cong n f g (λ k l. e k (omega arith))) (e n (le-refl (suc n)))

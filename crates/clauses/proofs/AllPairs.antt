@@ -1,12 +1,12 @@
 -- Clause 1, and then the pairs in order.
-use mathlib.Core.Path.{_≡_, refl, sym, ap, ap₂, _∙_}
-use mathlib.Core.Bool.{Bool, false, _&&_}
+use mathlib.Core.Path.{_≡_, refl, sym, ap, ap₂, _∙_, subst}
+use mathlib.Core.Bool.{Bool, true, false, _&&_}
 use mathlib.Core.List.{List}
 use Prim.Native.Nat.{ℕ, _+_, _<_}
 use native.Mathlib.Numerals.{add-one}
 use lib.ListN.{length}
-use lib.Dec.{eqb}
-use borrow.Author.Tests.{eq-eqb, ne-eqb}
+use lib.Dec.{eqb, ltb}
+use borrow.Author.Tests.{eq-eqb, ne-eqb, ltb-true, ltb-false}
 use Rattle.condition.specs.Condition.{Condition}
 use Rattle.certificate.specs.Certificate.{Pair, pair, Certificate, pairOf, Finding, fine, fault, _then_, inOrder, unless, startsRight, pairFinding, check}
 use Rattle.certificate.proofs.Findings.{is-fine, inOrder-stops}
@@ -14,9 +14,25 @@ use Rattle.sheet.specs.Decode.{certificateAt}
 use Rattle.pairs.specs.Found.{pairFound}
 use Rattle.pairs.specs.declared.Pair.the-variants.{At as PairAt, End}
 use Rattle.pairs.proofs.Laws.{certificate-pair, certificate-none}
-use Rattle.clauses.specs.Clauses.{findingOf, eachPair}
+use Rattle.clauses.specs.Clauses.{findingOf, eachPair, PlacesOf, Active, Kept}
 use Rattle.clauses.specs.declared.Fault.{Fault}
 use Rattle.clauses.specs.declared.Fault.the-variants.{At}
+
+-- The number of a side's places is one number --------------------------------------------------------------------------
+
+places-same : {leaves m k : ℕ} → PlacesOf leaves m → PlacesOf leaves k → m ≡ k
+places-same {leaves} {m} {k} a b = go (ltb 62 leaves) refl
+  where
+    go : (t : Bool) → ltb 62 leaves ≡ t → m ≡ k
+    go true e = let l = ltb-true 62 leaves e in a .most l ∙ sym (b .most l)
+    go false e = let l = ltb-false 62 leaves e in a .places-is l ∙ sym (b .places-is l)
+
+-- so what is known of one is known of the other
+pub kept-same : {c : Certificate} {leaves m : ℕ} {sets rows : List ℕ} → PlacesOf leaves m → Kept c m sets rows → (k : ℕ) → PlacesOf leaves k → Kept c k sets rows
+kept-same {c} {leaves} {m} {sets} {rows} p h k q = subst (λ (n : ℕ). Kept c n sets rows) (places-same p q) h
+
+pub active-same : {leaves n events x : ℕ} {sets : List ℕ} → PlacesOf leaves n → Active sets n events x → (k : ℕ) → PlacesOf leaves k → Active sets k events x
+active-same {leaves} {n} {events} {x} {sets} p h k q = subst (λ (n : ℕ). Active sets n events x) (places-same p q) h
 
 -- Tests in order --------------------------------------------------------------------------------------------------------
 

@@ -1,19 +1,20 @@
 -- The first fault of clause 4: the lowest event that is missing at some place, and the lowest place that misses it.
-use mathlib.Core.Path.{_≡_, refl, sym, ap, _∙_}
+use mathlib.Core.Path.{_≡_, refl, sym, ap, _∙_, subst}
 use mathlib.Core.Bool.{Bool, true, false, not, _&&_}
 use mathlib.Core.List.{List}
 use Prim.Native.Nat.{ℕ, _≤_, _<_}
 use native.Mathlib.Omega.{arith}
 use lib.ListN.{length, getD}
-use lib.Dec.{T, ltb}
-use borrow.Author.Tests.{lt-ltb, ltb-true, ltb-false}
+use lib.Dec.{T, ltb, lt→ltb}
+use lib.Bits.{bitAnd}
+use borrow.Author.Tests.{ltb-true, ltb-false}
 use Rattle.bits.specs.Bits.{_⇒_, has, anyBelow}
-use Rattle.bits.proofs.Tests.{T-true, any-in, any-out}
+use Rattle.bits.proofs.Tests.{T-true, T-ext, and-out, and-in, any-in, any-out}
 use Rattle.bits.proofs.Masks.{has-and}
 use Rattle.certificate.specs.Certificate.{Certificate, fine, fault, inOrder, unless}
 use Rattle.certificate.proofs.Findings.{Fine, fine-is, unless-in, inOrder-in, inOrder-stops, inOrder-cong}
-use Rattle.clauses.specs.Clauses.{rowHas, gathered, Lowest, servedBy, misses, Wanted, Served, missingAt, unlistedAt}
-use Rattle.clauses.proofs.Serving.{served-round}
+use Rattle.clauses.specs.Clauses.{rowHas, gathered, Lowest, servedBy, misses, Active, Wanted, Served, missingAt, unlistedAt}
+use Rattle.clauses.proofs.Serving.{served-is}
 
 T-of : {b : Bool} → b ≡ true → T b
 T-of e = rw e tt
@@ -69,29 +70,49 @@ module _ (missers : ℕ) (rows : List ℕ) (n i all : ℕ) (all-is : (k : ℕ) �
 
 -- In the certificate --------------------------------------------------------------------------------------------------
 
--- wanted by a follower that holds the event, and not served
-one-test : (f r m s : Bool) → m ≡ true → not (f && (r && m) && not s) ≡ ((f && r) ⇒ s)
-one-test true true m true e = rw e
-one-test true true m false e = rw e
-one-test true false m s e = refl
-one-test false r m s e = refl
+-- wanted, and not served
+one-test : (w s : Bool) → not (w && not s) ≡ (w ⇒ s)
+one-test true true = refl
+one-test true false = refl
+one-test false s = refl
 
-module _ (c : Certificate) (followers mask : ℕ) (lsets : List ℕ) (m onward : ℕ) (rsets : List ℕ) {missers missers′ missers″ : ℕ} {rows rows′ rows″ : List ℕ} where
-  pub unlisted-is : {count start stop : ℕ} (events n i : ℕ) → ((k : ℕ) → has mask k ≡ ltb k events) → count ≡ length c
-      → Wanted followers lsets mask missers rows → Served c m onward rsets start count missers rows missers′ rows′
-      → Served c m onward rsets 0 stop missers′ rows′ missers″ rows″ → start ≤ stop → stop ≤ count
-      → inOrder events (missingAt n i missers″ rows″) ≡ inOrder events (unlistedAt c n i followers lsets m onward rsets)
-  unlisted-is {count} events n i mask-is count-is w ahead rest h k =
-      inOrder-cong events (missingAt n i missers″ rows″) (unlistedAt c n i followers lsets m onward rsets)
-      (λ e a. inOrder-cong n (λ l. unless (not (misses missers″ rows″ l e)) (fault 4 i e l)) _
-      (λ l b. ap (λ (x : Bool). unless x (fault 4 i e l)) (test e l a)))
+module _ (events n followers alive mask : ℕ) (lsets : List ℕ) (mask-is : (k : ℕ) → has mask k ≡ ltb k events) (a : Active lsets n events alive)
+    {rows : List ℕ} (w : Wanted (bitAnd followers alive) lsets mask rows) where
+  -- the followers want what their leaves hold
+  wanted-is : (l e : ℕ) → l < n → e < events → misses (bitAnd followers alive) rows l e ≡ (has followers l && rowHas lsets l e)
+  wanted-is l e h k = T-ext (misses (bitAnd followers alive) rows l e) (has followers l && rowHas lsets l e) forth back
     where
-      test : (e l : ℕ) → e < events
-          → not (misses missers″ rows″ l e) ≡ ((has followers l && rowHas lsets l e) ⇒ servedBy c m onward rsets (length c) l e)
-      test e l a =
+      both : has (bitAnd followers alive) l ≡ (has followers l && has alive l)
+      both = has-and followers alive l
+
+      row-is : T (has (bitAnd followers alive) l) → rowHas rows l e ≡ (rowHas lsets l e && has mask e)
+      row-is t = ap (λ (x : ℕ). has x e) (w .row l t) ∙ has-and (getD lsets l 0) mask e
+
+      forth : T (misses (bitAnd followers alive) rows l e) → T (has followers l && rowHas lsets l e)
+      forth t =
+          let (x, y) = and-out (has (bitAnd followers alive) l) (rowHas rows l e) t in
+          and-in (has followers l) (rowHas lsets l e)
+          (and-out (has followers l) (has alive l) (subst T both x) .0)
+          (and-out (rowHas lsets l e) (has mask e) (subst T (row-is x) y) .0)
+
+      back : T (has followers l && rowHas lsets l e) → T (misses (bitAnd followers alive) rows l e)
+      back t =
+          let (x, y) = and-out (has followers l) (rowHas lsets l e) t in
+          let z = subst T (sym both) (and-in (has followers l) (has alive l) x (a .holds l e h k y)) in
+          and-in (has (bitAnd followers alive) l) (rowHas rows l e) z
+          (subst T (sym (row-is z)) (and-in (rowHas lsets l e) (has mask e) y (subst T (sym (mask-is e)) (lt→ltb e events k))))
+
+  pub unlisted-is : (c : Certificate) (i m onward : ℕ) (rsets : List ℕ) {missers : ℕ} {rows′ : List ℕ} → Served c m onward rsets (bitAnd followers alive) rows missers rows′
+      → inOrder events (missingAt n i missers rows′) ≡ inOrder events (unlistedAt c n i followers lsets m onward rsets)
+  unlisted-is c i m onward rsets {missers} {rows′} s =
+      inOrder-cong events (missingAt n i missers rows′) (unlistedAt c n i followers lsets m onward rsets)
+      (λ e k. inOrder-cong n (λ l. unless (not (misses missers rows′ l e)) (fault 4 i e l)) _
+      (λ l h. ap (λ (x : Bool). unless x (fault 4 i e l)) (test e l h k)))
+    where
+      test : (e l : ℕ) → l < n → e < events
+          → not (misses missers rows′ l e) ≡ ((has followers l && rowHas lsets l e) ⇒ servedBy c m onward rsets (length c) l e)
+      test e l h k =
           ap (λ (x : Bool). not x)
-          (served-round c m onward rsets ahead rest h k l e
-          ∙ ap (λ (k : ℕ). misses missers rows l e && not (servedBy c m onward rsets k l e)) count-is
-          ∙ ap (λ (x : Bool). x && not (servedBy c m onward rsets (length c) l e))
-          (w .wanted l e ∙ ap (λ (x : Bool). has followers l && x) (has-and (getD lsets l 0) mask e)))
-          ∙ one-test (has followers l) (rowHas lsets l e) (has mask e) (servedBy c m onward rsets (length c) l e) (mask-is e ∙ lt-ltb e events a)
+          (served-is c m onward rsets s l e
+          ∙ ap (λ (x : Bool). x && not (servedBy c m onward rsets (length c) l e)) (wanted-is l e h k))
+          ∙ one-test (has followers l && rowHas lsets l e) (servedBy c m onward rsets (length c) l e)

@@ -22,10 +22,11 @@ findingOf (At c i e l) = fault c i e l
 abbrev pub eachPair : ℕ → Condition → Condition → Certificate → ℕ → Finding
 eachPair events l g c i = pairFinding events l g c i (pairOf c i)
 
--- r is the number of places of a side with so many leaves, where these are as few as tables have
+-- r is the number of places of a side with so many leaves, where these are as few as tables have, and else 63
 pub record PlacesOf (leaves r : ℕ) : Type 0 where
   pub few : r < 64
   pub places-is : leaves ≤ 62 → r ≡ suc leaves
+  pub most : 62 < leaves → r ≡ 63
 
 -- Tables of sets --------------------------------------------------------------------------------------------------------
 
@@ -65,18 +66,28 @@ servedBy c m onward sets j q e = anyBelow j (λ i. serves m onward sets q e (pai
 abbrev pub misses : ℕ → List ℕ → ℕ → ℕ → Bool
 misses missers rows q e = has missers q && rowHas rows q e
 
--- each follower misses the events of the mask that it holds
-pub record Wanted (followers : ℕ) (sets : List ℕ) (mask missers : ℕ) (rows : List ℕ) : Type 0 where
-  pub long : length rows ≡ 64
-  pub wanted : (q e : ℕ) → misses missers rows q e ≡ (has followers q && has (bitAnd (getD sets q 0) mask) e)
+-- the set has the places below n whose leaf holds one of the first events
+pub record Active (sets : List ℕ) (n events set : ℕ) : Type 0 where
+  pub is : (q : ℕ) → T (has set q) → q < n
+  pub holds : (q e : ℕ) → q < n → e < events → T (rowHas sets q e) → T (has set q)
 
--- what the pairs from number a up to b leave: an event that is missing still was missing, and none of these pairs serves it; an event that was
--- missing is missing still, or one of the pairs up to b serves it
-pub record Served (c : Certificate) (m onward : ℕ) (sets : List ℕ) (a b missers : ℕ) (rows : List ℕ) (missers′ : ℕ) (rows′ : List ℕ) : Type 0 where
+-- the rows of the places `missers` are the events of the mask that each holds
+pub record Wanted (missers : ℕ) (sets : List ℕ) (mask : ℕ) (rows : List ℕ) : Type 0 where
+  pub long : length rows ≡ 64
+  pub row : (q : ℕ) → T (has missers q) → getD rows q 0 ≡ bitAnd (getD sets q 0) mask
+
+-- row i has the events that each place of pair i's set holds, of the pairs below 64
+pub record Kept (c : Certificate) (m : ℕ) (sets rows : List ℕ) : Type 0 where
+  pub long : length rows ≡ 64
+  pub row : (i e : ℕ) → i < 64 → i < length c → e < 64 → rowHas rows i e ≡ allHold m sets (pairOf c i .set) e
+
+-- what the pairs leave: an event that is missing still was missing, and none of the pairs serves it; an event that was missing is missing
+-- still, or one of the pairs serves it
+pub record Served (c : Certificate) (m onward : ℕ) (sets : List ℕ) (missers : ℕ) (rows : List ℕ) (missers′ : ℕ) (rows′ : List ℕ) : Type 0 where
   pub long : length rows′ ≡ 64
   pub was : (q e : ℕ) → T (misses missers′ rows′ q e) → T (misses missers rows q e)
-  pub unmet : (q e : ℕ) → T (misses missers′ rows′ q e) → (j : ℕ) → a ≤ j → j < b → serves m onward sets q e (pairOf c j) ≡ false
-  pub met : (q e : ℕ) → T (misses missers rows q e) → T (misses missers′ rows′ q e) ⊎ T (servedBy c m onward sets b q e)
+  pub unmet : (q e : ℕ) → T (misses missers′ rows′ q e) → servedBy c m onward sets (length c) q e ≡ false
+  pub met : (q e : ℕ) → T (misses missers rows q e) → T (misses missers′ rows′ q e) ⊎ T (servedBy c m onward sets (length c) q e)
 
 -- the fault of the lowest place below n that misses the event e
 abbrev pub missingAt : ℕ → ℕ → ℕ → List ℕ → ℕ → Finding

@@ -1,6 +1,6 @@
 // The clauses of a certificate: its first fault, found in the sheet's own bytes with the tables of the two sides.
 ghost use mathlib.Core.Path.{_≡_};
-ghost use Prim.Native.Nat.{_+_, _≤_, _<_, _^_};
+ghost use Prim.Native.Nat.{ℕ, _+_, _≤_, _<_, _^_};
 ghost use mathlib.Core.Bool.{not, _&&_};
 ghost use lib.Dec.{eqb, ltb};
 ghost use lib.Bits.{bitAnd};
@@ -10,10 +10,9 @@ ghost use Rattle.condition.specs.Condition.{Condition};
 ghost use Rattle.certificate.specs.Certificate.{pair, fault, pairFinding, inOrder, check};
 ghost use Rattle.sheet.specs.Decode.{certificateAt};
 ghost use Rattle.places.specs.Tables.{Tables};
-ghost use Rattle.clauses.specs.Clauses.{findingOf, eachPair, PlacesOf};
+ghost use Rattle.clauses.specs.Clauses.{findingOf, eachPair, PlacesOf, Active, Kept};
 use fields::index;
 use pairs::Pair;
-use pairs::pair_count;
 use pairs::pair_from;
 use places::Side;
 use places::masks::gather;
@@ -96,16 +95,19 @@ pub fn pair_fault(
     place: usize,
     set: u64,
     start: usize,
+    alive: u64,
     lfollow: &[u64; 64],
     lsets: &[u64; 64],
     rfollow: &[u64; 64],
     rsets: &[u64; 64],
+    shared: &[u64; 64],
     missing: &mut [u64; 64],
 ) -> Found
     requires { ⌜ t .events ≤ 64 ⌝ }
-    requires { ⌜ (count ≡ length (certificateAt (now s) (t .from))) × (start ≤ count) × (length (now missing) ≡ 64) ⌝ }
+    requires { ⌜ (count ≡ length (certificateAt (now s) (t .from))) × (length (now missing) ≡ 64) ⌝ }
+    requires { ⌜ ((m : ℕ) → PlacesOf (t .right .leaves) m → Kept (certificateAt (now s) (t .from)) m (now rsets) (now shared)) ⌝ }
+    requires { ⌜ ((n : ℕ) → PlacesOf (t .left .leaves) n → Active (now lsets) n (t .events) alive) ⌝ }
     ensures finding { λ r. ⌜ ((l g : Condition) → Tables l (t .left) (now (lfollow .entry)) (now (lsets .entry)) → Tables g (t .right) (now (rfollow .entry)) (now (rsets .entry)) → findingOf (r .fault) ≡ pairFinding (t .events) l g (certificateAt (now (s .entry)) (t .from)) i (pair place set)) ⌝ }
-    ensures next { λ r. ⌜ r .start ≤ count ⌝ }
     ensures rows { λ _. ⌜ length (now (missing .exit)) ≡ 64 ⌝ }
 {
     let left = t.left;
@@ -128,10 +130,12 @@ pub fn pair_fault(
                 events,
                 n,
                 followers,
+                alive,
                 lsets,
                 m,
                 onward,
                 rsets,
+                shared,
                 start,
                 missing,
             );
@@ -147,7 +151,7 @@ pub fn pair_fault(
     }
 }
 
-// Clauses 2 to 4 of all pairs, in order.
+// Clauses 2 to 4 of all pairs, in order. `missing` and `shared` are room for the search.
 pub fn pairs_fault(
     s: &[u8],
     t: Inclusion,
@@ -155,12 +159,19 @@ pub fn pairs_fault(
     lsets: &[u64; 64],
     rfollow: &[u64; 64],
     rsets: &[u64; 64],
+    missing: &mut [u64; 64],
+    shared: &mut [u64; 64],
 ) -> Fault
     requires { ⌜ t .events ≤ 64 ⌝ }
-    ensures { λ r. ⌜ ((l g : Condition) → Tables l (t .left) (now (lfollow .entry)) (now (lsets .entry)) → Tables g (t .right) (now (rfollow .entry)) (now (rsets .entry)) → findingOf r ≡ inOrder (length (certificateAt (now (s .entry)) (t .from))) (eachPair (t .events) l g (certificateAt (now (s .entry)) (t .from)))) ⌝ }
+    requires { ⌜ (length (now missing) ≡ 64) × (length (now shared) ≡ 64) ⌝ }
+    ensures finding { λ r. ⌜ ((l g : Condition) → Tables l (t .left) (now (lfollow .entry)) (now (lsets .entry)) → Tables g (t .right) (now (rfollow .entry)) (now (rsets .entry)) → findingOf r ≡ inOrder (length (certificateAt (now (s .entry)) (t .from))) (eachPair (t .events) l g (certificateAt (now (s .entry)) (t .from)))) ⌝ }
+    ensures room { λ _. ⌜ (length (now (missing .exit)) ≡ 64) × (length (now (shared .exit)) ≡ 64) ⌝ }
 {
-    let mut missing: [u64; 64] = [0; 64];
-    let count = pair_count(s, t.from);
+    let left = t.left;
+    let right = t.right;
+    let events = t.events;
+    let count = missing::survey(s, t.from, places_of(right), rsets, shared);
+    let alive = missing::active(lsets, places_of(left), events);
     let mut start: usize = 0;
     let mut at: usize = t.from;
     let mut i: usize = 0;
@@ -177,11 +188,13 @@ pub fn pairs_fault(
             index(place),
             set,
             start,
+            alive,
             lfollow,
             lsets,
             rfollow,
             rsets,
-            &mut missing,
+            shared,
+            missing,
         );
         let fault = found.fault;
         let Fault::None = fault else {
@@ -205,9 +218,13 @@ pub fn first_fault(
     right: Side,
     rfollow: &[u64; 64],
     rsets: &[u64; 64],
+    missing: &mut [u64; 64],
+    shared: &mut [u64; 64],
 ) -> Fault
     requires { ⌜ events ≤ 64 ⌝ }
-    ensures { λ r. ⌜ ((l g : Condition) → Tables l left (now (lfollow .entry)) (now (lsets .entry)) → Tables g right (now (rfollow .entry)) (now (rsets .entry)) → findingOf r ≡ check events l g (certificateAt (now (s .entry)) from)) ⌝ }
+    requires { ⌜ (length (now missing) ≡ 64) × (length (now shared) ≡ 64) ⌝ }
+    ensures finding { λ r. ⌜ ((l g : Condition) → Tables l left (now (lfollow .entry)) (now (lsets .entry)) → Tables g right (now (rfollow .entry)) (now (rsets .entry)) → findingOf r ≡ check events l g (certificateAt (now (s .entry)) from)) ⌝ }
+    ensures room { λ _. ⌜ (length (now (missing .exit)) ≡ 64) × (length (now (shared .exit)) ≡ 64) ⌝ }
 {
     let found = pair_from(s, from);
     let Pair::At {
@@ -230,5 +247,5 @@ pub fn first_fault(
         left,
         right,
     };
-    pairs_fault(s, t, lfollow, lsets, rfollow, rsets)
+    pairs_fault(s, t, lfollow, lsets, rfollow, rsets, missing, shared)
 }

@@ -1,24 +1,28 @@
 // Clause 4 of a pair: the events that are missing at each follower of its place, until a pair of that follower serves them. The table `missing`
 // has a row for each place; only the rows of the places `missers` count.
 ghost use mathlib.Core.Path.{_≡_};
-ghost use mathlib.Core.Bool.{not, _&&_};
+ghost use mathlib.Core.Bool.{cond};
 ghost use Prim.Native.Nat.{ℕ, _≤_, _<_};
+ghost use lib.Dec.{ltb};
 ghost use lib.ListN.{length};
 ghost use Rattle.bits.specs.Bits.{has};
-ghost use Rattle.certificate.specs.Certificate.{inOrder};
+ghost use Rattle.certificate.specs.Certificate.{Certificate, pairOf, inOrder};
 ghost use Rattle.sheet.specs.Decode.{certificateAt};
-ghost use Rattle.clauses.specs.Clauses.{findingOf, Wanted, Served, serving, missingAt, unlistedAt};
+ghost use Rattle.clauses.specs.Clauses.{findingOf, Active, Wanted, allHold, Kept, Served, missingAt, unlistedAt};
 use super::Fault;
 use super::Found;
-use super::sets::below;
 use super::sets::least;
 use super::sets::listed;
 use super::sets::lowest;
 use super::sets::lowest_row;
-use fields::byte_at;
+use super::sets::without;
 use fields::index;
-use fields::set_at;
+use pairs::Pair;
+use pairs::listed_at;
+use pairs::pair_from;
+use places::masks::below;
 use places::masks::bit;
+use places::masks::both;
 use places::masks::chosen;
 use places::masks::gather;
 
@@ -28,88 +32,135 @@ pub struct Rest {
     pub lowest: usize,
 }
 
-// The row of each follower becomes the events of `mask` that its leaf holds. It returns the followers that miss an event.
-pub fn want(followers: u64, sets: &[u64; 64], mask: u64, missing: &mut [u64; 64]) -> u64
-    requires { ⌜ length (now missing) ≡ 64 ⌝ }
-    ensures { λ r. ⌜ Wanted followers (now (sets .entry)) mask r (now (missing .exit)) ⌝ }
+// The places below n whose leaf holds an event.
+pub fn active(sets: &[u64; 64], n: usize, events: usize) -> u64
+    requires { ⌜ (n ≤ 64) × (events ≤ 64) ⌝ }
+    ensures { λ r. ⌜ Active (now (sets .entry)) n events r ⌝ }
 {
-    let mut missers: u64 = 0;
-    let mut rest: u64 = followers;
-    // the lowest follower of the rest, and then the rest without it
-    while rest != 0 {
-        let q = u64::trailing_zeros(rest) as usize;
-        let events = sets[q] & mask;
-        missing[q] = events;
-        missers = missers | chosen(events != 0, bit(q));
-        rest = rest & (rest - 1);
+    let mask = below(events);
+    let mut found: u64 = 0;
+    let mut q: usize = 0;
+    while q < n {
+        found = found | chosen(sets[q] & mask != 0, bit(q));
+        q += 1;
     }
-    missers
+    found
 }
 
-// What a set leaves of the events that are missing: it serves those that each of its places holds, if it lies within `onward`.
-pub fn unserved(missing: u64, set: u64, m: usize, onward: u64, sets: &[u64; 64]) -> u64
-    requires { ⌜ m ≤ 64 ⌝ }
-    ensures { λ r. ⌜ ((e : ℕ) → has r e ≡ (has missing e && not (serving m onward (now (sets .entry)) set e))) ⌝ }
+// The row of each place of `missers` becomes the events of `mask` that its leaf holds.
+pub fn want(missers: u64, sets: &[u64; 64], mask: u64, missing: &mut [u64; 64])
+    requires { ⌜ length (now missing) ≡ 64 ⌝ }
+    ensures { λ _. ⌜ Wanted missers (now (sets .entry)) mask (now (missing .exit)) ⌝ }
 {
-    if missing == 0 {
-        return 0;
+    let mut rest: u64 = missers;
+    // the lowest place of the rest, and then the rest without it
+    while rest != 0 {
+        let q = u64::trailing_zeros(rest) as usize;
+        missing[q] = sets[q] & mask;
+        rest = rest & (rest - 1);
     }
-    if set & onward != set {
-        return missing;
-    }
-    let mut served: u64 = missing;
-    let mut rest: u64 = set;
+}
+
+// The events that each place of the set below m holds.
+pub fn meet(set: u64, m: usize, sets: &[u64; 64]) -> u64
+    requires { ⌜ m ≤ 64 ⌝ }
+    ensures { λ r. ⌜ ((e : ℕ) → e < 64 → has r e ≡ allHold m (now (sets .entry)) set e) ⌝ }
+{
+    let mut events: u64 = 18446744073709551615;
+    let mut rest: u64 = set & below(m);
     // the lowest place of the rest, and then the rest without it
     while rest != 0 {
         let k = u64::trailing_zeros(rest) as usize;
-        if k >= m {
-            return missing ^ served;
-        }
-        served = served & sets[k];
-        if served == 0 {
-            return missing;
-        }
+        events = events & sets[k];
         rest = rest & (rest - 1);
     }
-    missing ^ served
+    events
 }
 
-// What the pairs from number `start` up to `stop` leave. It stops where nothing is missing any more.
+// How many pairs the certificate has. Row i of `shared` becomes the events that pair i serves, of the first 64 pairs: few certificates have
+// more, and a search then need not find them again.
+pub fn survey(s: &[u8], from: usize, m: usize, sets: &[u64; 64], shared: &mut [u64; 64]) -> usize
+    requires { ⌜ (m ≤ 64) × (length (now shared) ≡ 64) ⌝ }
+    ensures count { λ r. ⌜ r ≡ length (certificateAt (now (s .entry)) from) ⌝ }
+    ensures kept { λ _. ⌜ Kept (certificateAt (now (s .entry)) from) m (now (sets .entry)) (now (shared .exit)) ⌝ }
+{
+    let mut at: usize = from;
+    let mut count: usize = 0;
+    loop {
+        let found = pair_from(s, at);
+        let Pair::At {
+            place: _,
+            set,
+            next,
+        } = found
+        else {
+            return count;
+        };
+        if count < 64 {
+            shared[count] = meet(set, m, sets);
+        }
+        at = next;
+        count += 1;
+    }
+}
+
+// The events that pair i serves, whose set this is: kept, or found again.
+pub fn events_of(i: usize, set: u64, m: usize, sets: &[u64; 64], shared: &[u64; 64]) -> u64
+    requires { ⌜ m ≤ 64 ⌝ }
+    ensures { λ r. ⌜ ((c : Certificate) → Kept c m (now (sets .entry)) (now (shared .entry)) → i < length c → pairOf c i .set ≡ set
+        → (e : ℕ) → e < 64 → has r e ≡ allHold m (now (sets .entry)) set e) ⌝ }
+{
+    if i < 64 {
+        shared[i]
+    } else {
+        meet(set, m, sets)
+    }
+}
+
+// The number of the pair after the pairs below i, going round.
+pub fn round(i: usize, count: usize) -> usize
+    ensures { λ r. ⌜ r ≡ cond (ltb i count) i 0 ⌝ }
+{
+    if i < count { i } else { 0 }
+}
+
+// What the pairs leave of what is missing, going round them from number `start` on. It stops where nothing is missing any more.
 pub fn serve(
     s: &[u8],
     from: usize,
+    count: usize,
     start: usize,
-    stop: usize,
     m: usize,
     onward: u64,
     sets: &[u64; 64],
-    before: Rest,
+    shared: &[u64; 64],
+    wanted: u64,
     missing: &mut [u64; 64],
 ) -> Rest
-    requires { ⌜ (start ≤ stop) × (stop ≤ length (certificateAt (now s) from)) × (m ≤ 64) × (length (now missing) ≡ 64) ⌝ }
-    ensures left { λ r. ⌜ Served (certificateAt (now (s .entry)) from) m onward (now (sets .entry)) start stop (before .missers) (now (missing .entry)) (r .missers) (now (missing .exit)) ⌝ }
-    ensures low { λ r. ⌜ r .lowest ≤ before .lowest ⌝ }
+    requires { ⌜ (count ≡ length (certificateAt (now s) from)) × (m ≤ 64) × (length (now missing) ≡ 64) ⌝ }
+    requires { ⌜ Kept (certificateAt (now s) from) m (now sets) (now shared) ⌝ }
+    ensures { λ r. ⌜ Served (certificateAt (now (s .entry)) from) m onward (now (sets .entry)) wanted (now (missing .entry)) (r .missers) (now (missing .exit)) ⌝ }
 {
-    let mut missers = before.missers;
-    let mut lowest = before.lowest;
-    let mut i: usize = start;
-    while i < stop {
-        if missers == 0 {
+    let mut missers = wanted;
+    let mut lowest = count;
+    let mut i: usize = round(start, count);
+    let mut left: usize = count;
+    while missers != 0 {
+        if left == 0 {
             return Rest { missers, lowest };
         }
-        let at = from + 6 * i;
-        let q = index(byte_at(s, at + 1));
-        let next = i + 1;
-        if listed(missers, q) {
+        let pair = listed_at(s, from + 6 * i);
+        let q = index(pair.place);
+        let set = pair.set;
+        if both(listed(missers, q), set & onward == set) {
             let row = missing[q];
-            let left = unserved(row, set_at(s, at + 2), m, onward, sets);
-            if left != row {
-                missing[q] = left;
-                missers = missers ^ chosen(left == 0, bit(q));
-                lowest = least(lowest, i);
-            }
+            let rest = without(row, events_of(i, set, m, sets, shared));
+            missing[q] = rest;
+            missers = missers ^ chosen(rest == 0, bit(q));
+            lowest = least(lowest, i);
         }
-        i = next;
+        i = round(i + 1, count);
+        left -= 1;
     }
     Rest { missers, lowest }
 }
@@ -144,26 +195,37 @@ pub fn unlisted(
     events: usize,
     n: usize,
     followers: u64,
+    alive: u64,
     lsets: &[u64; 64],
     m: usize,
     onward: u64,
     rsets: &[u64; 64],
+    shared: &[u64; 64],
     start: usize,
     missing: &mut [u64; 64],
 ) -> Found
     requires { ⌜ (events ≤ 64) × (n ≤ 64) × (m ≤ 64) ⌝ }
-    requires { ⌜ (count ≡ length (certificateAt (now s) from)) × (start ≤ count) × (length (now missing) ≡ 64) ⌝ }
+    requires { ⌜ (count ≡ length (certificateAt (now s) from)) × (length (now missing) ≡ 64) ⌝ }
+    requires { ⌜ Kept (certificateAt (now s) from) m (now rsets) (now shared) ⌝ }
+    requires { ⌜ Active (now lsets) n events alive ⌝ }
     ensures finding { λ r. ⌜ findingOf (r .fault) ≡ inOrder events (unlistedAt (certificateAt (now (s .entry)) from) n i followers (now (lsets .entry)) m onward (now (rsets .entry))) ⌝ }
-    ensures next { λ r. ⌜ r .start ≤ count ⌝ }
     ensures rows { λ _. ⌜ length (now (missing .exit)) ≡ 64 ⌝ }
 {
-    let missers = want(followers, lsets, below(events), missing);
-    let whole = Rest {
-        missers,
-        lowest: count,
-    };
-    let ahead = serve(s, from, start, count, m, onward, rsets, whole, missing);
-    let rest = serve(s, from, 0, start, m, onward, rsets, ahead, missing);
+    let mask = below(events);
+    let wanted = followers & alive;
+    want(wanted, lsets, mask, missing);
+    let rest = serve(
+        s,
+        from,
+        count,
+        start,
+        m,
+        onward,
+        rsets,
+        shared,
+        wanted,
+        missing,
+    );
     let missers = rest.missers;
     let fault = first_missing(missing, missers, n, events, i);
     Found {

@@ -1,29 +1,24 @@
-// The numbers below a bound as a set, and the lowest number of a set and of a table of sets.
+// The numbers of a set, and the lowest number of a set and of a table of sets.
 ghost use mathlib.Core.Path.{_≡_};
+ghost use mathlib.Core.Bool.{not, _&&_};
 ghost use Prim.Native.Nat.{ℕ, _≤_, _<_};
-ghost use lib.Dec.{ltb};
 ghost use Rattle.bits.specs.Bits.{has};
 ghost use Rattle.clauses.specs.Clauses.{misses, Lowest};
 use places::masks::both;
 use places::masks::member;
-
-// The numbers below n.
-pub fn below(n: usize) -> u64
-    requires { ⌜ n ≤ 64 ⌝ }
-    ensures { λ r. ⌜ ((k : ℕ) → has r k ≡ ltb k n) ⌝ }
-{
-    if n < 64 {
-        (1 << n) - 1
-    } else {
-        18446744073709551615
-    }
-}
 
 // The set has the number k, which may be any.
 pub fn listed(set: u64, k: usize) -> bool
     ensures { λ r. ⌜ r ≡ has set k ⌝ }
 {
     if k < 64 { member(set, k) } else { false }
+}
+
+// The numbers of the set that the other has not.
+pub fn without(set: u64, other: u64) -> u64
+    ensures { λ r. ⌜ ((k : ℕ) → has r k ≡ (has set k && not (has other k))) ⌝ }
+{
+    set & (set ^ other)
 }
 
 // The lesser of two numbers.

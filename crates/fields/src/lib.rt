@@ -30,7 +30,7 @@ fn short_of(low: u8, high: u8) -> usize
     index(low) + 256 * index(high)
 }
 
-fn set_of(a: u8, b: u8, c: u8, d: u8) -> u64
+pub fn set_of(a: u8, b: u8, c: u8, d: u8) -> u64
     ensures { λ r. ⌜ r ≡ a + 256 * b + 65536 * (c + 256 * d) ⌝ }
 {
     wide(a) + 256 * wide(b) + 65536 * (wide(c) + 256 * wide(d))

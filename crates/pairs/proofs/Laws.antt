@@ -15,7 +15,7 @@ use Rattle.bits.proofs.Tests.{or-out, all-out}
 use Rattle.certificate.specs.Certificate.{Pair, pair, Certificate, pairOf}
 use Rattle.sheet.specs.Record.{Record, byteAt, setAt, pairAt, nextAt, bodyLength, recordAt, recordsByKind}
 use Rattle.sheet.specs.Decode.{inFront, pairIn, pairsOn, certificateAt}
-use Rattle.fields.proofs.Laws.{byte-past}
+use Rattle.fields.proofs.Laws.{byte-past, set-is}
 use Rattle.pairs.specs.Found.{pairFound}
 use Rattle.pairs.specs.declared.Pair.the-variants.{At, End}
 
@@ -26,6 +26,15 @@ inside s at e = go (ltb at (length s)) refl
     go : (b : Bool) → ltb at (length s) ≡ b → at < length s
     go true l = ltb-true at (length s) l
     go false l = let z : byteAt s at ≡ 0 = byte-past s at (ltb-false at (length s) l) in absurd (omega arith)
+
+-- the set of a pair, by its bytes
+pub pair-set : (s : List ℕ) (at : ℕ)
+    → setAt s (at + 2) ≡ byteAt s (at + 2) + 256 * byteAt s (at + 3) + 65536 * (byteAt s (at + 4) + 256 * byteAt s (at + 5))
+pair-set s at =
+    let three : at + 2 + 1 ≡ at + 3 = omega arith in
+    let four : at + 2 + 2 ≡ at + 4 = omega arith in
+    let five : at + 2 + 3 ≡ at + 5 = omega arith in
+    rw (set-is s (at + 2), three, four, five)
 
 -- The certificate at an offset: a pair and the certificate after it, or nothing ------------------------------------------
 

@@ -38,13 +38,26 @@ takes-most k =
     (omega arith)
     k
 
--- the last of the kinds
-pub kind-star : (k : ℕ) → takes k < 97 → (k ≡ 1 → ⊥) → (k ≡ 2 → ⊥) → (k ≡ 3 → ⊥) → (k ≡ 4 → ⊥) → k ≡ 5
-kind-star k l a b c d = go (eqb k 5) refl
+-- the kind of a symbol, by tests that leave no other
+pub kind-empty : (k : ℕ) → takes k < 97 → k < 3 → (k ≡ 1 → ⊥) → k ≡ 2
+kind-empty zero l h a = absurd (omega arith)
+kind-empty (suc zero) l h a = absurd (a refl)
+kind-empty (suc (suc zero)) l h a = refl
+kind-empty (suc (suc (suc k))) l h a = absurd (omega arith)
+
+pub kind-join : (k : ℕ) → 3 ≤ k → k < 5 → (k ≡ 4 → ⊥) → k ≡ 3
+kind-join k l h a = omega arith
+
+pub kind-star : (k : ℕ) → takes k < 97 → 5 ≤ k → k ≡ 5
+kind-star k l h = go (eqb k 5) refl
   where
     go : (t : Bool) → eqb k 5 ≡ t → k ≡ 5
     go true e = eqb-true k 5 e
-    go false e = let h = takes-other k a b c d (eqb-false k 5 e) in absurd (omega arith)
+    go false e =
+        let z =
+        takes-other k (λ (e : k ≡ 1). omega arith) (λ (e : k ≡ 2). omega arith) (λ (e : k ≡ 3). omega arith) (λ (e : k ≡ 4). omega arith)
+        (eqb-false k 5 e) in
+        absurd (omega arith)
 
 -- The records of symbols ------------------------------------------------------------------------------------------------
 

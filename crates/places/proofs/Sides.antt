@@ -12,7 +12,7 @@ use lib.Dec.{eqb}
 use lib.Bits.{bitAnd, bitOr}
 use Rattle.bits.specs.Bits.{has, anyBelow}
 use Rattle.bits.proofs.Tests.{T-true, any-cong}
-use Rattle.bits.proofs.Sets.{start-has, has-start}
+use Rattle.bits.proofs.Sets.{has-none, start-has, has-start}
 use Rattle.bits.proofs.Masks.{has-or, has-cond}
 use Rattle.condition.specs.Condition.{Condition, leaf}
 use Rattle.condition.specs.Places.{leaves, places, leafSet, leafHolds, nullable, first, last, follow, follows, ends, step, stepAll, someEnds, accepts}
@@ -25,6 +25,7 @@ use Rattle.places.specs.declared.Part.the-variants.{Condition as Conditi
 use Rattle.places.specs.Tables.{Tables, StandsAt, PartIs}
 use Rattle.places.specs.Machine.{ItemIs, RowsAre, Stacked, bottom, above, Rows, Pushed, Settled, Holding}
 use Rattle.places.proofs.Behind.{fails, behind-zero}
+use Rattle.places.proofs.Lowest.{any-none}
 
 -- Parts -----------------------------------------------------------------------------------------------------------------
 
@@ -140,6 +141,16 @@ module _ {r : Condition} {side : Side} {F S H : List ℕ} {events : ℕ} (t : Ta
       ∙ ap (λ (x : ℕ). step r x (getD w i 0)) e
       ∙ sym (stepAll-take r 1 w i l)
       ∙ ap (λ (x : ℕ). stepAll r 1 (take x w)) (sym (add-one i))
+
+-- u is the union of the rows of F, below n, of the places of the set x
+pub record Gathered (F : List ℕ) (n x u : ℕ) : Type 0 where
+  pub gathered : (q : ℕ) → has u q ≡ anyBelow n (λ p. has x p && has (getD F p 0) q)
+
+pub gathered-none : (F : List ℕ) (n : ℕ) → Gathered F n 0 0
+gathered-none F n = record { gathered = λ q. has-none q ∙ sym (any-none n 0 (λ p. has (getD F p 0) q) (λ p _. has-none p)) }
+
+pub gathered-as : {F : List ℕ} {n x y u v : ℕ} → y ≡ x → v ≡ u → Gathered F n x u → Gathered F n y v
+gathered-as {F} {n} {x} {y} {u} {v} e f g = rw (e, f) g
 
 pub word-none : (r : Condition) (w : List ℕ) → 1 ≡ stepAll r 1 (take 0 w)
 unfolding stepAll

@@ -5,7 +5,7 @@ ghost use lib.ListN.{length, getD};
 ghost use Rattle.condition.specs.Condition.{Condition, join};
 ghost use Rattle.condition.specs.Places.{accepts};
 ghost use Rattle.places.specs.Tables.{Tables, StandsAt, PartIs};
-ghost use Rattle.places.specs.Machine.{Rows, Settled};
+ghost use Rattle.places.specs.Machine.{Roomy, Rows, Settled};
 use fields::index;
 use masks::chosen;
 use masks::fill_holding;
@@ -40,46 +40,49 @@ fn settle(leaves: usize, nullable: bool, first: u64, last: u64, follow: &mut [u6
     }
 }
 
-// The side of one part.
-pub fn side_of(s: &[u8], part: Part, follow: &mut [u64; 64], sets: &mut [u64; 64]) -> Side
-    requires { ⌜ Rows (now follow) (now sets) ⌝ }
+// The side of one part, found on a stack that is lent.
+pub fn side_of(
+    s: &[u8],
+    part: Part,
+    nullable: &mut [bool; 97],
+    first: &mut [u64; 97],
+    last: &mut [u64; 97],
+    follow: &mut [u64; 64],
+    sets: &mut [u64; 64],
+) -> Side
+    requires { ⌜ Roomy (now nullable) (now first) (now last) × Rows (now follow) (now sets) ⌝ }
     ensures few { λ side. ⌜ side .leaves ≤ 62 ⌝ }
+    ensures room { λ _. ⌜ Roomy (now (nullable .exit)) (now (first .exit)) (now (last .exit)) ⌝ }
     ensures rows { λ _. ⌜ Rows (now (follow .exit)) (now (sets .exit)) ⌝ }
     ensures tables { λ side. ⌜ ((r : Condition) → PartIs (now (s .entry)) part r →
         Tables r side (now (follow .exit)) (now (sets .exit))) ⌝ }
 {
-    let mut nulls: [bool; 97] = [false; 97];
-    let mut first: [u64; 97] = [0; 97];
-    let mut last: [u64; 97] = [0; 97];
-    let leaves = push_part(
-        s,
-        part,
-        0,
-        0,
-        &mut nulls,
-        &mut first,
-        &mut last,
-        follow,
-        sets,
-    );
-    settle(leaves, nulls[0], first[0], last[0], follow)
+    let leaves = push_part(s, part, 0, 0, nullable, first, last, follow, sets);
+    settle(leaves, nullable[0], first[0], last[0], follow)
 }
 
-// The side of two parts, one after the other.
-pub fn joined_side(s: &[u8], a: Part, b: Part, follow: &mut [u64; 64], sets: &mut [u64; 64]) -> Side
-    requires { ⌜ Rows (now follow) (now sets) ⌝ }
+// The side of two parts, one after the other, found on a stack that is lent.
+pub fn joined_side(
+    s: &[u8],
+    a: Part,
+    b: Part,
+    nullable: &mut [bool; 97],
+    first: &mut [u64; 97],
+    last: &mut [u64; 97],
+    follow: &mut [u64; 64],
+    sets: &mut [u64; 64],
+) -> Side
+    requires { ⌜ Roomy (now nullable) (now first) (now last) × Rows (now follow) (now sets) ⌝ }
     ensures few { λ side. ⌜ side .leaves ≤ 62 ⌝ }
+    ensures room { λ _. ⌜ Roomy (now (nullable .exit)) (now (first .exit)) (now (last .exit)) ⌝ }
     ensures rows { λ _. ⌜ Rows (now (follow .exit)) (now (sets .exit)) ⌝ }
     ensures tables { λ side. ⌜ ((r t : Condition) → PartIs (now (s .entry)) a r → PartIs (now (s .entry)) b t →
         Tables (join r t) side (now (follow .exit)) (now (sets .exit))) ⌝ }
 {
-    let mut nulls: [bool; 97] = [false; 97];
-    let mut first: [u64; 97] = [0; 97];
-    let mut last: [u64; 97] = [0; 97];
-    let m = push_part(s, a, 0, 0, &mut nulls, &mut first, &mut last, follow, sets);
-    let n = push_part(s, b, 1, m, &mut nulls, &mut first, &mut last, follow, sets);
-    join_top(2, &mut nulls, &mut first, &mut last, follow);
-    settle(n, nulls[0], first[0], last[0], follow)
+    let m = push_part(s, a, 0, 0, nullable, first, last, follow, sets);
+    let n = push_part(s, b, 1, m, nullable, first, last, follow, sets);
+    join_top(2, nullable, first, last, follow);
+    settle(n, nullable[0], first[0], last[0], follow)
 }
 
 // The condition at an offset holds the word: the places after each event are the followers of those before that hold it.
@@ -90,19 +93,37 @@ pub fn holds_word(s: &[u8], at: usize, events: usize, word: &[u8]) -> bool
     let mut follow: [u64; 64] = [0; 64];
     let mut sets: [u64; 64] = [0; 64];
     let mut holding: [u64; 64] = [0; 64];
-    let side = side_of(s, Part::Condition(at), &mut follow, &mut sets);
+    let mut nulls: [bool; 97] = [false; 97];
+    let mut first: [u64; 97] = [0; 97];
+    let mut last: [u64; 97] = [0; 97];
+    let side = side_of(
+        s,
+        Part::Condition(at),
+        &mut nulls,
+        &mut first,
+        &mut last,
+        &mut follow,
+        &mut sets,
+    );
     let leaves = side.leaves;
     let ends = side.ends;
     fill_holding(&sets, leaves, events, &mut holding);
     let mut places: u64 = 1;
+    let mut known: u64 = 0;
+    let mut union: u64 = 0;
     let mut i: usize = 0;
     while i < word.len() {
         // from no place no word is accepted
         if places == 0 {
             return false;
         }
+        // a word that stays in the same places is stepped without gathering their rows again
+        if places != known {
+            union = gather(&follow, leaves + 1, places);
+            known = places;
+        }
         let e = index(word[i]);
-        places = gather(&follow, leaves + 1, places) & holding[e];
+        places = union & holding[e];
         i += 1;
     }
     places & ends != 0

@@ -164,24 +164,28 @@ pub fn push_condition(
         }
         n += 1;
         at += 1;
-        if kind == 1 {
-            if base + 31 <= leaves {
-                return leaves;
+        if kind < 3 {
+            if kind == 1 {
+                if base + 31 <= leaves {
+                    return leaves;
+                }
+                let set = set_at(s, at);
+                push_leaf(set, depth, leaves, nullable, first, last, follow, sets);
+                depth += 1;
+                leaves += 1;
+                at += 4;
+            } else {
+                push_empty(depth, nullable, first, last);
+                depth += 1;
             }
-            let set = set_at(s, at);
-            push_leaf(set, depth, leaves, nullable, first, last, follow, sets);
-            depth += 1;
-            leaves += 1;
-            at += 4;
-        } else if kind == 2 {
-            push_empty(depth, nullable, first, last);
-            depth += 1;
-        } else if kind == 3 {
-            join_top(depth, nullable, first, last, follow);
-            depth -= 1;
-        } else if kind == 4 {
-            either_top(depth, nullable, first, last);
-            depth -= 1;
+        } else if kind < 5 {
+            if kind == 4 {
+                either_top(depth, nullable, first, last);
+                depth -= 1;
+            } else {
+                join_top(depth, nullable, first, last, follow);
+                depth -= 1;
+            }
         } else {
             star_top(depth, nullable, first, last, follow);
         }

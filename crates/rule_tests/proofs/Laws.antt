@@ -1,5 +1,5 @@
--- Where the certificate of a rule ends, and what the test of a rule comes to.
-use mathlib.Core.Path.{_≡_, refl, sym, ap, _∙_}
+-- Where the certificate of a rule ends, what the test of a rule comes to, and what a claim says.
+use mathlib.Core.Path.{_≡_, refl, sym, ap, _∙_, subst}
 use mathlib.Core.Bool.{Bool}
 use mathlib.Core.List.{List, [], _∷_}
 use Prim.Native.Nat.{ℕ, zero, suc, _+_, _*_, _≤_, _<_}
@@ -15,6 +15,7 @@ use Rattle.sheet.specs.Decode.{certificateAt}
 use Rattle.runs.specs.Rules.{Rule}
 use Rattle.verdict.specs.Verdict.{testOf}
 use Rattle.places.specs.declared.Side.{Side}
+use Rattle.places.specs.declared.Part.{Part}
 use Rattle.places.specs.Tables.{Tables}
 use Rattle.pairs.specs.Found.{pairFound}
 use Rattle.pairs.specs.declared.Pair.{Pair}
@@ -22,6 +23,12 @@ use Rattle.pairs.specs.declared.Pair.the-variants.{At, End}
 use Rattle.pairs.proofs.Laws.{Reached, reached-start, reached-next, reached-end}
 use Rattle.walk.specs.Trial.{passed, behind, afterTest, tryRules}
 use Rattle.walk.proofs.Trial.{trial-one}
+use Rattle.answers.specs.declared.Rule as answers
+use Rattle.claims.specs.Claims.{Says, SaysInclusion, SaysJoined, SaysEmpty}
+use Rattle.claims.specs.declared.Claim.{Claim}
+use Rattle.claims.specs.declared.Claim.the-variants.{Inclusion, Joined, HoldsEmpty, Done}
+use Rattle.rule_tests.specs.declared.Tested.{Tested}
+use Rattle.rule_tests.specs.Tested.{Tries}
 
 -- The certificate -----------------------------------------------------------------------------------------------------
 
@@ -69,3 +76,22 @@ pub ends-empty : (a : Condition) (side : Side) (follow sets : List ℕ) → Tabl
     → unless b (fault 5 0 0 0) ≡ unless (nullable a) (fault 5 0 0 0)
 unfolding ends
 ends-empty a side follow sets t b e = ap (λ (b : Bool). unless b (fault 5 0 0 0)) (sym e ∙ t .ends-is 0)
+
+-- the answer for a rule, by what the rule is
+pub tries-as : {s : List ℕ} {x y : Rule} {from : ℕ} {answer : Tested} → x ≡ y → Tries s (y ∷ []) from answer → Tries s (x ∷ []) from answer
+tries-as {s} {x} {y} {from} {answer} e h = subst (λ (r : Rule). Tries s (r ∷ []) from answer) (sym e) h
+
+-- The claim -----------------------------------------------------------------------------------------------------------
+
+module _ (s : List ℕ) {claim : Claim} {r : answers.Rule} (x : Rule) where
+  pub says-inclusion : {left right : Part} → claim ≡ Inclusion r left right → Says s claim x → SaysInclusion s r left right x
+  says-inclusion e h = rw e at h
+
+  pub says-joined : {first second right : Part} → claim ≡ Joined r first second right → Says s claim x → SaysJoined s r first second right x
+  says-joined e h = rw e at h
+
+  pub says-empty : {part : Part} → claim ≡ HoldsEmpty r part → Says s claim x → SaysEmpty s r part x
+  says-empty e h = rw e at h
+
+pub says-none : (s : List ℕ) {claim : Claim} (x : Rule) → claim ≡ Done → Says s claim x → ⊥
+says-none s x e h = rw e at h

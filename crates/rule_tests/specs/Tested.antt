@@ -1,12 +1,13 @@
--- The trial that an answer of a rule's test stands for, and the rule that a name and a claim make.
+-- The trial that an answer of a rule's test stands for, and what a test wants: a claim that stands for a rule, and tables.
 use Prim.Native.Nat.{ℕ}
 use mathlib.Core.Path.{_≡_}
+use mathlib.Core.Bool.{Bool}
 use mathlib.Core.List.{List}
-use Rattle.condition.specs.Condition.{Condition}
+use lib.ListN.{length}
 use Rattle.runs.specs.Rules as runs
-use Rattle.places.specs.declared.Part.{Part}
-use Rattle.places.specs.Tables.{PartIs}
-use Rattle.answers.specs.declared.Rule.{Rule}
+use Rattle.places.specs.Machine.{Roomy, Rows}
+use Rattle.claims.specs.Claims.{Says}
+use Rattle.claims.specs.declared.Claim.{Claim}
 use Rattle.answers.specs.Answers.{ruleNumber, ruleSubject}
 use Rattle.walk.specs.Trial.{Trial, passed, failed, tryRules}
 use Rattle.rule_tests.specs.declared.Tested.{Tested}
@@ -20,11 +21,16 @@ trialOf (Failed r c i e l) = failed (ruleNumber r) (ruleSubject r) c i e l
 pub record Tries (s : List ℕ) (xs : List runs.Rule) (from : ℕ) (answer : Tested) : Type 0 where
   pub comes-to : trialOf answer ≡ tryRules 32 s xs from
 
-infix 20 _says_
-abbrev pub _says_ : Rule → runs.Claim → runs.Rule
-r says x = record { number = ruleNumber r; subject = ruleSubject r; claim = x }
+-- a claim that stands for a rule
+pub record Stated (s : List ℕ) (claim : Claim) : Type 0 where
+  pub rule : runs.Rule
+  pub says : Says s claim rule
 
--- a part that is a condition
-pub record Standing (s : List ℕ) (part : Part) : Type 0 where
-  pub stands-for : Condition
-  pub is : PartIs s part stands-for
+-- The tables that a test is lent: the stack on which a side's places are found, the rows of the left side and of the right, and room for the
+-- search of a certificate's faults.
+pub record Room (nulls : List Bool) (firsts lasts lfollow lsets rfollow rsets missing shared : List ℕ) : Type 0 where
+  pub stack : Roomy nulls firsts lasts
+  pub left : Rows lfollow lsets
+  pub right : Rows rfollow rsets
+  pub missing-long : length missing ≡ 64
+  pub shared-long : length shared ≡ 64

@@ -1,20 +1,23 @@
 // The test of one rule: of an inclusion by its certificate, or of the empty word.
-ghost use mathlib.Core.List.{[], _∷_};
+ghost use mathlib.Core.List.{List, [], _∷_};
 ghost use mathlib.Core.Path.{_≡_};
-ghost use Prim.Native.Nat.{_<_};
+ghost use Prim.Native.Nat.{ℕ, _<_};
 ghost use lib.ListN.{length};
-ghost use Rattle.condition.specs.Condition.{Condition, join};
+ghost use Rattle.condition.specs.Condition.{Condition};
 ghost use Rattle.certificate.specs.Certificate.{fine, check};
 ghost use Rattle.sheet.specs.Decode.{certificateAt};
-ghost use Rattle.places.specs.Tables.{PartIs};
+ghost use Rattle.places.specs.Tables.{Tables};
 ghost use Rattle.clauses.specs.Clauses.{findingOf};
+ghost use Rattle.runs.specs.Rules as runs;
 ghost use Rattle.runs.specs.Rules.{_isIn_, holdsEmpty};
-ghost use Rattle.rule_tests.specs.Tested.{Standing, Tries, _says_};
+ghost use Rattle.claims.specs.Claims.{Says, _says_};
+ghost use Rattle.rule_tests.specs.Tested.{Stated, Room, Tries};
 use answers::Rule;
+use claims::Claim;
 use clauses::Fault;
 use clauses::first_fault;
 use pairs::certificate_end;
-use places::Part;
+use places::Side;
 use places::joined_side;
 use places::masks::member;
 use places::side_of;
@@ -56,58 +59,42 @@ fn after(s: &[u8], from: usize, rule: Rule, found: Fault) -> Tested
     }
 }
 
-// "left in right", by the certificate at an offset.
-pub fn inclusion(s: &[u8], from: usize, rule: Rule, left: Part, right: Part) -> Tested
-    requires { ⌜ Standing (now s) left × Standing (now s) right ⌝ }
-    ensures { λ r. ⌜ ((l g : Condition) → PartIs (now (s .entry)) left l → PartIs (now (s .entry)) right g → Tries (now (s .entry)) ((rule says l isIn g) ∷ []) from r) ⌝ }
-{
-    let mut lfollow = [0; 64];
-    let mut lsets = [0; 64];
-    let mut rfollow = [0; 64];
-    let mut rsets = [0; 64];
-    let l = side_of(s, left, &mut lfollow, &mut lsets);
-    let g = side_of(s, right, &mut rfollow, &mut rsets);
-    after(
-        s,
-        from,
-        rule,
-        first_fault(s, from, EVENTS, l, &lfollow, &lsets, g, &rfollow, &rsets),
-    )
-}
-
-// "AB in right", of the first part joined with the second.
-pub fn joined_inclusion(
+// The first fault of the certificate at an offset, over all events.
+fn fault_at(
     s: &[u8],
     from: usize,
-    rule: Rule,
-    first: Part,
-    second: Part,
-    right: Part,
-) -> Tested
-    requires { ⌜ Standing (now s) first × Standing (now s) second × Standing (now s) right ⌝ }
-    ensures { λ r. ⌜ ((a b g : Condition) → PartIs (now (s .entry)) first a → PartIs (now (s .entry)) second b → PartIs (now (s .entry)) right g → Tries (now (s .entry)) ((rule says join a b isIn g) ∷ []) from r) ⌝ }
+    l: Side,
+    g: Side,
+    lfollow: &[u64; 64],
+    lsets: &[u64; 64],
+    rfollow: &[u64; 64],
+    rsets: &[u64; 64],
+    missing: &mut [u64; 64],
+    shared: &mut [u64; 64],
+) -> Fault
+    requires { ⌜ (length (now missing) ≡ 64) × (length (now shared) ≡ 64) ⌝ }
+    ensures finding { λ r. ⌜ ((left right : Condition) → Tables left l (now (lfollow .entry)) (now (lsets .entry)) → Tables right g (now (rfollow .entry)) (now (rsets .entry)) → findingOf r ≡ check 32 left right (certificateAt (now (s .entry)) from)) ⌝ }
+    ensures room { λ _. ⌜ (length (now (missing .exit)) ≡ 64) × (length (now (shared .exit)) ≡ 64) ⌝ }
 {
-    let mut lfollow = [0; 64];
-    let mut lsets = [0; 64];
-    let mut rfollow = [0; 64];
-    let mut rsets = [0; 64];
-    let l = joined_side(s, first, second, &mut lfollow, &mut lsets);
-    let g = side_of(s, right, &mut rfollow, &mut rsets);
-    after(
+    first_fault(
         s,
         from,
-        rule,
-        first_fault(s, from, EVENTS, l, &lfollow, &lsets, g, &rfollow, &rsets),
+        EVENTS,
+        l,
+        lfollow,
+        lsets,
+        g,
+        rfollow,
+        rsets,
+        missing,
+        shared,
     )
 }
 
-// The part holds the empty word: no certificate is read. Place 0 ends a word exactly then.
-pub fn empty_word(s: &[u8], from: usize, rule: Rule, part: Part) -> Tested
-    ensures { λ r. ⌜ ((a : Condition) → PartIs (now (s .entry)) part a → Tries (now (s .entry)) ((rule says holdsEmpty a) ∷ []) from r) ⌝ }
+// The side holds the empty word: no certificate is read. Place 0 ends a word exactly then.
+fn empty_word(from: usize, rule: Rule, side: Side) -> Tested
+    ensures { λ r. ⌜ ((s : List ℕ) (a : Condition) (follow sets : List ℕ) → Tables a side follow sets → Tries s ((rule says holdsEmpty a) ∷ []) from r) ⌝ }
 {
-    let mut follow = [0; 64];
-    let mut sets = [0; 64];
-    let side = side_of(s, part, &mut follow, &mut sets);
     let ends = side.ends;
     if member(ends, 0) {
         return Tested::Passed(from);
@@ -118,5 +105,54 @@ pub fn empty_word(s: &[u8], from: usize, rule: Rule, part: Part) -> Tested
         pair: 0,
         event: 0,
         place: 0,
+    }
+}
+
+// A rule's claim, with the certificates from an offset on: an inclusion by the certificate there, and the empty word without one. The tables are
+// lent: the stack on which a side's places are found, those of the left side and of the right, and room for the search of a certificate's faults.
+pub fn test(
+    s: &[u8],
+    at: usize,
+    claim: Claim,
+    nulls: &mut [bool; 97],
+    firsts: &mut [u64; 97],
+    lasts: &mut [u64; 97],
+    lfollow: &mut [u64; 64],
+    lsets: &mut [u64; 64],
+    rfollow: &mut [u64; 64],
+    rsets: &mut [u64; 64],
+    missing: &mut [u64; 64],
+    shared: &mut [u64; 64],
+) -> Tested
+    requires { ⌜ Stated (now s) claim ⌝ }
+    requires { ⌜ Room (now nulls) (now firsts) (now lasts) (now lfollow) (now lsets) (now rfollow) (now rsets) (now missing) (now shared) ⌝ }
+    ensures tried { λ r. ⌜ ((x : runs.Rule) → Says (now (s .entry)) claim x → Tries (now (s .entry)) (x ∷ []) at r) ⌝ }
+    ensures room { λ _. ⌜ Room
+        (now (nulls .exit)) (now (firsts .exit)) (now (lasts .exit)) (now (lfollow .exit)) (now (lsets .exit))
+        (now (rfollow .exit)) (now (rsets .exit)) (now (missing .exit)) (now (shared .exit)) ⌝ }
+{
+    match claim {
+        Claim::Inclusion { rule, left, right } => {
+            let l = side_of(s, left, nulls, firsts, lasts, lfollow, lsets);
+            let g = side_of(s, right, nulls, firsts, lasts, rfollow, rsets);
+            let found = fault_at(s, at, l, g, lfollow, lsets, rfollow, rsets, missing, shared);
+            after(s, at, rule, found)
+        }
+        Claim::Joined {
+            rule,
+            first,
+            second,
+            right,
+        } => {
+            let l = joined_side(s, first, second, nulls, firsts, lasts, lfollow, lsets);
+            let g = side_of(s, right, nulls, firsts, lasts, rfollow, rsets);
+            let found = fault_at(s, at, l, g, lfollow, lsets, rfollow, rsets, missing, shared);
+            after(s, at, rule, found)
+        }
+        Claim::HoldsEmpty { rule, part } => {
+            let side = side_of(s, part, nulls, firsts, lasts, lfollow, lsets);
+            empty_word(at, rule, side)
+        }
+        Claim::Done => Tested::Passed(at),
     }
 }

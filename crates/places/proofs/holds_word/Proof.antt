@@ -1,22 +1,23 @@
 -- `holds_word` meets its contract. The invariant: `places` is the start stepped by the first i events of the word, for each
--- condition that stands at the offset.
-use Prim.Native.Nat.{ℕ, _-_}
-use mathlib.Core.Path.{_≡_, ap, _∙_}
+-- condition that stands at the offset, and `union` is the union of the rows of the places `known`.
+use Prim.Native.Nat.{ℕ, _+_, _-_}
+use mathlib.Core.Path.{_≡_, refl, sym, ap, _∙_}
+use mathlib.Core.Logic.{⊎-elim}
 use lib.ListN.{length, take, getD}
 use lib.Bits.{bitAnd}
 use Rattle.condition.specs.Condition.{Condition}
 use Rattle.condition.specs.Places.{stepAll}
 use Rattle.places.specs.Tables.{StandsAt}
-use Rattle.places.proofs.Sides.{word-none, word-more, word-left, word-all}
+use Rattle.places.proofs.Sides.{Gathered, gathered-none, gathered-as, word-none, word-more, word-left, word-all}
 use borrow.Author.Needs.{needs}
 use Rattle.places.proofs.holds_word.Statement.{statement}
 use Rattle.places.proofs.holds_word.Tie as tie
 
 abbrev Inv-loop : tie.InvT-loop
-Inv-loop s at events word follow holding leaves ends places₀ i₀ places i = (r : Condition) → StandsAt s at r → places ≡ stepAll r 1 (take i word)
+Inv-loop s at events word follow holding leaves ends places₀ known₀ union₀ i₀ places known union i = ((r : Condition) → StandsAt s at r → places ≡ stepAll r 1 (take i word)) × Gathered follow (leaves + 1) known union
 
 abbrev μ-loop : tie.MeasureT-loop
-μ-loop s at events word follow holding leaves ends places₀ i₀ places i = length word - i
+μ-loop s at events word follow holding leaves ends places₀ known₀ union₀ i₀ places known union i = length word - i
 
 side-of-requires : tie.Need-side-of-requires Inv-loop μ-loop
 side-of-requires c κs = search needs
@@ -25,17 +26,11 @@ fill-holding-requires : tie.Need-fill-holding-requires Inv-loop μ-loop
 fill-holding-requires c κs = search needs
 
 loop-holds : tie.Need-loop-holds Inv-loop μ-loop
-loop-holds c = λ r h. word-none r (c .before .before .before .before .before .before .before .before .args .word .now)
+loop-holds c = (λ r h. word-none r (c .before .before .before .before .before .before .before .before .before .before .before .args .word .now), gathered-none _ _)
 
 returns : tie.Need-returns Inv-loop μ-loop
 returns c = let g = c .before .before .loop in
-    λ r h. word-left r (c .before .before .before .before .before .before .before .before .before .before .before .args .word .now) (g .i) (g .places) (c .if1 .taken) (g .inv r h)
-
-shared-slice-read-index : tie.Need-shared-slice-read-index Inv-loop μ-loop
-shared-slice-read-index c = search needs
-
-index-requires : tie.Need-index-requires Inv-loop μ-loop
-index-requires c κs = search needs
+    λ r h. word-left r (c .before .before .before .before .before .before .before .before .before .before .before .before .before .before .args .word .now) (g .i) (g .places) (c .if1 .taken) (g .inv .0 r h)
 
 add-gather : tie.Need-add-gather Inv-loop μ-loop
 add-gather c = search needs
@@ -43,16 +38,24 @@ add-gather c = search needs
 gather-requires : tie.Need-gather-requires Inv-loop μ-loop
 gather-requires c κs = search needs
 
+shared-slice-read-index : tie.Need-shared-slice-read-index Inv-loop μ-loop
+shared-slice-read-index c = search needs
+
+index-requires : tie.Need-index-requires Inv-loop μ-loop
+index-requires c κs = search needs
+
 mul-places : tie.Need-mul-places Inv-loop μ-loop
-mul-places c = let turn = c .before .before .before .before .before in
-    let h = turn .before .before .before .before .before .before .before .before .before .before .pre .1 (turn .before .loop .i) (turn .loop-test .taken) in
-    let e = c .before .before .index .ensures in
+mul-places c = let turn = c .before .before .before .before in
+    let (few, small) = turn .before .before .before .before .before .before .before .before .before .before .before .before .before .pre in
+    let h = small (turn .before .loop .i) (turn .loop-test .taken) in
+    let e = c .index .ensures in
     search needs
 
 array-read-places : tie.Need-array-read-places Inv-loop μ-loop
-array-read-places c = let turn = c .before .before .before .before .before in
-    let h = turn .before .before .before .before .before .before .before .before .before .before .pre .1 (turn .before .loop .i) (turn .loop-test .taken) in
-    let e = c .before .before .index .ensures in
+array-read-places c = let turn = c .before .before .before .before in
+    let (few, small) = turn .before .before .before .before .before .before .before .before .before .before .before .before .before .pre in
+    let h = small (turn .before .loop .i) (turn .loop-test .taken) in
+    let e = c .index .ensures in
     search needs
 
 add-i : tie.Need-add-i Inv-loop μ-loop
@@ -61,20 +64,29 @@ add-i c = search needs
 loop-less : tie.Need-loop-less Inv-loop μ-loop
 loop-less c = search needs
 
+-- where the rows were gathered again or not: they are those of `places`
+renewed : (c : tie.Joined2 Inv-loop μ-loop) → (c .if2 .known ≡ c .before .before .before .loop .places) × Gathered (c .before .before .before .before .before .before .before .side-of .last .1 .1 .1 .1 .1 .0) (c .before .before .before .before .before .before .before .side-of .result .leaves + 1) (c .before .before .before .loop .places) (c .if2 .union)
+renewed c =
+    ⊎-elim (λ w. (w .3, gathered-as refl (w .4) (record { gathered = w .2 .ensures })))
+    (λ w. (w .1 ∙ sym (w .0 .left), gathered-as (w .0 .left) (w .2) (c .before .before .before .loop .inv .1))) (c .if2 .came)
+
 loop-again : tie.Need-loop-again Inv-loop μ-loop
 loop-again c = let turn = c .before .before .before .before .before in
     let g = turn .before .loop in
     let held = turn .before .before .fill-holding in
     let inside = turn .loop-test .taken in
-    let start = turn .before .before .before .before .before .before .before .before .before .before in
-    λ r h.
-    ap (λ (x : ℕ). bitAnd (c .gather .result) (getD (held .last .1 .1 .1 .0) x 0)) (c .before .before .index .ensures)
-    ∙ word-more (turn .before .before .before .before .before .side-of .ensures .1 .1 r h) (held .ensures) (start .args .word .now) (g .i) (g .places) (c .gather .result) inside
-    (start .pre .1 (g .i) inside) (g .inv r h) (c .gather .ensures)
+    let start = turn .before .before .before .before .before .before .before .before .before .before .before .before .before in
+    let (same, now) = renewed (c .before .before .before) in (
+      λ r h.
+          ap (λ (x : ℕ). bitAnd (c .before .before .before .if2 .union) (getD (held .last .1 .1 .1 .0) x 0)) (c .before .index .ensures)
+          ∙ word-more (turn .before .before .before .before .before .side-of .ensures .1 .1 .1 r h) (held .ensures) (start .args .word .now) (g .i) (g .places) (c .before .before .before .if2 .union) inside
+          (start .pre .1 (g .i) inside) (g .inv .0 r h) (now .gathered),
+      gathered-as same refl now,
+    )
 
 returns-2 : tie.Need-returns-2 Inv-loop μ-loop
 returns-2 c = let g = c .before .loop in
-    λ r h. word-all (c .before .before .before .before .before .side-of .ensures .1 .1 r h) (c .before .before .before .before .before .before .before .before .before .before .args .word .now) (g .i) (g .places) (c .loop-test .left) (g .inv r h)
+    λ r h. word-all (c .before .before .before .before .before .side-of .ensures .1 .1 .1 r h) (c .before .before .before .before .before .before .before .before .before .before .before .before .before .args .word .now) (g .i) (g .places) (c .loop-test .left) (g .inv .0 r h)
 
 pub holds-word-spec : {M : Type 1} → statement M
 holds-word-spec =
@@ -86,10 +98,10 @@ holds-word-spec =
     fill-holding-requires
     loop-holds
     returns
-    shared-slice-read-index
-    index-requires
     add-gather
     gather-requires
+    shared-slice-read-index
+    index-requires
     mul-places
     array-read-places
     add-i

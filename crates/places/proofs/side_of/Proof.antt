@@ -11,27 +11,30 @@ use Rattle.places.proofs.side_of.Tie as tie
 push-part-requires : tie.Need-push-part-requires
 push-part-requires c κs = search needs
 
-array-read-settle : tie.Need-array-read-settle
-array-read-settle c = search needs
+element-copy-out-settle : tie.Need-element-copy-out-settle
+element-copy-out-settle c = search needs
 
-array-read-settle-2 : tie.Need-array-read-settle-2
-array-read-settle-2 c = search needs
+element-copy-out-settle-2 : tie.Need-element-copy-out-settle-2
+element-copy-out-settle-2 c = search needs
 
-array-read-settle-3 : tie.Need-array-read-settle-3
-array-read-settle-3 c = search needs
+element-copy-out-settle-3 : tie.Need-element-copy-out-settle-3
+element-copy-out-settle-3 c = search needs
 
 settle-requires : tie.Need-settle-requires
 settle-requires c κs = search needs
 
 returns : tie.Need-returns
-returns c = let p = c .before .before .push-part .ensures in
+returns c = let p = c .before .before .before .before .before .push-part .ensures in
     let e = c .settle .ensures in
     let few = p .few in
     let n = e .side-leaves in (
       omega arith,
       (
-        settled-rows e (p .rows),
-        λ r h. tables e (p .rows .rows-follow) (omega arith) (p .pushed r h [] (bottom refl refl)),
+        p .room,
+        (
+          settled-rows e (p .rows),
+          λ r h. tables e (p .rows .rows-follow) (omega arith) (p .pushed r h [] (bottom refl refl)),
+        ),
       ),
     )
 
@@ -40,8 +43,8 @@ side-of-spec =
     tie.close
     (tie.spec
     push-part-requires
-    array-read-settle
-    array-read-settle-2
-    array-read-settle-3
+    element-copy-out-settle
+    element-copy-out-settle-2
+    element-copy-out-settle-3
     settle-requires
     returns)

@@ -1,61 +1,82 @@
-use mathlib.Core.List.{_++_}
+use Prim.Native.Nat.{suc, _+_, _-_, _≤_}
+use native.Mathlib.Omega.{arith}
 use Rattle.sheet.specs.Model.{large}
-use Rattle.sheet.specs.Sheet.{Sheet}
 use Rattle.sheet.specs.Decode.{sheetOf}
-use Rattle.walk.proofs.ByNumber.{methodsFrom, stepsFrom, rules-are}
-use Rattle.walk.proofs.Indexed.{methods-held, method-at, some-method}
-use Rattle.subjects.proofs.Laws.{all-stop, others-left}
-use Rattle.all_rules.proofs.Laws.{first-stop, first-pass}
+use Rattle.runs.specs.Rules.{rules}
+use Rattle.rule_tests.specs.Tested.{Tries, Room}
+use Rattle.rule_tests.specs.declared.Tested.{Tested}
+use Rattle.all_rules.proofs.Tried.{none-left}
+use Rattle.all_rules.proofs.Subjects.{rulesLeft, few-subjects, subject-exists, subject-stops, subject-passes, no-subject}
 use borrow.Author.Needs.{needs}
 use Rattle.all_rules.proofs.rules.all_rules.Statement.{statement}
 use Rattle.all_rules.proofs.rules.all_rules.Tie as tie
 
-first-rules-requires : tie.Need-first-rules-requires
-first-rules-requires c κs = method-at large _ _ _ _ (c .before .pre .0) 0 (some-method large _ _ (methods-held large _ _ _ _ (c .before .pre .0)))
+abbrev Inv-loop : tie.InvT-loop
+Inv-loop s conditions points methods steps bodies moves from nulls₀ firsts₀ lasts₀ lfollow₀ lsets₀ rfollow₀ rsets₀ missing₀ shared₀ start₀ number₀ nulls firsts lasts lfollow lsets rfollow rsets missing shared start number =
+    (number ≤ suc (bodies + moves))
+    × Room nulls firsts lasts lfollow lsets rfollow rsets missing shared
+    × ((u : Tested) → Tries s (rulesLeft (sheetOf large s) bodies number) start u → Tries s (rules (sheetOf large s)) from u)
 
-enum-known-first : tie.Need-enum-known-first
-enum-known-first c = search needs
+abbrev μ-loop : tie.MeasureT-loop
+μ-loop s conditions points methods steps bodies moves from nulls₀ firsts₀ lasts₀ lfollow₀ lsets₀ rfollow₀ rsets₀ missing₀ shared₀ start₀ number₀ nulls firsts lasts lfollow lsets rfollow rsets missing shared start number = suc (bodies + moves) - number
 
-enum-told : tie.Need-enum-told
+loop-holds : tie.Need-loop-holds Inv-loop μ-loop
+loop-holds c = (omega arith, search needs, λ u t. t)
+
+add-loop : tie.Need-add-loop Inv-loop μ-loop
+add-loop c = omega (arith, few-subjects (c .before .before .pre))
+
+subject-at-requires : tie.Need-subject-at-requires Inv-loop μ-loop
+subject-at-requires c κs = search needs
+
+subject-rules-requires : tie.Need-subject-rules-requires Inv-loop μ-loop
+subject-rules-requires c κs = let here = c .before .before .before .before .before .before .before .before .before in
+    let loop = here .before .before in
+    let held = loop .before .before .pre in
+    (held .0, (held .1 .0, (subject-exists held (here .before .loop-test .taken) (here .subject-at .ensures), loop .loop .inv .1)))
+
+enum-known-tested : tie.Need-enum-known-tested Inv-loop μ-loop
+enum-known-tested c = search needs
+
+enum-told : tie.Need-enum-told Inv-loop μ-loop
 enum-told c = search needs
 
-returns : tie.Need-returns
-returns c = let S : Sheet = sheetOf large (c .before .before .before .before .args .s .now) in
-    first-stop (methodsFrom S 0 ++ stepsFrom S 0) (rules-are S) (c .before .before .first-rules .ensures) (c .enum-told .given .1)
+returns : tie.Need-returns Inv-loop μ-loop
+returns c = let here = c .before .before .before .before .before .before .before .before .before .before .before .before in
+    let loop = here .before .before in
+    loop .loop .inv .2 _ (subject-stops (loop .before .before .pre) (here .before .loop-test .taken) (here .subject-at .ensures) (c .before .before .subject-rules .ensures .0) (c .enum-told .given .1))
 
-methods-rules-requires : tie.Need-methods-rules-requires
-methods-rules-requires c κs = search needs
+add-number : tie.Need-add-number Inv-loop μ-loop
+add-number c = omega (arith, few-subjects (c .before .before .before .before .before .before .before .before .before .before .before .before .before .before .before .before .before .pre))
 
-enum-known-second : tie.Need-enum-known-second
-enum-known-second c = search needs
+loop-less : tie.Need-loop-less Inv-loop μ-loop
+loop-less c = search needs
 
-enum-told-2 : tie.Need-enum-told-2
-enum-told-2 c = search needs
+loop-again : tie.Need-loop-again Inv-loop μ-loop
+loop-again c = let here = c .before .before .before .before .before .before .before .before .before .before .before .before .before in
+    let loop = here .before .before in (
+      omega (arith, here .before .loop-test .taken),
+      c .before .before .before .subject-rules .ensures .1,
+      λ u t. loop .loop .inv .2 u (subject-passes (loop .before .before .pre) (here .before .loop-test .taken) (here .subject-at .ensures) (c .before .before .before .subject-rules .ensures .0) (c .before .tested .given .1) t),
+    )
 
-returns-2 : tie.Need-returns-2
-returns-2 c = let S : Sheet = sheetOf large (c .before .before .before .before .before .before .before .before .args .s .now) in
-    first-pass (methodsFrom S 0 ++ stepsFrom S 0) (rules-are S) (c .before .before .before .before .before .before .first-rules .ensures) (c .before .before .before .before .first .given .1)
-    (all-stop (c .before .before .methods-rules .ensures) (stepsFrom S 0) (c .enum-told2 .given .1))
-
-steps-rules-requires : tie.Need-steps-rules-requires
-steps-rules-requires c κs = search needs
-
-returns-3 : tie.Need-returns-3
-returns-3 c = let S : Sheet = sheetOf large (c .before .before .before .before .before .before .before .before .before .before .args .s .now) in
-    first-pass (methodsFrom S 0 ++ stepsFrom S 0) (rules-are S) (c .before .before .before .before .before .before .before .before .first-rules .ensures) (c .before .before .before .before .before .before .first .given .1)
-    (others-left (c .before .before .before .before .methods-rules .ensures) (stepsFrom S 0) (c .before .before .second .given .1) (c .steps-rules .ensures))
+returns-2 : tie.Need-returns-2 Inv-loop μ-loop
+returns-2 c = c .before .loop .inv .2 _ (none-left _ (no-subject (c .before .before .before .pre) _ (c .loop-test .left)))
 
 pub all-rules-spec : {M : Type 1} → statement M
 all-rules-spec =
     tie.close
     (tie.spec
-    first-rules-requires
-    enum-known-first
+    Inv-loop
+    μ-loop
+    loop-holds
+    add-loop
+    subject-at-requires
+    subject-rules-requires
+    enum-known-tested
     enum-told
     returns
-    methods-rules-requires
-    enum-known-second
-    enum-told-2
-    returns-2
-    steps-rules-requires
-    returns-3)
+    add-number
+    loop-less
+    loop-again
+    returns-2)

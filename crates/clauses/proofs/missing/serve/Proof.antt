@@ -1,167 +1,159 @@
--- `clauses::missing::serve` meets its contract. The loop's invariant: the rows are what the pairs from number `start` up to i leave.
-use mathlib.Core.Path.{_≡_, refl, sym, subst, _∙_}
-use Prim.Native.Nat.{ℕ, _+_, _-_, _*_, _^_, _≤_, _<_}
-use native.Mathlib.Nat.{le-trans}
+-- `clauses::missing::serve` meets its contract. The loop's invariant, `Going`: the rows are what the pairs that are seen leave, and `left` pairs
+-- are still to be seen, from number i on.
+use mathlib.Core.Path.{_≡_, sym, ap, _∙_}
+use mathlib.Core.Bool.{Bool, true, _&&_}
+use mathlib.Core.Logic.{⊎-elim}
+use Prim.Native.Nat.{_+_, _*_, _<_}
 use native.Mathlib.Omega.{arith}
-use lib.ListN.{length}
-use lib.Bits.{xor-lt}
+use lib.Dec.{eqb}
+use lib.ListN.{length, getD}
+use lib.Bits.{bitAnd}
+use Rattle.bits.specs.Bits.{has}
+use Rattle.certificate.specs.Certificate.{Pair, pair, pairOf}
 use Rattle.sheet.specs.Decode.{certificateAt}
+use Rattle.places.proofs.Lowest.{positive}
 use Rattle.pairs.proofs.Laws.{pair-at, pair-read}
-use Rattle.clauses.specs.Clauses.{Served}
 use Rattle.clauses.proofs.Least.{number-lt}
-use Rattle.clauses.proofs.Serving.{served-none, served-stop, served-more, left-off, left-same, left-row}
+use Rattle.clauses.proofs.Round.{round-lt}
+use Rattle.clauses.proofs.Serving.{Left, left-same, left-off, left-row, leaves-row, and-both, Going, going-none, going-inside, going-more, served-all, served-stop}
 use borrow.Author.Needs.{needs}
 use Rattle.clauses.proofs.missing.serve.Statement.{statement}
 use Rattle.clauses.proofs.missing.serve.Tie as tie
-use Rattle.clauses.proofs.missing.serve.Reads as reads
-use Rattle.clauses.proofs.missing.serve.Lts as lts
-use Rattle.clauses.proofs.missing.unserved.Reads as unserved-reads
-use Rattle.clauses.proofs.sets.least.Reads as least-reads
-use Rattle.clauses.proofs.sets.listed.Reads as listed-reads
-use Rattle.fields.proofs.byte_at.Reads as byte-at-reads
-use Rattle.fields.proofs.index.Reads as index-reads
-use Rattle.fields.proofs.set_at.Reads as set-at-reads
-use Rattle.places.proofs.masks.bit.Reads as bit-reads
-use Rattle.places.proofs.masks.chosen.Reads as chosen-reads
 
 abbrev Inv-loop : tie.InvT-loop
-Inv-loop s from start stop m onward sets missing₀ missers₀ lowest₀ i₀ missing missers lowest i = (i ≤ stop) × (lowest ≤ lowest₀) × (missers < 2 ^ 64) × Served (certificateAt s from) m onward sets start i missers₀ missing₀ missers missing
+Inv-loop s from count start m onward sets shared wanted missing₀ missers₀ lowest₀ i₀ left₀ missing missers lowest i left = Going (certificateAt s from) count m onward sets wanted missing₀ i left missers missing
 
 abbrev μ-loop : tie.MeasureT-loop
-μ-loop s from start stop m onward sets missing₀ missers₀ lowest₀ i₀ missing missers lowest i = stop - i
+μ-loop s from count start m onward sets shared wanted missing₀ missers₀ lowest₀ i₀ left₀ missing missers lowest i left = left
 
--- src/missing.rt:96:5
+round-requires : tie.Need-round-requires Inv-loop μ-loop
+round-requires c κs = search needs
+
 loop-holds : tie.Need-loop-holds Inv-loop μ-loop
-loop-holds c = (c .before .pre .0, omega arith, search needs, served-none _ _ _ _ _ _ _ (c .before .pre .3))
+loop-holds c = let a = c .before .before .args in going-none _ _ _ _ _ _ _ (c .before .before .pre .0 .2) (search needs) (λ h. round-lt (a .start) (a .count) h (c .round .ensures))
 
--- src/missing.rt:98:13
 returns : tie.Need-returns Inv-loop μ-loop
-returns c = (served-stop _ _ _ _ _ _ _ (c .before .before .loop .inv .3) _ (c .if1 .taken) (c .before .before .loop .inv .0), c .before .before .loop .inv .1)
+returns c = served-all _ _ _ _ _ _ _ (c .before .before .loop .inv) (c .before .before .before .before .before .pre .0 .0) (c .if1 .taken)
 
--- the pair that is looked at stands in the sheet
-in-sheet : (c : tie.Else1 Inv-loop μ-loop) → c .before .before .before .before .args .from + 6 * c .before .before .loop .i < length (c .before .before .before .before .args .s .now)
-in-sheet c = let a = c .before .before .before .before .args in pair-at (a .s .now) (a .from) (c .before .before .loop .i) (omega arith) .inside-sheet
+-- the pair that is looked at is one of the certificate
+pair-in : (c : tie.Else1 Inv-loop μ-loop) → c .before .before .loop .i < c .before .before .before .before .before .args .count
+pair-in c = going-inside _ _ _ _ _ _ _ (c .before .before .loop .inv) (positive _ (c .if1 .left))
 
--- src/missing.rt:100:25
-mul-at : tie.Need-mul-at Inv-loop μ-loop
-mul-at c = omega (arith, in-sheet c)
+-- and stands in the sheet
+in-sheet : (c : tie.Else1 Inv-loop μ-loop) → c .before .before .before .before .before .args .from + 6 * c .before .before .loop .i < length (c .before .before .before .before .before .args .s .now)
+in-sheet c =
+    let a = c .before .before .before .before .before .args in
+    pair-at (a .s .now) (a .from) (c .before .before .loop .i) (omega (arith, pair-in c, c .before .before .before .before .before .pre .0 .0)) .inside-sheet
 
--- src/missing.rt:100:18
-add-at : tie.Need-add-at Inv-loop μ-loop
-add-at c = omega (arith, in-sheet c)
+mul-listed-at : tie.Need-mul-listed-at Inv-loop μ-loop
+mul-listed-at c = omega (arith, in-sheet c)
 
--- src/missing.rt:101:34
-add-byte-at : tie.Need-add-byte-at Inv-loop μ-loop
-add-byte-at c = omega (arith, in-sheet c)
+add-listed-at : tie.Need-add-listed-at Inv-loop μ-loop
+add-listed-at c = omega (arith, in-sheet c)
 
--- src/missing.rt:101:23
-byte-at-requires : tie.Need-byte-at-requires Inv-loop μ-loop
-byte-at-requires c κs = search needs
+listed-at-requires : tie.Need-listed-at-requires Inv-loop μ-loop
+listed-at-requires c κs = in-sheet c
 
--- src/missing.rt:101:13
 index-requires : tie.Need-index-requires Inv-loop μ-loop
 index-requires c κs = search needs
 
--- src/missing.rt:102:20
-add-next : tie.Need-add-next Inv-loop μ-loop
-add-next c = search needs
-
--- src/missing.rt:103:12
 listed-requires : tie.Need-listed-requires Inv-loop μ-loop
 listed-requires c κs = search needs
 
--- src/missing.rt:104:23
+both-requires : tie.Need-both-requires Inv-loop μ-loop
+both-requires c κs = search needs
+
+-- what is read there is the pair
+is-pair : (c : tie.After-both Inv-loop μ-loop)
+    → pairOf (certificateAt (c .before .before .before .before .before .before .before .before .before .args .s .now) (c .before .before .before .before .before .before .before .before .before .args .from)) (c .before .before .before .before .before .before .loop .i) ≡ pair (c .before .before .index .result) (c .before .before .before .listed-at .result .set)
+is-pair c =
+    let a = c .before .before .before .before .before .before .before .before .before .args in
+    pair-read (a .s .now) (a .from) (c .before .before .before .before .before .before .loop .i) (omega (arith, pair-in (c .before .before .before .before), c .before .before .before .before .before .before .before .before .before .pre .0 .0))
+    (c .before .before .index .ensures ∙ c .before .before .before .listed-at .ensures .0) (c .before .before .before .listed-at .ensures .1)
+
+-- the test: the pair's place is one that misses an event, and its set lies within the followers
+abbrev misser : tie.After-both Inv-loop μ-loop → Bool
+misser c = has (c .before .before .before .before .before .before .loop .missers) (c .before .before .index .result)
+
+abbrev lies : tie.After-both Inv-loop μ-loop → Bool
+lies c = let set = c .before .before .before .listed-at .result .set in eqb (bitAnd set (c .before .before .before .before .before .before .before .before .before .args .onward)) set
+
+test-is : (c : tie.After-both Inv-loop μ-loop) → (misser c && lies c) ≡ c .both .result
+test-is c = ap (λ (b : Bool). b && lies c) (sym (c .before .listed .ensures)) ∙ sym (c .both .ensures)
+
+passed : (c : tie.Then2 Inv-loop μ-loop) → (misser (c .before) ≡ true) × (lies (c .before) ≡ true)
+passed c = and-both (misser (c .before)) (lies (c .before)) (test-is (c .before) ∙ c .if2 .taken)
+
+place-lt : (c : tie.Then2 Inv-loop μ-loop) → c .before .before .before .index .result < 64
+place-lt c = number-lt (c .before .before .before .before .before .before .before .loop .inv .small) (passed c .0)
+
 mul-row : tie.Need-mul-row Inv-loop μ-loop
 mul-row c = search needs
 
--- src/missing.rt:104:23
 element-copy-out-row : tie.Need-element-copy-out-row Inv-loop μ-loop
-element-copy-out-row c = number-lt (c .before .before .before .before .before .before .loop .inv .2) (sym (c .before .listed .ensures) ∙ c .if2 .taken)
+element-copy-out-row c = place-lt c
 
--- src/missing.rt:105:48
-add-set-at : tie.Need-add-set-at Inv-loop μ-loop
-add-set-at c = omega (arith, in-sheet (c .before .before .before .before .before))
+events-of-requires : tie.Need-events-of-requires Inv-loop μ-loop
+events-of-requires c κs = search needs
 
--- src/missing.rt:105:38
-set-at-requires : tie.Need-set-at-requires Inv-loop μ-loop
-set-at-requires c κs = search needs
+without-requires : tie.Need-without-requires Inv-loop μ-loop
+without-requires c κs = search needs
 
--- src/missing.rt:105:17
-unserved-requires : tie.Need-unserved-requires Inv-loop μ-loop
-unserved-requires c κs = search needs
-
--- src/missing.rt:107:17
 mul-missing : tie.Need-mul-missing Inv-loop μ-loop
 mul-missing c = search needs
 
--- src/missing.rt:107:17
 element-write-missing : tie.Need-element-write-missing Inv-loop μ-loop
-element-write-missing c = number-lt (c .before .before .before .before .before .before .before .before .before .before .loop .inv .2) (sym (c .before .before .before .before .before .listed .ensures) ∙ c .before .before .before .before .if2 .taken)
+element-write-missing c = place-lt (c .before .before .before)
 
--- src/missing.rt:108:55
 bit-requires : tie.Need-bit-requires Inv-loop μ-loop
-bit-requires c κs = number-lt (c .before .before .before .before .before .before .before .before .before .before .loop .inv .2) (sym (c .before .before .before .before .before .listed .ensures) ∙ c .before .before .before .before .if2 .taken)
+bit-requires c κs = place-lt (c .before .before .before)
 
--- src/missing.rt:108:37
 chosen-requires : tie.Need-chosen-requires Inv-loop μ-loop
 chosen-requires c κs = search needs
 
--- src/missing.rt:109:17
 least-requires : tie.Need-least-requires Inv-loop μ-loop
 least-requires c κs = search needs
 
--- src/missing.rt:96:5
+-- what the pair leaves
+abbrev Leaves : tie.Joined2 Inv-loop μ-loop → Type 0
+Leaves c =
+    let a = c .before .before .before .before .before .before .before .before .before .before .args in
+    let w = c .before .before .before .before .before .before .before .loop in
+    Left (a .m) (a .onward) (a .sets .now) (c .before .before .before .index .result) (c .before .before .before .before .listed-at .result .set) (w .missers) (w .missing) (c .if2 .missers) (c .if2 .missing)
+
+pair-leaves : (c : tie.Joined2 Inv-loop μ-loop) → Leaves c
+pair-leaves c =
+    let a = c .before .before .before .before .before .before .before .before .before .before .args in
+    let p = c .before .before .before .before .before .before .before .before .before .before .pre in
+    let w = c .before .before .before .before .before .before .before .loop in
+    let set = c .before .before .before .before .listed-at .result .set in
+    ⊎-elim
+    (λ u.
+    let o = passed (record { before = c .before; if2 = u .0 }) in
+    let held = u .2 .ensures (certificateAt (a .s .now) (a .from)) (p .1) (omega (arith, pair-in (c .before .before .before .before .before), p .0 .0)) (ap (λ (p : Pair). p .set) (is-pair (c .before))) in
+    let row = getD (w .missing) (c .before .before .before .index .result) 0 in
+    let left = leaves-row set row (u .2 .result) (a .m) (a .onward) (a .sets .now) (u .3 .ok) (u .2 .ok) (u .3 .ensures) held (o .1) in
+    left-same _ _ _ _ _ _ _ (left-row _ _ _ _ _ _ _ (w .inv .long) (w .inv .small) (u .3 .result) left (o .0) (u .4 .ensures) (u .5 .ensures)) (u .8) (u .7))
+    (λ u. left-same _ _ _ _ _ _ _ (left-off _ _ _ _ _ _ _ (w .inv .long) (w .inv .small) (test-is (c .before) ∙ u .0 .left)) (u .2) (u .1))
+    (c .if2 .came)
+
+add-round : tie.Need-add-round Inv-loop μ-loop
+add-round c = omega (arith, pair-in (c .before .before .before .before .before))
+
+round-requires-2 : tie.Need-round-requires-2 Inv-loop μ-loop
+round-requires-2 c κs = search needs
+
+sub-left : tie.Need-sub-left Inv-loop μ-loop
+sub-left c = positive _ (c .before .before .before .before .before .before .if1 .left)
+
 loop-less : tie.Need-loop-less Inv-loop μ-loop
-loop-less c = search needs
+loop-less c = let h = positive _ (c .before .before .before .before .before .before .if1 .left) in omega arith
 
--- src/missing.rt:96:5
 loop-again : tie.Need-loop-again Inv-loop μ-loop
-loop-again c = let a = c .before .before .before .before .before .before .before .before .before .before .before .before .before .before .before .args in
-    let w = c .before .before .before .before .before .before .before .before .before .before .before .before .before .loop in
-    let here = sym (c .before .before .before .before .before .before .before .before .listed .ensures) ∙ c .before .before .before .before .before .before .before .if2 .taken in (
-      omega arith,
-      le-trans (c .least .ensures .0) (w .inv .1),
-      xor-lt 64 (w .missers) (c .before .chosen .result) (w .inv .2) (omega (arith, c .before .chosen .ok)),
-      served-more _ _ _ _ _ _ _ (w .inv .3) (pair-read (a .s .now) (a .from) (w .i) (omega arith) (c .before .before .before .before .before .before .before .before .before .index .ensures ∙ c .before .before .before .before .before .before .before .before .before .before .byte-at .ensures) (c .before .before .before .before .before .set-at .ensures))
-          (left-row _ _ _ _ _ _ _ (w .inv .3 .long) (c .before .before .before .before .unserved .result) (c .before .before .before .before .unserved .ensures) here (number-lt (w .inv .2) here) (c .before .before .bit .ensures) (c .before .chosen .ensures)),
-    )
+loop-again c = going-more _ _ _ _ _ _ _ (c .before .before .before .before .before .before .before .before .loop .inv) (positive _ (c .before .before .before .before .before .before .if1 .left)) (is-pair (c .before .before)) (pair-leaves (c .before)) (c .round2 .ensures)
 
--- src/missing.rt:96:5
-loop-less-2 : tie.Need-loop-less-2 Inv-loop μ-loop
-loop-less-2 c = search needs
-
--- src/missing.rt:96:5
-loop-again-2 : tie.Need-loop-again-2 Inv-loop μ-loop
-loop-again-2 c = let a = c .before .before .before .before .before .before .before .before .before .before .before .before .args in
-    let w = c .before .before .before .before .before .before .before .before .before .before .loop in (
-      omega arith,
-      w .inv .1,
-      w .inv .2,
-      served-more _ _ _ _ _ _ _ (w .inv .3) (pair-read (a .s .now) (a .from) (w .i) (omega arith) (c .before .before .before .before .before .before .index .ensures ∙ c .before .before .before .before .before .before .before .byte-at .ensures) (c .before .before .set-at .ensures))
-          (left-same _ _ _ _ _ _ _ (w .inv .3 .long) (c .before .unserved .result) (c .before .unserved .ensures) (c .if3 .left)),
-    )
-
--- src/missing.rt:96:5
-loop-less-3 : tie.Need-loop-less-3 Inv-loop μ-loop
-loop-less-3 c = search needs
-
--- src/missing.rt:96:5
-loop-again-3 : tie.Need-loop-again-3 Inv-loop μ-loop
-loop-again-3 c = let a = c .before .before .before .before .before .before .before .before .args in
-    let w = c .before .before .before .before .before .before .loop in (
-      omega arith,
-      w .inv .1,
-      w .inv .2,
-      served-more _ _ _ _ _ _ _ (w .inv .3) (pair-read (a .s .now) (a .from) (w .i) (omega arith) (c .before .before .index .ensures ∙ c .before .before .before .byte-at .ensures) refl)
-          (left-off _ _ _ _ _ _ _ (w .inv .3 .long) (sym (c .before .listed .ensures) ∙ c .if2 .left)),
-    )
-
--- src/missing.rt:78:1
 returns-2 : tie.Need-returns-2 Inv-loop μ-loop
-returns-2 c = let a = c .before .before .before .args in
-    let w = c .before .loop in
-    let e : w .i ≡ a .stop = omega (arith, w .inv .0, c .loop-test .left) in
-    (subst (λ (b : ℕ). Served (certificateAt (a .s .now) (a .from)) (a .m) (a .onward) (a .sets .now) (a .start) b (a .before .missers) (a .missing .now) (w .missers) (w .missing)) e (w .inv .3), w .inv .1)
+returns-2 c = served-stop _ _ _ _ _ _ _ (c .before .loop .inv) (c .before .before .before .before .pre .0 .0) (c .loop-test .left)
 
 pub serve-spec : {M : Type 1} → statement M
 serve-spec =
@@ -169,29 +161,27 @@ serve-spec =
     (tie.spec
     Inv-loop
     μ-loop
+    round-requires
     loop-holds
     returns
-    mul-at
-    add-at
-    add-byte-at
-    byte-at-requires
+    mul-listed-at
+    add-listed-at
+    listed-at-requires
     index-requires
-    add-next
     listed-requires
+    both-requires
     mul-row
     element-copy-out-row
-    add-set-at
-    set-at-requires
-    unserved-requires
+    events-of-requires
+    without-requires
     mul-missing
     element-write-missing
     bit-requires
     chosen-requires
     least-requires
+    add-round
+    round-requires-2
+    sub-left
     loop-less
     loop-again
-    loop-less-2
-    loop-again-2
-    loop-less-3
-    loop-again-3
     returns-2)

@@ -7,7 +7,7 @@ use native.Mathlib.Omega.{arith}
 use lib.ListN.{length}
 use Rattle.sheet.specs.Record.{byteAt}
 use Rattle.places.specs.Machine.{Stacked}
-use Rattle.places.proofs.Reading.{takes, takes-most, kind-star, symbol-inside}
+use Rattle.places.proofs.Reading.{takes, takes-most, kind-empty, kind-join, kind-star, symbol-inside}
 use Rattle.places.proofs.Midway.{Going, going-start, going-leaf, going-empty, going-join, going-either, going-star, out-full, out-leaf, out-few}
 use borrow.Author.Needs.{needs}
 use Rattle.places.proofs.stack.push_condition.Statement.{statement}
@@ -72,11 +72,15 @@ module _ (c : tie.Else1 Inv-loop μ-loop) where
   inside : record-at < length sheet
   inside = symbol-inside sheet record-at kind (kind-is refl) takes-few
 
--- what is left is a star
-star-is : (c : tie.Else6 Inv-loop μ-loop) → kind (c .before .before .before .before) ≡ 5
-star-is c =
-    let k = c .before .before .before .before in
-    kind-star (kind k) (takes-few k) (c .before .before .before .if2 .left) (c .before .before .if4 .left) (c .before .if5 .left) (c .if6 .left)
+-- what the tests leave
+empty-is : (c : tie.Else3 Inv-loop μ-loop) → kind (c .before .before) ≡ 2
+empty-is c = let k = c .before .before in kind-empty (kind k) (takes-few k) (c .before .if2 .taken) (c .if3 .left)
+
+join-is : (c : tie.Else6 Inv-loop μ-loop) → kind (c .before .before .before) ≡ 3
+join-is c = kind-join (kind (c .before .before .before)) (c .before .before .if2 .left) (c .before .if5 .taken) (c .if6 .left)
+
+star-is : (c : tie.Else5 Inv-loop μ-loop) → kind (c .before .before) ≡ 5
+star-is c = let k = c .before .before in kind-star (kind k) (takes-few k) (c .if5 .left)
 
 -- The turns -------------------------------------------------------------------------------------------------------------
 
@@ -86,11 +90,11 @@ add-n c = search needs
 add-at : tie.Need-add-at Inv-loop μ-loop
 add-at c = let h = inside c in search needs
 
-add-if3 : tie.Need-add-if3 Inv-loop μ-loop
-add-if3 c = search needs
+add-if4 : tie.Need-add-if4 Inv-loop μ-loop
+add-if4 c = search needs
 
 returns-2 : tie.Need-returns-2 Inv-loop μ-loop
-returns-2 c = let k = c .before .before in out-leaf (k .before .before .before .before .loop .inv) (kind-is k (c .before .if2 .taken)) (c .if3 .taken)
+returns-2 c = let k = c .before .before .before in out-leaf (k .before .before .before .before .loop .inv) (kind-is k (c .before .if3 .taken)) (c .if4 .taken)
 
 set-at-requires : tie.Need-set-at-requires Inv-loop μ-loop
 set-at-requires c κs = search needs
@@ -105,15 +109,15 @@ add-leaves : tie.Need-add-leaves Inv-loop μ-loop
 add-leaves c = search needs
 
 add-at-2 : tie.Need-add-at-2 Inv-loop μ-loop
-add-at-2 c = let h = inside (c .before .before .before .before .before .before .before .before .before) in search needs
+add-at-2 c = let h = inside (c .before .before .before .before .before .before .before .before .before .before) in search needs
 
 loop-less : tie.Need-loop-less Inv-loop μ-loop
 loop-less c = search needs
 
 loop-again : tie.Need-loop-again Inv-loop μ-loop
-loop-again c = let k = c .before .before .before .before .before .before .before .before .before in
-    going-leaf (k .before .before .before .before .loop .inv) (kind-is k (c .before .before .before .before .before .before .before .before .if2 .taken))
-    (c .before .before .before .before .before .before .before .if3 .left) (c .before .before .before .before .before .before .set-at .ensures) (c .push-leaf .ensures)
+loop-again c = let at = c .before .before .before .before .before .before in
+    let k = at .before .before .before .before in
+    going-leaf (k .before .before .before .before .loop .inv) (kind-is k (at .before .before .if3 .taken)) (at .before .if4 .left) (at .set-at .ensures) (c .push-leaf .ensures)
 
 push-empty-requires : tie.Need-push-empty-requires Inv-loop μ-loop
 push-empty-requires c κs = search needs
@@ -125,46 +129,47 @@ loop-less-2 : tie.Need-loop-less-2 Inv-loop μ-loop
 loop-less-2 c = search needs
 
 loop-again-2 : tie.Need-loop-again-2 Inv-loop μ-loop
-loop-again-2 c = let k = c .before .before .before .before .before .before in
+loop-again-2 c = let e = c .before .before .before .before in
+    let k = e .before .before in
     let g = k .before .before .before .before .loop in
-    going-empty (g .inv) (kind-is k (c .before .before .before .before .if4 .taken)) (c .push-empty .ensures _ _ (g .leaves) (g .inv .rows))
+    going-empty (g .inv) (kind-is k (empty-is e)) (c .push-empty .ensures _ _ (g .leaves) (g .inv .rows))
 
-join-top-requires : tie.Need-join-top-requires Inv-loop μ-loop
-join-top-requires c κs = let h = enough (c .before .before .before .before .before .before .before) (c .before .before .before .before .if5 .taken) in search needs
+either-top-requires : tie.Need-either-top-requires Inv-loop μ-loop
+either-top-requires c κs = let h = enough (c .before .before .before .before .before .before) (c .before .before .before .if6 .taken) in search needs
 
 sub-depth : tie.Need-sub-depth Inv-loop μ-loop
-sub-depth c = let h = enough (c .before .before .before .before .before .before .before .before) (c .before .before .before .before .before .if5 .taken) in search needs
+sub-depth c = let h = enough (c .before .before .before .before .before .before .before) (c .before .before .before .before .if6 .taken) in search needs
 
 loop-less-3 : tie.Need-loop-less-3 Inv-loop μ-loop
 loop-less-3 c = search needs
 
 loop-again-3 : tie.Need-loop-again-3 Inv-loop μ-loop
-loop-again-3 c = let k = c .before .before .before .before .before .before .before .before in
-    let e = c .join-top .ensures in
-    going-join (k .before .before .before .before .loop .inv) (kind-is k (c .before .before .before .before .before .if5 .taken)) (k .before .before .before .before .before .before .pre .1) (e .0) (e .1 .0) (e .1 .1)
+loop-again-3 c = let k = c .before .before .before .before .before .before .before in
+    let e = c .either-top .ensures in
+    going-either (k .before .before .before .before .loop .inv) (kind-is k (c .before .before .before .before .if6 .taken)) (k .before .before .before .before .before .before .pre .1) (e .0) (e .1 _)
 
-either-top-requires : tie.Need-either-top-requires Inv-loop μ-loop
-either-top-requires c κs = let h = enough (c .before .before .before .before .before .before .before) (c .before .before .before .if6 .taken) in search needs
+join-top-requires : tie.Need-join-top-requires Inv-loop μ-loop
+join-top-requires c κs = let h = enough (c .before .before .before .before .before .before .before) (join-is (c .before .before .before .before)) in search needs
 
 sub-depth-2 : tie.Need-sub-depth-2 Inv-loop μ-loop
-sub-depth-2 c = let h = enough (c .before .before .before .before .before .before .before .before) (c .before .before .before .before .if6 .taken) in search needs
+sub-depth-2 c = let h = enough (c .before .before .before .before .before .before .before .before) (join-is (c .before .before .before .before .before)) in search needs
 
 loop-less-4 : tie.Need-loop-less-4 Inv-loop μ-loop
 loop-less-4 c = search needs
 
 loop-again-4 : tie.Need-loop-again-4 Inv-loop μ-loop
 loop-again-4 c = let k = c .before .before .before .before .before .before .before .before in
-    let e = c .either-top .ensures in
-    going-either (k .before .before .before .before .loop .inv) (kind-is k (c .before .before .before .before .if6 .taken)) (k .before .before .before .before .before .before .pre .1) (e .0) (e .1 _)
+    let e = c .join-top .ensures in
+    going-join (k .before .before .before .before .loop .inv) (kind-is k (join-is (c .before .before .before .before .before))) (k .before .before .before .before .before .before .pre .1) (e .0) (e .1 .0) (e .1 .1)
 
 star-top-requires : tie.Need-star-top-requires Inv-loop μ-loop
-star-top-requires c κs = let h = enough (c .before .before .before .before .before .before .before .before) (star-is (c .before .before .before .before)) in search needs
+star-top-requires c κs = let h = enough (c .before .before .before .before .before .before) (star-is (c .before .before .before .before)) in search needs
 
 loop-less-5 : tie.Need-loop-less-5 Inv-loop μ-loop
 loop-less-5 c = search needs
 
 loop-again-5 : tie.Need-loop-again-5 Inv-loop μ-loop
-loop-again-5 c = let k = c .before .before .before .before .before .before .before .before .before in
+loop-again-5 c = let k = c .before .before .before .before .before .before .before in
     let e = c .star-top .ensures in
     going-star (k .before .before .before .before .loop .inv) (kind-is k (star-is (c .before .before .before .before .before))) (k .before .before .before .before .before .before .pre .1) (e .0) (e .1 .0) (e .1 .1)
 
@@ -184,7 +189,7 @@ push-condition-spec =
     returns
     add-n
     add-at
-    add-if3
+    add-if4
     returns-2
     set-at-requires
     push-leaf-requires
@@ -197,11 +202,11 @@ push-condition-spec =
     add-depth-2
     loop-less-2
     loop-again-2
-    join-top-requires
+    either-top-requires
     sub-depth
     loop-less-3
     loop-again-3
-    either-top-requires
+    join-top-requires
     sub-depth-2
     loop-less-4
     loop-again-4
