@@ -117,7 +117,7 @@ pub fn events_of(i: usize, set: u64, m: usize, sets: &[u64; 64], shared: &[u64; 
     }
 }
 
-// The number of the pair after the pairs below i, going round.
+// Number i of `count`, going round: behind the last comes the first.
 pub fn round(i: usize, count: usize) -> usize
     ensures { λ r. ⌜ r ≡ cond (ltb i count) i 0 ⌝ }
 {

@@ -21,14 +21,28 @@ use Rattle.sheet.specs.Decode.{symbolIn, symbolsOn, postfix}
 abbrev pub takes : ℕ → ℕ
 takes k = getD (97 ∷ 0 ∷ 0 ∷ 2 ∷ 2 ∷ 1 ∷ []) k 97
 
-pub takes-other : (k : ℕ) → (k ≡ 1 → ⊥) → (k ≡ 2 → ⊥) → (k ≡ 3 → ⊥) → (k ≡ 4 → ⊥) → (k ≡ 5 → ⊥) → 97 ≡ takes k
-takes-other zero a b c d e = refl
-takes-other (suc zero) a b c d e = absurd (a refl)
-takes-other (suc (suc zero)) a b c d e = absurd (b refl)
-takes-other (suc (suc (suc zero))) a b c d e = absurd (c refl)
-takes-other (suc (suc (suc (suc zero)))) a b c d e = absurd (d refl)
-takes-other (suc (suc (suc (suc (suc zero))))) a b c d e = absurd (e refl)
-takes-other (suc (suc (suc (suc (suc (suc k)))))) a b c d e = refl
+pub takes-none : (k : ℕ) → k < 3 → (k ≡ 0 → ⊥) → 0 ≡ takes k
+takes-none zero h a = absurd (a refl)
+takes-none (suc zero) h a = refl
+takes-none (suc (suc zero)) h a = refl
+takes-none (suc (suc (suc k))) h a = absurd (omega arith)
+
+pub takes-two : (k : ℕ) → 3 ≤ k → k < 5 → 2 ≡ takes k
+takes-two zero l h = absurd (omega arith)
+takes-two (suc zero) l h = absurd (omega arith)
+takes-two (suc (suc zero)) l h = absurd (omega arith)
+takes-two (suc (suc (suc zero))) l h = refl
+takes-two (suc (suc (suc (suc zero)))) l h = refl
+takes-two (suc (suc (suc (suc (suc k))))) l h = absurd (omega arith)
+
+pub takes-other : (k : ℕ) → 5 ≤ k → (k ≡ 5 → ⊥) → 97 ≡ takes k
+takes-other zero l a = absurd (omega arith)
+takes-other (suc zero) l a = absurd (omega arith)
+takes-other (suc (suc zero)) l a = absurd (omega arith)
+takes-other (suc (suc (suc zero))) l a = absurd (omega arith)
+takes-other (suc (suc (suc (suc zero)))) l a = absurd (omega arith)
+takes-other (suc (suc (suc (suc (suc zero))))) l a = absurd (a refl)
+takes-other (suc (suc (suc (suc (suc (suc k)))))) l a = refl
 
 pub takes-most : (k : ℕ) → takes k ≤ 97
 takes-most k =
@@ -54,10 +68,7 @@ kind-star k l h = go (eqb k 5) refl
     go : (t : Bool) → eqb k 5 ≡ t → k ≡ 5
     go true e = eqb-true k 5 e
     go false e =
-        let z =
-        takes-other k (λ (e : k ≡ 1). omega arith) (λ (e : k ≡ 2). omega arith) (λ (e : k ≡ 3). omega arith) (λ (e : k ≡ 4). omega arith)
-        (eqb-false k 5 e) in
-        absurd (omega arith)
+        let z = takes-other k h (eqb-false k 5 e) in absurd (omega arith)
 
 -- The records of symbols ------------------------------------------------------------------------------------------------
 

@@ -125,13 +125,14 @@ pub fn star_top(
 fn operands(kind: u8) -> usize
     ensures { λ n. ⌜ n ≡ getD (97 ∷ 0 ∷ 0 ∷ 2 ∷ 2 ∷ 1 ∷ []) kind 97 ⌝ }
 {
-    match kind {
-        1 => 0,
-        2 => 0,
-        3 => 2,
-        4 => 2,
-        5 => 1,
-        _ => 97,
+    if kind < 3 {
+        if kind == 0 { 97 } else { 0 }
+    } else if kind < 5 {
+        2
+    } else if kind == 5 {
+        1
+    } else {
+        97
     }
 }
 
