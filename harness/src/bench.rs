@@ -5,7 +5,7 @@ use crate::sheets;
 use std::hint::black_box;
 use std::time::Duration;
 
-const ROUNDS: usize = 7;
+const ROUNDS: usize = 31;
 /// Each measurement repeats its work for about this long.
 const SPAN: Duration = Duration::from_millis(20);
 
@@ -25,13 +25,11 @@ pub fn bench(all: &[Doors], word: &str) {
     println!("{}", if ratio { " ratio |" } else { "" });
     println!("|---|{}", "---|".repeat(all.len() + ratio as usize));
     for family in families().into_iter().filter(|family| family.name.contains(word)) {
-        let times = medians(&family, all);
-        let cells: Vec<String> = times.iter().map(|&time| shown(time)).collect();
+        let times = rounds(&family, all);
+        let cells: Vec<String> = times.iter().map(|list| shown(median(list.clone()))).collect();
         print!("| {} | {} |", family.name, cells.join(" | "));
-        println!(
-            "{}",
-            if ratio { format!(" {:.2} |", times[1] / times[0]) } else { String::new() }
-        );
+        let ratios = || times[1].iter().zip(&times[0]).map(|(one, other)| one / other).collect();
+        println!("{}", if ratio { format!(" {:.2} |", median(ratios())) } else { String::new() });
     }
 }
 
@@ -78,8 +76,8 @@ fn one_word(name: &str, (sheet, word): (Vec<u8>, Vec<u8>)) -> Family {
     Family { name, work, parts: 1 }
 }
 
-/// Median nanoseconds of one part, for each loader.
-fn medians(family: &Family, all: &[Doors]) -> Vec<f64> {
+/// Nanoseconds of one part in each round, for each loader.
+fn rounds(family: &Family, all: &[Doors]) -> Vec<Vec<f64>> {
     let repeats: Vec<usize> = all.iter().map(|doors| repeats(family, doors)).collect();
     let mut times = vec![vec![]; all.len()];
     for _ in 0..ROUNDS {
@@ -92,7 +90,7 @@ fn medians(family: &Family, all: &[Doors]) -> Vec<f64> {
             times[i].push((clock::now() - start).as_nanos() as f64 / parts);
         }
     }
-    times.iter_mut().map(|list| median(list)).collect()
+    times
 }
 
 /// How often the work is done in one measurement.
@@ -103,7 +101,7 @@ fn repeats(family: &Family, doors: &Doors) -> usize {
     (SPAN.as_nanos() / once.as_nanos()).max(1) as usize
 }
 
-fn median(list: &mut [f64]) -> f64 {
+fn median(mut list: Vec<f64>) -> f64 {
     list.sort_by(f64::total_cmp);
     list[list.len() / 2]
 }

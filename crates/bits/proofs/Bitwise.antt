@@ -1,21 +1,16 @@
--- More laws of sets as machine words: the numbers below n, the difference of sets, and a test of one number more.
+-- More laws of sets as machine words: the numbers below n, and the difference of sets.
 use mathlib.Core.Path.{_≡_, refl, ap, _∙_}
 use mathlib.Core.Bool.{Bool, true, not, _&&_}
 use mathlib.Core.Logic.{_⊎_, inl, inr}
 use Prim.Native.Nat.{ℕ, zero, suc, _+_, _-_, _/_, _%_, _^_, _<_}
 use native.Mathlib.Nat.{pow-suc}
-use native.Mathlib.Numerals.{add-one}
 use native.Mathlib.Omega.{arith}
 use lib.Dec.{T, eqb, ltb, lt→ltb, ltb→lt}
 use lib.Bits.{bitXor, xor-shr, xor-mod}
-use Rattle.bits.specs.Bits.{has, allBelow, setOf}
+use Rattle.bits.specs.Bits.{has, setOf}
 use Rattle.bits.proofs.Tests.{T-ext}
 use Rattle.bits.proofs.Sets.{has-lt, set-in, set-lt}
 use Rattle.bits.proofs.Masks.{bits-ext, set-has}
-
-pub all-next : (n : ℕ) (f : ℕ → Bool) → allBelow (n + 1) f ≡ (allBelow n f && f n)
-unfolding allBelow
-all-next n f = rw (add-one n)
 
 -- the set of the numbers below n is 2 ^ n - 1
 below-is : (n : ℕ) → setOf n (λ k. true) + 1 ≡ 2 ^ n
