@@ -55,6 +55,7 @@ fn families() -> Vec<Family> {
         one_load("hostile certificate", sheets::hostile()),
         one_word("in the same places", sheets::steady_word()),
         one_word("in changing places", sheets::changing_word()),
+        one_word("in one place at a time", sheets::single_word()),
         Family { name: read_name, work: read_work, parts: 1 },
     ]
 }
@@ -69,7 +70,7 @@ fn one_load(name: &str, sheet: Vec<u8>) -> Family {
 }
 
 fn one_word(name: &str, (sheet, word): (Vec<u8>, Vec<u8>)) -> Family {
-    let name = format!("word of 4,096 events on 31 leaves, {name}");
+    let name = format!("word of {} events on 31 leaves, {name}", word.len());
     let work = Box::new(move |doors: &Doors| {
         black_box((doors.word_test)(black_box(&sheet), 1, black_box(&word)));
     });

@@ -12,7 +12,7 @@ use crate::random::Random;
 #[cfg(test)]
 pub use draft::{certificate, Draft, Step};
 pub use families::{
-    changing_word, hostile, large_certificate, many_rules, small_honest, steady_word,
+    changing_word, hostile, large_certificate, many_rules, single_word, small_honest, steady_word,
 };
 #[cfg(test)]
 pub use stray::{least, row};

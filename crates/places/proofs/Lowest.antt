@@ -6,7 +6,7 @@ use Prim.Native.Nat.{ℕ, zero, suc, _-_, _/_, _%_, _^_, _<_}
 use native.Mathlib.Nat.{le-refl, le-of-suc-le-suc, zero-lt-suc, pow-suc}
 use native.Mathlib.Omega.{arith}
 use lib.Dec.{T, eqb, eqb·suc-zero, eqb·suc-suc}
-use lib.Bits.{bitAnd, and-step}
+use lib.Bits.{bitAnd, and-step, and-le-r}
 use lib.Count.{trailingZeros}
 use borrow.Author.Tests.{eqb-true}
 use Rattle.bits.specs.Bits.{_⇒_, has, anyBelow, allBelow}
@@ -93,6 +93,10 @@ lowest (suc k) x h l = go (lowest k (x / 2)) (digit (x % 2) (omega arith))
 
 pub lowest-lt : (x : ℕ) → (x ≡ 0 → ⊥) → x < 2 ^ 64 → trailingZeros 64 x < 64
 lowest-lt x h l = has-lt 64 x (trailingZeros 64 x) l (lowest 64 x (positive x h) l .here)
+
+-- a set without its lowest number is a lesser word, so a loop that takes the numbers off ends
+pub without-less : (x : ℕ) → (x ≡ 0 → ⊥) → bitAnd x (x - 1) < x
+without-less x h = omega (arith, positive x h, and-le-r x (x - 1))
 
 -- Tests of the numbers of a set -----------------------------------------------------------------------------------------
 

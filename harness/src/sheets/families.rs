@@ -92,17 +92,23 @@ pub fn hostile() -> Vec<u8> {
 /// A sheet whose condition 1 has 31 leaves, and a word of 4,096 events of it
 /// that stays in the same places.
 pub fn steady_word() -> (Vec<u8>, Vec<u8>) {
-    with_word(row(31).star())
+    with_word(row(31).star(), 4_096)
 }
 
-/// The same with a word that changes between two sets of places.
+/// The same with a word that changes between sets of 15 and 16 places.
 pub fn changing_word() -> (Vec<u8>, Vec<u8>) {
-    with_word(row(15).join(row(16)).star())
+    with_word(row(15).join(row(16)).star(), 4_096)
 }
 
-fn with_word(tree: Tree) -> (Vec<u8>, Vec<u8>) {
+/// The same with a word of 4,092 events that is in one place at a time.
+pub fn single_word() -> (Vec<u8>, Vec<u8>) {
+    let chain = (1..31).fold(row(1), |tree, _| tree.join(row(1)));
+    with_word(chain.star(), 4_092)
+}
+
+fn with_word(tree: Tree, length: usize) -> (Vec<u8>, Vec<u8>) {
     let mut draft = least();
     draft.conditions.push(tree);
-    let word = (0..4_096).map(|i| (i % 32) as u8).collect();
+    let word = (0..length).map(|i| (i % 32) as u8).collect();
     (draft.certified(), word)
 }

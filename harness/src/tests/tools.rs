@@ -20,7 +20,7 @@ fn timed_sheets_are_accepted() {
     }
     assert_eq!(families[0].len(), 65_536);
     assert_eq!(sheets::pairs(&families[1]), 10_371);
-    for (sheet, word) in [sheets::steady_word(), sheets::changing_word()] {
+    for (sheet, word) in [sheets::steady_word(), sheets::changing_word(), sheets::single_word()] {
         assert_eq!(reference::word_test(&sheet, 1, &word).to_string(), "yes");
     }
 }

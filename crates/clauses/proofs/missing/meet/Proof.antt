@@ -1,9 +1,7 @@
 -- `clauses::missing::meet` meets its contract. The loop's invariant: what the set holds are the events of `events` that the places of `rest` hold.
-use Prim.Native.Nat.{_-_}
 use native.Mathlib.Omega.{arith}
-use lib.Bits.{and-le-r}
 use lib.Count.{trailing-le}
-use Rattle.places.proofs.Lowest.{positive, lowest-lt}
+use Rattle.places.proofs.Lowest.{positive, lowest-lt, without-less}
 use Rattle.clauses.proofs.Keeping.{Meeting, meeting-none, meeting-more, meeting-all}
 use borrow.Author.Needs.{needs}
 use Rattle.clauses.proofs.missing.meet.Statement.{statement}
@@ -34,10 +32,7 @@ sub-rest : tie.Need-sub-rest Inv-loop μ-loop
 sub-rest c = positive _ (c .before .loop-test .taken)
 
 loop-less : tie.Need-loop-less Inv-loop μ-loop
-loop-less c = let x = c .before .before .loop .rest in
-    let h = positive x (c .before .loop-test .taken) in
-    let l = and-le-r x (x - 1) in
-    omega arith
+loop-less c = without-less _ (c .before .loop-test .taken)
 
 loop-again : tie.Need-loop-again Inv-loop μ-loop
 loop-again c = meeting-more _ _ _ (c .before .before .loop .inv) (c .before .loop-test .taken)

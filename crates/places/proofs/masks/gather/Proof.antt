@@ -1,9 +1,7 @@
 -- `masks::gather` meets its contract. The invariant, `Gathering`: `found` and the rows of the places of `rest` make the union.
-use Prim.Native.Nat.{_-_}
 use native.Mathlib.Omega.{arith}
-use lib.Bits.{and-le-r}
 use lib.Count.{trailing-le}
-use Rattle.places.proofs.Lowest.{positive, lowest-lt}
+use Rattle.places.proofs.Lowest.{positive, lowest-lt, without-less}
 use Rattle.places.proofs.Filling.{Gathering, gathering-none, gathering-more, gathering-all}
 use borrow.Author.Needs.{needs}
 use Rattle.places.proofs.masks.gather.Statement.{statement}
@@ -38,11 +36,7 @@ sub-rest : tie.Need-sub-rest Inv-loop μ-loop
 sub-rest c = positive _ (c .before .loop-test .taken)
 
 loop-less : tie.Need-loop-less Inv-loop μ-loop
-loop-less c =
-    let x = c .before .before .loop .rest in
-    let h = positive x (c .before .loop-test .taken) in
-    let l = and-le-r x (x - 1) in
-    omega arith
+loop-less c = without-less _ (c .before .loop-test .taken)
 
 loop-again : tie.Need-loop-again Inv-loop μ-loop
 loop-again c = gathering-more (c .before .before .loop .inv) (c .before .loop-test .taken)

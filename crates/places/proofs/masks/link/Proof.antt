@@ -1,9 +1,7 @@
 -- `masks::link` meets its contract. The invariant, `Linking`: the rows are as asked once those at the places of `rest` are linked.
-use Prim.Native.Nat.{_-_}
 use native.Mathlib.Omega.{arith}
-use lib.Bits.{and-le-r}
 use lib.Count.{trailing-le}
-use Rattle.places.proofs.Lowest.{positive, lowest-lt}
+use Rattle.places.proofs.Lowest.{positive, lowest-lt, without-less}
 use Rattle.places.proofs.Filling.{Linking, linking-none, linking-more, linking-all}
 use borrow.Author.Needs.{needs}
 use Rattle.places.proofs.masks.link.Statement.{statement}
@@ -45,11 +43,7 @@ sub-rest : tie.Need-sub-rest Inv-loop μ-loop
 sub-rest c = positive _ (c .before .loop-test .taken)
 
 loop-less : tie.Need-loop-less Inv-loop μ-loop
-loop-less c =
-    let x = c .before .before .loop .rest in
-    let h = positive x (c .before .loop-test .taken) in
-    let l = and-le-r x (x - 1) in
-    omega arith
+loop-less c = without-less _ (c .before .loop-test .taken)
 
 loop-again : tie.Need-loop-again Inv-loop μ-loop
 loop-again c = linking-more (c .before .before .loop .inv) (c .before .loop-test .taken)
