@@ -5,7 +5,9 @@ use crate::sheets;
 use std::hint::black_box;
 use std::time::Duration;
 
+/// Rounds of a measurement, and of one whose work takes longer than a span.
 const ROUNDS: usize = 31;
+const FEW_ROUNDS: usize = 7;
 /// Each measurement repeats its work for about this long.
 const SPAN: Duration = Duration::from_millis(20);
 
@@ -80,8 +82,9 @@ fn one_word(name: &str, (sheet, word): (Vec<u8>, Vec<u8>)) -> Family {
 /// Nanoseconds of one part in each round, for each loader.
 fn rounds(family: &Family, all: &[Doors]) -> Vec<Vec<f64>> {
     let repeats: Vec<usize> = all.iter().map(|doors| repeats(family, doors)).collect();
+    let quick = repeats.iter().all(|&times| times > 1);
     let mut times = vec![vec![]; all.len()];
-    for _ in 0..ROUNDS {
+    for _ in 0..if quick { ROUNDS } else { FEW_ROUNDS } {
         for (i, doors) in all.iter().enumerate() {
             let start = clock::now();
             for _ in 0..repeats[i] {

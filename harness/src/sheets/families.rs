@@ -71,7 +71,8 @@ fn with_pre(pre: Tree, past: Tree) -> Draft {
     draft
 }
 
-/// A certificate as long as fits in which each pair needs the last one.
+/// A certificate as long as fits in which each pair needs the last one, and each
+/// of the others lists all right places, one of which holds no event.
 pub fn hostile() -> Vec<u8> {
     let zero_last = row(30).either(Tree::Leaf(0)).star();
     let draft = with_pre(row(31).star(), zero_last);
@@ -80,7 +81,7 @@ pub fn hostile() -> Vec<u8> {
     let room = (LONGEST - out.len() - 15) / 6;
     let mut pairs = vec![(0, 1)];
     pairs.extend((1..31).map(|place| (place, 2)));
-    pairs.resize(room - 1, (31, 1 << 31));
+    pairs.resize(room - 1, (31, !1));
     pairs.push((31, 2));
     certificate(&mut out, &pairs);
     for pairs in rest {
