@@ -94,7 +94,7 @@ module _ {lasts firsts : ℕ} {F₀ F : List ℕ} {rest : ℕ} (l : Linking last
 -- Gathering: `found` and the rows of the places of the rest make the union of the rows of the places of the set ---------
 
 -- the row of one of the places of the set x below n has q
-abbrev inRows : List ℕ → ℕ → ℕ → ℕ → Bool
+abbrev pub inRows : List ℕ → ℕ → ℕ → ℕ → Bool
 inRows F n x q = anyBelow n (λ p. has x p && has (getD F p 0) q)
 
 pub record Gathering (F : List ℕ) (n x found rest : ℕ) : Type 0 where

@@ -1,15 +1,17 @@
--- From the stack to the tables of a side, and from these to stepping a word.
+-- From the stack to the tables of a side, the unions of their rows that are kept, and from these to stepping a word.
 use mathlib.Core.Path.{_≡_, refl, sym, ap, ap₂, _∙_, subst}
-use mathlib.Core.Bool.{Bool, false, cond, not, _&&_, _||_, or-false, and-false, and-true}
+use mathlib.Core.Bool.{Bool, true, false, cond, not, _&&_, _||_, or-false, and-false, and-true}
 use mathlib.Core.List.{List, [], _∷_}
 use Prim.Native.Nat.{ℕ, zero, suc, _+_, _^_, _≤_, _<_}
 use native.Mathlib.Omega.{arith}
 use native.Mathlib.Nat.{le-of-suc-le-suc}
 use native.Mathlib.Numerals.{add-one}
-use lib.ListN.{length, getD, set, take, length-set}
+use lib.ListN.{length, getD, set, take, replicate, length-set, length-replicate, getD-replicate}
 use lib.Seq.{getD-set-same, getD-set-other, take-all}
 use lib.Dec.{eqb}
 use lib.Bits.{bitAnd, bitOr}
+use lib.Count.{trailingZeros}
+use borrow.Author.Tests.{eqb-true, eqb-false}
 use Rattle.bits.specs.Bits.{has, anyBelow}
 use Rattle.bits.proofs.Tests.{T-true, any-cong}
 use Rattle.bits.proofs.Sets.{has-none, start-has, has-start}
@@ -23,9 +25,10 @@ use Rattle.places.specs.declared.Side.{Side}
 use Rattle.places.specs.declared.Part.{Part}
 use Rattle.places.specs.declared.Part.the-variants.{Condition as ConditionAt, Event}
 use Rattle.places.specs.Tables.{Tables, StandsAt, PartIs}
-use Rattle.places.specs.Machine.{ItemIs, RowsAre, Stacked, bottom, above, Rows, Pushed, Settled, Holding}
+use Rattle.places.specs.Machine.{ItemIs, RowsAre, Stacked, bottom, above, Rows, Pushed, Settled, Holding, Unions}
 use Rattle.places.proofs.Behind.{fails, behind-zero}
-use Rattle.places.proofs.Lowest.{any-none}
+use Rattle.places.proofs.Lowest.{lowest-lt, any-none}
+use Rattle.places.proofs.Filling.{inRows}
 
 -- Parts -----------------------------------------------------------------------------------------------------------------
 
@@ -116,6 +119,54 @@ settled-rows {firsts = firsts} {F = F} e w = record {
   rows-sets = w .rows-sets;
 }
 
+-- The unions that are kept ----------------------------------------------------------------------------------------------
+
+-- no place has no row
+none-united : (F : List ℕ) (n q : ℕ) → has 0 q ≡ inRows F n 0 q
+none-united F n q = has-none q ∙ sym (any-none n 0 (λ p. has (getD F p 0) q) (λ p _. has-none p))
+
+-- a set without a lowest place is empty
+pub union-none : (F : List ℕ) (n x : ℕ) → x < 2 ^ 64 → 64 ≤ trailingZeros 64 x → (q : ℕ) → has 0 q ≡ inRows F n x q
+union-none F n zero h l q = none-united F n q
+union-none F n (suc x) h l q = let k = lowest-lt (suc x) (λ (e : suc x ≡ 0). omega arith) h in absurd (omega arith)
+
+-- at the start each set is empty
+pub unions-none : (F : List ℕ) (n : ℕ) → Unions F n (replicate 64 0) (replicate 64 0)
+unions-none F n = record {
+  sets-long = length-replicate {A = ℕ} 64 0;
+  unions-long = length-replicate {A = ℕ} 64 0;
+  united = λ p q l.
+      ap (λ (u : ℕ). has u q) (getD-replicate 64 p 0 0 l) ∙ none-united F n q ∙ ap (λ (x : ℕ). inRows F n x q) (sym (getD-replicate 64 p 0 0 l));
+}
+
+module _ {F : List ℕ} {n : ℕ} {K U : List ℕ} (k : Unions F n K U) where
+  -- the union of a set that is kept
+  pub union-kept : (p x : ℕ) → p < 64 → getD K p 0 ≡ x → (q : ℕ) → has (getD U p 0) q ≡ inRows F n x q
+  union-kept p x l e q = k .united p q l ∙ ap (λ (y : ℕ). inRows F n y q) e
+
+  -- the set x is kept with its union u
+  pub unions-more : (p x u : ℕ) → p < 64 → ((q : ℕ) → has u q ≡ inRows F n x q) → Unions F n (set K p x) (set U p u)
+  unions-more p x u l f =
+      record {
+        sets-long = length-set K p x ∙ k .sets-long;
+        unions-long = length-set U p u ∙ k .unions-long;
+        united = λ i q h. at i q h (eqb i p) refl;
+      }
+    where
+      at : (i q : ℕ) → i < 64 → (b : Bool) → eqb i p ≡ b → has (getD (set U p u) i 0) q ≡ inRows F n (getD (set K p x) i 0) q
+      at i q h true e =
+          let m = k .sets-long in
+          let w = k .unions-long in
+          rw (eqb-true i p e)
+          (ap (λ (y : ℕ). has y q) (getD-set-same U p u 0 (omega arith))
+          ∙ f q
+          ∙ ap (λ (y : ℕ). inRows F n y q) (sym (getD-set-same K p x 0 (omega arith))))
+      at i q h false e =
+          let z = eqb-false i p e in
+          ap (λ (y : ℕ). has y q) (getD-set-other U p i u 0 z)
+          ∙ k .united i q h
+          ∙ ap (λ (y : ℕ). inRows F n y q) (sym (getD-set-other K p i x 0 z))
+
 -- The word test ---------------------------------------------------------------------------------------------------------
 
 module _ {r : Condition} {side : Side} {F S H : List ℕ} {events : ℕ} (t : Tables r side F S) (h : Holding S (side .leaves) events H) where
@@ -141,16 +192,6 @@ module _ {r : Condition} {side : Side} {F S H : List ℕ} {events : ℕ} (t : Ta
       ∙ ap (λ (x : ℕ). step r x (getD w i 0)) e
       ∙ sym (stepAll-take r 1 w i l)
       ∙ ap (λ (x : ℕ). stepAll r 1 (take x w)) (sym (add-one i))
-
--- u is the union of the rows of F, below n, of the places of the set x
-pub record Gathered (F : List ℕ) (n x u : ℕ) : Type 0 where
-  pub gathered : (q : ℕ) → has u q ≡ anyBelow n (λ p. has x p && has (getD F p 0) q)
-
-pub gathered-none : (F : List ℕ) (n : ℕ) → Gathered F n 0 0
-gathered-none F n = record { gathered = λ q. has-none q ∙ sym (any-none n 0 (λ p. has (getD F p 0) q) (λ p _. has-none p)) }
-
-pub gathered-as : {F : List ℕ} {n x y u v : ℕ} → y ≡ x → v ≡ u → Gathered F n x u → Gathered F n y v
-gathered-as {F} {n} {x} {y} {u} {v} e f g = rw (e, f) g
 
 pub word-none : (r : Condition) (w : List ℕ) → 1 ≡ stepAll r 1 (take 0 w)
 unfolding stepAll

@@ -1,12 +1,12 @@
 -- The stack on which the places of a condition are found from its postfix form. It has an item for each condition that is not yet part of a
 -- larger one; the leaves of an item stand behind those of the items below it.
 use mathlib.Core.Path.{_≡_}
-use mathlib.Core.Bool.{Bool, false, cond}
+use mathlib.Core.Bool.{Bool, false, cond, _&&_}
 use mathlib.Core.List.{List, [], _∷_}
 use Prim.Native.Nat.{ℕ, suc, _+_, _-_, _≤_, _<_}
 use lib.ListN.{length, getD, set}
 use lib.Bits.{bitOr}
-use Rattle.bits.specs.Bits.{has}
+use Rattle.bits.specs.Bits.{has, anyBelow}
 use Rattle.condition.specs.Condition.{Condition, star}
 use Rattle.condition.specs.Places.{leaves, beside, leafSet, nullable, first, last, follow}
 use Rattle.places.specs.declared.Side.{Side}
@@ -71,6 +71,12 @@ pub record Linked (lasts firsts : ℕ) (F F′ : List ℕ) : Type 0 where
 pub record Holding (S : List ℕ) (n events : ℕ) (H : List ℕ) : Type 0 where
   pub holding-rows : length H ≡ 64
   pub holding-is : (e q : ℕ) → e < events → 0 < q → q ≤ n → has (getD H e 0) q ≡ has (getD S q 0) e
+
+-- row p of U is the union of the rows of F at the places below n that row p of K has
+pub record Unions (F : List ℕ) (n : ℕ) (K U : List ℕ) : Type 0 where
+  pub sets-long : length K ≡ 64
+  pub unions-long : length U ≡ 64
+  pub united : (p q : ℕ) → p < 64 → has (getD U p 0) q ≡ anyBelow n (λ k. has (getD K p 0) k && has (getD F k 0) q)
 
 -- the item of a whole side becomes its tables: row 0 of follow and bit 0 of ends are place 0's
 pub record Settled (n : ℕ) (nulls : Bool) (firsts lasts : ℕ) (side : Side) (F F′ : List ℕ) : Type 0 where

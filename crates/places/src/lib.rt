@@ -1,11 +1,13 @@
 // The places of a condition, or of two joined, as tables: from the postfix records in the sheet's bytes.
 ghost use mathlib.Core.Path.{_≡_};
+ghost use mathlib.Core.Bool.{_&&_};
 ghost use Prim.Native.Nat.{ℕ, _<_, _≤_};
 ghost use lib.ListN.{length, getD};
+ghost use Rattle.bits.specs.Bits.{has, anyBelow};
 ghost use Rattle.condition.specs.Condition.{Condition, join};
 ghost use Rattle.condition.specs.Places.{accepts};
 ghost use Rattle.places.specs.Tables.{Tables, StandsAt, PartIs};
-ghost use Rattle.places.specs.Machine.{Roomy, Rows, Settled};
+ghost use Rattle.places.specs.Machine.{Roomy, Rows, Unions, Settled};
 use fields::index;
 use masks::chosen;
 use masks::fill_holding;
@@ -85,6 +87,32 @@ pub fn joined_side(
     settle(n, nullable[0], first[0], last[0], follow)
 }
 
+// The union of the rows of `follow` at the places below n that the set has. For each lowest place the last set is kept with its union, so
+// that a word that comes back to the same places is stepped without gathering their rows again.
+fn union_of(
+    follow: &[u64; 64],
+    n: usize,
+    set: u64,
+    known: &mut [u64; 64],
+    unions: &mut [u64; 64],
+) -> u64
+    requires { ⌜ (n ≤ 64) × Unions (now follow) n (now known) (now unions) ⌝ }
+    ensures union { λ r. ⌜ ((q : ℕ) → has r q ≡ anyBelow n (λ p. has set p && has (getD (now (follow .entry)) p 0) q)) ⌝ }
+    ensures kept { λ _. ⌜ Unions (now (follow .entry)) n (now (known .exit)) (now (unions .exit)) ⌝ }
+{
+    let p = u64::trailing_zeros(set) as usize;
+    if 64 <= p {
+        return 0;
+    }
+    if known[p] == set {
+        return unions[p];
+    }
+    let union = gather(follow, n, set);
+    known[p] = set;
+    unions[p] = union;
+    union
+}
+
 // The condition at an offset holds the word: the places after each event are the followers of those before that hold it.
 pub fn holds_word(s: &[u8], at: usize, events: usize, word: &[u8]) -> bool
     requires { ⌜ (events ≤ 64) × ((i : ℕ) → i < length (now word) → getD (now word) i 0 < events) ⌝ }
@@ -109,20 +137,16 @@ pub fn holds_word(s: &[u8], at: usize, events: usize, word: &[u8]) -> bool
     let ends = side.ends;
     fill_holding(&sets, leaves, events, &mut holding);
     let mut places: u64 = 1;
-    let mut known: u64 = 0;
-    let mut union: u64 = 0;
+    let mut known: [u64; 64] = [0; 64];
+    let mut unions: [u64; 64] = [0; 64];
     let mut i: usize = 0;
     while i < word.len() {
         // from no place no word is accepted
         if places == 0 {
             return false;
         }
-        // a word that stays in the same places is stepped without gathering their rows again
-        if places != known {
-            union = gather(&follow, leaves + 1, places);
-            known = places;
-        }
         let e = index(word[i]);
+        let union = union_of(&follow, leaves + 1, places, &mut known, &mut unions);
         places = union & holding[e];
         i += 1;
     }
