@@ -12,7 +12,7 @@ use Rattle.runs.specs.Rules.{Rule, firstRules, methodRules, stepRules}
 use Rattle.all_rules.specs.declared.rules.Subject.{Subject}
 use Rattle.all_rules.specs.declared.rules.Subject.the-variants.{First, Method, Step}
 
--- of the sheet in the bytes s, whose steps stand at the offsets that a table has
+-- the rules of a subject of the sheet in the bytes s, whose steps stand at the offsets that a table has
 abbrev pub rulesOf : List ℕ → List ℕ → Subject → List Rule
 rulesOf s steps First = firstRules (sheetOf large s) 0
 rulesOf s steps (Method m) = methodRules (sheetOf large s) m (body (sheetOf large s) m)
@@ -24,7 +24,7 @@ SubjectExists S First = Unit {0}
 SubjectExists S (Method m) = m < length (S .methods)
 SubjectExists S (Step i) = i < length (S .steps)
 
--- by their numbers: 0, then the methods, then the steps
+-- "They are tested in this order: 1, 2, methods ascending, steps ascending": the subject of a number, where there are so many methods
 abbrev pub subjectAt : ℕ → ℕ → Subject
 subjectAt methods zero = First
 subjectAt methods (suc k) = cond (ltb k methods) (Method k) (Step (k - methods))

@@ -160,17 +160,17 @@ fn subject_rules(
 }
 
 // The subject of a number, in the order of testing: the first, then the methods, then the steps.
-fn subject_at(number: usize, bodies: usize) -> Subject
-    ensures { λ r. ⌜ r ≡ subjectAt bodies number ⌝ }
+fn subject_at(number: usize, listed: usize) -> Subject
+    ensures { λ r. ⌜ r ≡ subjectAt listed number ⌝ }
 {
     if number == 0 {
         return Subject::First;
     }
     let k = number - 1;
-    if k < bodies {
+    if k < listed {
         Subject::Method(k)
     } else {
-        Subject::Step(k - bodies)
+        Subject::Step(k - listed)
     }
 }
 
@@ -181,13 +181,13 @@ pub fn all_rules(
     points: &[usize; 512],
     methods: &[usize; 64],
     steps: &[usize; 512],
-    bodies: usize,
+    listed: usize,
     moves: usize,
     from: usize,
 ) -> Tested
     requires { ⌜ Indexed large (now s) (now conditions) (now points) (now methods) ⌝ }
     requires { ⌜ StepsHeld large (now s) (now steps) ⌝ }
-    requires { ⌜ bodies ≡ length (sheetOf large (now s) .methods) ⌝ }
+    requires { ⌜ listed ≡ length (sheetOf large (now s) .methods) ⌝ }
     requires { ⌜ moves ≡ length (sheetOf large (now s) .steps) ⌝ }
     ensures { λ r. ⌜ Tries (now (s .entry)) (rules (sheetOf large (now (s .entry)))) from r ⌝ }
 {
@@ -202,14 +202,14 @@ pub fn all_rules(
     let mut shared = [0; 64];
     let mut start = from;
     let mut number: usize = 0;
-    while number <= bodies + moves {
+    while number <= listed + moves {
         let tested = subject_rules(
             s,
             conditions,
             points,
             methods,
             steps,
-            subject_at(number, bodies),
+            subject_at(number, listed),
             start,
             &mut nulls,
             &mut firsts,

@@ -1,7 +1,7 @@
 // Doors for C and Rust: reading a sheet, the loader and the word test on lent slices, the answer as seven numbers.
 // C passes a slice as a pointer and the number of its elements; usize is size_t.
 ghost use mathlib.Core.Path.{_≡_};
-ghost use mathlib.Core.List.{List, [], _∷_};
+ghost use mathlib.Core.List.{[], _∷_};
 ghost use Rattle.records.specs.Refusal.{placeOf};
 ghost use Rattle.sheet.specs.Model.{large};
 ghost use Rattle.sheet.specs.Reading.{readSheet};

@@ -1,6 +1,5 @@
 // Tests of one record: its names, and what a record of a condition does to the condition.
 ghost use mathlib.Core.Path.{_≡_};
-ghost use mathlib.Core.Bool.{_&&_};
 ghost use Prim.Native.Nat.{_<_};
 ghost use lib.ListN.{length};
 ghost use lib.Dec.{ltb};
@@ -8,17 +7,12 @@ ghost use Rattle.sheet.specs.Reading.{named};
 ghost use Rattle.sheet.specs.Record.{byteAt, shortAt, point-record, pointAt, method-record, methodAt, step-record, stepAt};
 ghost use Rattle.tally.specs.Tally.{tallyOf};
 ghost use Rattle.checks.specs.Step.{nothingBegun, itemsTaken, leavesIn, Modest, symbolStep, endStep, conditionStep};
+use fields::both;
 use fields::byte_at;
 use fields::index;
 use fields::short_at;
 use records::Refusal;
 use tally::Tally;
-
-pub fn both(a: bool, b: bool) -> bool
-    ensures { λ r. ⌜ r ≡ (a && b) ⌝ }
-{
-    if a { b } else { false }
-}
 
 // The name at an offset is one of the first n.
 fn below(s: &[u8], i: usize, n: usize) -> bool

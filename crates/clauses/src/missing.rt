@@ -16,13 +16,13 @@ use super::sets::listed;
 use super::sets::lowest;
 use super::sets::lowest_row;
 use super::sets::without;
+use fields::both;
 use fields::index;
 use pairs::Pair;
 use pairs::listed_at;
 use pairs::pair_from;
 use places::masks::below;
 use places::masks::bit;
-use places::masks::both;
 use places::masks::chosen;
 use places::masks::gather;
 

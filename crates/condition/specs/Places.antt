@@ -1,7 +1,7 @@
 -- The places of a condition and the word test: document 01, "Places and certificates". The places are the positions of the Glushkov
 -- automaton; stepping a set of them is its subset construction.
 use mathlib.Core.Bool.{Bool, true, false, _&&_, _||_}
-use mathlib.Core.List.{List, [], _∷_}
+use mathlib.Core.List.{[], _∷_}
 use Prim.Native.Nat.{ℕ, zero, suc, _+_, _-_}
 use lib.Dec.{eqb, leb}
 use Rattle.bits.specs.Bits.{has, anyBelow, setOf}

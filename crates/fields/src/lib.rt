@@ -1,5 +1,6 @@
 // Fields of a sheet, low byte first. A byte past the end reads as 0, so each of these is total.
 ghost use mathlib.Core.Path.{_≡_};
+ghost use mathlib.Core.Bool.{_&&_};
 ghost use Prim.Native.Nat.{_+_, _*_};
 ghost use Rattle.sheet.specs.Record.{byteAt, shortAt, setAt};
 
@@ -67,4 +68,11 @@ pub fn set_at(s: &[u8], i: usize) -> u64
     } else {
         0
     }
+}
+
+// Both tests pass.
+pub fn both(a: bool, b: bool) -> bool
+    ensures { λ r. ⌜ r ≡ (a && b) ⌝ }
+{
+    if a { b } else { false }
 }

@@ -42,13 +42,6 @@ pub fn chosen(test: bool, set: u64) -> u64
     if test { set } else { 0 }
 }
 
-// Both tests pass.
-pub fn both(a: bool, b: bool) -> bool
-    ensures { λ r. ⌜ r ≡ (a && b) ⌝ }
-{
-    if a { b } else { false }
-}
-
 // One of the tests passes.
 pub fn one_of(a: bool, b: bool) -> bool
     ensures { λ r. ⌜ r ≡ (a || b) ⌝ }

@@ -9,10 +9,10 @@ ghost use Rattle.places.specs.Tables.{StandsAt, PartIs};
 ghost use Rattle.places.specs.Machine.{Roomy, Rows, Pushed, Starred, Merged};
 use crate::Part;
 use crate::masks::bit;
-use crate::masks::both;
 use crate::masks::chosen;
 use crate::masks::link;
 use crate::masks::one_of;
+use fields::both;
 use fields::byte_at;
 use fields::set_at;
 

@@ -1,16 +1,16 @@
 -- In a sheet that is read whole no limit is passed, and what was read stands before the end.
 use mathlib.Core.Path.{_≡_, refl, sym, subst, _∙_}
 use mathlib.Core.Bool.{Bool, true, false, cond}
-use mathlib.Core.List.{List, [], _∷_, _++_}
-use Prim.Native.Nat.{ℕ, suc, _≤_, _<_}
+use mathlib.Core.List.{List}
+use Prim.Native.Nat.{ℕ, _≤_, _<_}
 use native.Mathlib.Omega.{arith}
 use lib.ListN.{length}
-use lib.Dec.{leb, ltb}
+use lib.Dec.{ltb}
 use borrow.Author.Tests.{ltb-false, leb-false}
 use Rattle.sheet.specs.Model.{Model, conditionLimit, methodLimit, stepLimit}
 use Rattle.sheet.specs.Each.{Each, nil, cons}
 use Rattle.sheet.specs.Record.{Record, symbol-record, end-of-condition, point-record, method-record, step-record, pair-record, end-of-certificate, nextAt}
-use Rattle.sheet.specs.Reading.{Tally, Offsets, Reading, fresh, overLimit, tallyPast, offsetsPast, whole, refusal, readOn, readFrom, readSheet}
+use Rattle.sheet.specs.Reading.{Tally, Offsets, Reading, fresh, overLimit, tallyPast, offsetsPast, whole, refusal, readOn, readSheet}
 use Rattle.sheet.proofs.Each.{each-append}
 use Rattle.sheet.proofs.Fields.{next-lt}
 use Rattle.sheet.proofs.Take.{Took}

@@ -8,7 +8,7 @@ use lib.ListN.{take, replicate}
 use Rattle.condition.specs.Condition.{Word}
 use Rattle.sheet.specs.Model.{large}
 use Rattle.verdict.specs.Verdict.{verdictOf}
-use Rattle.verdict.specs.WordTest.{Answer, tested, untested, wordTest}
+use Rattle.verdict.specs.WordTest.{Answer, untested, wordTest}
 use Rattle.verdict.specs.Line.{ascii, line}
 use Rattle.verdict.specs.Cases.{point0, method0, start, threeStarts, M, W}
 

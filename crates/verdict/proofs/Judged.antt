@@ -1,18 +1,12 @@
 -- Testing the rules in order finds nothing wrong exactly where each passes, and else the first fault; the verdict of a whole reading.
-use mathlib.Core.Path.{_≡_, refl, sym, ap, _∙_, subst}
-use mathlib.Core.Bool.{Bool, true, false, cond}
-use mathlib.Core.Logic.{_⊎_, inl, inr}
-use mathlib.Core.Option.{Option, none, some}
+use mathlib.Core.Path.{_≡_, refl, sym, ap, _∙_}
 use mathlib.Core.List.{List, [], _∷_, _++_, append-assoc}
-use Prim.Native.Nat.{ℕ, suc, _+_}
+use Prim.Native.Nat.{ℕ, _+_}
 use native.Mathlib.Omega.{arith}
 use lib.ListN.{length}
-use lib.Dec.{T, eqb}
 use Rattle.certificate.specs.Certificate.{Certificate, Finding, fine, fault}
-use Rattle.sheet.specs.Model.{Model}
-use Rattle.sheet.specs.Sheet.{Sheet}
-use Rattle.runs.specs.Rules.{Claim, _isIn_, holdsEmpty, Rule, _of_says_, rules, total, count}
-use Rattle.verdict.specs.Verdict.{Report, accepted, refused, unproved, testOf, needed, certificatesNeeded, nextOf, leftAfter, reported, firstFault, judged}
+use Rattle.runs.specs.Rules.{Claim, _isIn_, holdsEmpty, Rule, _of_says_, rules, total}
+use Rattle.verdict.specs.Verdict.{Report, unproved, testOf, needed, certificatesNeeded, nextOf, leftAfter, reported, firstFault}
 use Rattle.verdict.specs.Promise.{EachCertified, done, bare, certified, Passes, FirstFault}
 
 pub needed-is : (x : Rule) (xs : List Rule) → certificatesNeeded (x ∷ xs) ≡ needed (x .claim) + certificatesNeeded xs

@@ -2,14 +2,12 @@
 -- of an accepted sheet are safe.
 use mathlib.Core.Path.{_≡_, refl, sym, ap, _∙_, subst}
 use mathlib.Core.Bool.{Bool, true, false, cond}
-use mathlib.Core.Logic.{_↔_}
-use mathlib.Core.Option.{Option, none, some}
-use mathlib.Core.List.{List, [], _∷_}
+use mathlib.Core.Option.{Option, some}
+use mathlib.Core.List.{List}
 use Prim.Native.Nat.{ℕ, _≤_}
 use lib.ListN.{length}
 use lib.Dec.{T, eqb, eqb→eq, eqb-refl}
 use Rattle.bits.proofs.Tests.{T-true}
-use Rattle.certificate.specs.Certificate.{Certificate}
 use Rattle.sheet.specs.Model.{Model}
 use Rattle.sheet.specs.Sheet.{Sheet, body}
 use Rattle.sheet.specs.Record.{Bytes}
@@ -17,11 +15,11 @@ use Rattle.sheet.specs.Reading.{Reading, Outcome, whole, refusal, readSheet}
 use Rattle.sheet.specs.Decode.{sheetOf}
 use Rattle.sheet.proofs.Kept.{HasBody, events-below, first-has-body}
 use Rattle.sheet.proofs.Narrow.{conditions-below}
-use Rattle.runs.specs.Rules.{Rule, rules, rulesFrom, AllMet, count}
+use Rattle.runs.specs.Rules.{rules, rulesFrom, AllMet, count}
 use Rattle.runs.specs.Runs.{Move, run, Safe}
 use Rattle.runs.proofs.Safe.{runs-are-safe}
 use Rattle.verdict.specs.Verdict.{Report, accepted, refused, unproved, certificatesNeeded, firstFault, judged, verdictAfter, verdictOf}
-use Rattle.verdict.specs.Promise.{WellFormed, EachCertified, Passes, ExactFor, FirstFault, Loads}
+use Rattle.verdict.specs.Promise.{WellFormed, EachCertified, Passes, FirstFault, Loads}
 use Rattle.verdict.proofs.Judged.{Tried, all-pass, one-fails, tried, pass-all}
 use Rattle.verdict.proofs.RulesMet.{all-met, all-pass as exact-pass, rules-below}
 

@@ -1,9 +1,9 @@
 -- Document 01's last sheet to try, of bytes and the verdict: a primitive "close" with the future "nothing more, or next an advance", called last
 -- in a loop whose body starts with event 0. If some run that ends goes round twice, the sheet is not accepted.
-use mathlib.Core.Path.{_≡_, sym, subst}
+use mathlib.Core.Path.{_≡_, subst}
 use mathlib.Core.List.{List, _∷_}
 use Prim.Native.Nat.{ℕ, _≤_}
-use Rattle.condition.specs.Condition.{Word, Condition, Holds}
+use Rattle.condition.specs.Condition.{Condition, Holds}
 use Rattle.sheet.specs.Model.{Model}
 use Rattle.sheet.specs.Record.{Bytes}
 use Rattle.sheet.specs.Sheet.{future}

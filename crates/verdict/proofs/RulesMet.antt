@@ -8,7 +8,7 @@ use Rattle.condition.specs.Condition.{Condition, join, event}
 use Rattle.condition.specs.Places.{nullable}
 use Rattle.condition.proofs.Words.{nullable-holds}
 use Rattle.condition.proofs.Narrow.{EventsBelow}
-use Rattle.certificate.specs.Certificate.{Certificate, fine, fault}
+use Rattle.certificate.specs.Certificate.{Certificate, fault}
 use Rattle.certificate.proofs.Findings.{fine-is, is-fine, unless-out, unless-in}
 use Rattle.certificate.proofs.Sound.{sound}
 use Rattle.certificate.proofs.Complete.{complete}

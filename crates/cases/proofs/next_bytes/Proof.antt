@@ -3,9 +3,6 @@ use lib.Seq.{length-take-le}
 use borrow.Author.Needs.{needs}
 use Rattle.cases.proofs.next_bytes.Statement.{statement}
 use Rattle.cases.proofs.next_bytes.Tie as tie
-use Rattle.cases.proofs.next_bytes.Reads as reads
-use Rattle.cases.proofs.next_bytes.Lts as lts
-use Rattle.io.proofs.read_full.Reads as read-full-reads
 
 -- src/lib.rt:45:9
 returns : tie.Need-returns

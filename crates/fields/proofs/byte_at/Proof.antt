@@ -4,8 +4,6 @@ use Rattle.fields.proofs.Laws.{byte-past}
 use borrow.Author.Needs.{needs}
 use Rattle.fields.proofs.byte_at.Statement.{statement}
 use Rattle.fields.proofs.byte_at.Tie as tie
-use Rattle.fields.proofs.byte_at.Reads as reads
-use Rattle.fields.proofs.byte_at.Lts as lts
 
 -- src/lib.rt:9:22
 shared-slice-read-result : tie.Need-shared-slice-read-result

@@ -5,9 +5,6 @@ use Rattle.pairs.proofs.Laws.{end-near}
 use borrow.Author.Needs.{needs}
 use Rattle.pairs.proofs.certificate_end.Statement.{statement}
 use Rattle.pairs.proofs.certificate_end.Tie as tie
-use Rattle.pairs.proofs.certificate_end.Reads as reads
-use Rattle.pairs.proofs.certificate_end.Lts as lts
-use Rattle.pairs.proofs.pair_count.Reads as pair-count-reads
 
 -- src/lib.rt:81:16
 pair-count-requires : tie.Need-pair-count-requires

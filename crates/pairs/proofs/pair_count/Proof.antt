@@ -7,9 +7,6 @@ use borrow.Author.Needs.{needs}
 use Rattle.pairs.proofs.Laws.{Reached, reached-start, reached-next, reached-end}
 use Rattle.pairs.proofs.pair_count.Statement.{statement}
 use Rattle.pairs.proofs.pair_count.Tie as tie
-use Rattle.pairs.proofs.pair_count.Reads as reads
-use Rattle.pairs.proofs.pair_count.Lts as lts
-use Rattle.pairs.proofs.pair_from.Reads as pair-from-reads
 
 abbrev Inv-loop : tie.InvT-loop
 Inv-loop s from at₀ count₀ at count = Reached s from count at

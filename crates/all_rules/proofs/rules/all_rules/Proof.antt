@@ -12,13 +12,13 @@ use Rattle.all_rules.proofs.rules.all_rules.Statement.{statement}
 use Rattle.all_rules.proofs.rules.all_rules.Tie as tie
 
 abbrev Inv-loop : tie.InvT-loop
-Inv-loop s conditions points methods steps bodies moves from nulls₀ firsts₀ lasts₀ lfollow₀ lsets₀ rfollow₀ rsets₀ missing₀ shared₀ start₀ number₀ nulls firsts lasts lfollow lsets rfollow rsets missing shared start number =
-    (number ≤ suc (bodies + moves))
+Inv-loop s conditions points methods steps listed moves from nulls₀ firsts₀ lasts₀ lfollow₀ lsets₀ rfollow₀ rsets₀ missing₀ shared₀ start₀ number₀ nulls firsts lasts lfollow lsets rfollow rsets missing shared start number =
+    (number ≤ suc (listed + moves))
     × Room nulls firsts lasts lfollow lsets rfollow rsets missing shared
-    × ((u : Tested) → Tries s (rulesLeft (sheetOf large s) bodies number) start u → Tries s (rules (sheetOf large s)) from u)
+    × ((u : Tested) → Tries s (rulesLeft (sheetOf large s) listed number) start u → Tries s (rules (sheetOf large s)) from u)
 
 abbrev μ-loop : tie.MeasureT-loop
-μ-loop s conditions points methods steps bodies moves from nulls₀ firsts₀ lasts₀ lfollow₀ lsets₀ rfollow₀ rsets₀ missing₀ shared₀ start₀ number₀ nulls firsts lasts lfollow lsets rfollow rsets missing shared start number = suc (bodies + moves) - number
+μ-loop s conditions points methods steps listed moves from nulls₀ firsts₀ lasts₀ lfollow₀ lsets₀ rfollow₀ rsets₀ missing₀ shared₀ start₀ number₀ nulls firsts lasts lfollow lsets rfollow rsets missing shared start number = suc (listed + moves) - number
 
 loop-holds : tie.Need-loop-holds Inv-loop μ-loop
 loop-holds c = (omega arith, search needs, λ u t. t)
