@@ -1,4 +1,5 @@
-"""Random runs of accepted sheets, checked against demand 3 of document 01.
+"""Random runs of accepted sheets, checked against demand 3 of document 01 and
+against Ask 12 of document 02, by the languages of the conditions.
 
     python3 simulate.py [SEED [SHEETS]]
 
@@ -10,13 +11,15 @@ from typing import NamedTuple
 
 from generate.draws import Draws
 from generate.faults import changed_bytes, changed_conditions
+from generate.plans import repeated_calls
 from generate.special import examples
 from generate.true_sheets import true_sheets
 from generate.words import derived
 from reference.loader import Accepted, verdict
 from reference.reading import CALL_STEP, EVENT_STEP, read_sheet
-from reference.runs import (RETURN, Move, first_break, in_condition, make_move,
-                            start)
+from reference.runs import (RETURN, Move, callers, first_break,
+                            first_owed_break, in_caller, in_condition,
+                            make_move, missing, start)
 
 RUNS = 12
 MOVES = 40
@@ -27,6 +30,23 @@ class Totals:
     def __init__(self):
         self.sheets = self.runs = self.moves = self.states = 0
         self.made = self.ended = self.after_end = self.deepest = 0
+        self.owed = self.past_maker = self.told_apart = 0
+
+    def count_owed(self, run):
+        """Count the returned calls whose future is owed in a state."""
+        for call in run.returned_calls:
+            if in_caller(run, call):
+                self.owed += 1
+                self.past_maker += call.maker is not run.open_calls[-1]
+            else:
+                self.told_apart += in_like_of_caller(run, call)
+
+
+def in_like_of_caller(run, call):
+    """Whether the active call has the method, the step and the beginning of
+    one of a call's callers."""
+    return not run.ended and any(caller[:3] == run.open_calls[-1][:3]
+                                 for caller in callers(call))
 
 
 class Break(NamedTuple):
@@ -50,6 +70,22 @@ class Walker:
         if key not in self.known:
             self.known[key] = in_condition(sheet, number, word)
         return self.known[key]
+
+    def find(self, sheet, due, future, since):
+        """missing, remembered."""
+        key = due, future, since
+        if key not in self.known:
+            self.known[key] = missing(sheet, due, future, since)
+        return self.known[key]
+
+    def demand_3(self, run):
+        return first_break(self.sheet, run, self.test)
+
+    def ask_12(self, run):
+        return first_owed_break(self.sheet, run, self.find)
+
+    def any_break(self, run):
+        return self.demand_3(run) or self.ask_12(run)
 
     def word_for(self, step):
         """A word for a step: of the trace if it calls a primitive."""
@@ -109,14 +145,15 @@ def check_move(sheet, before, move, after):
         assert added == (step.kind == EVENT_STEP) or step.kind == CALL_STEP
 
 
-def walk(walker, totals, number):
-    """One run; the first break, or None."""
+def walk(walker, totals, number, check=Walker.any_break):
+    """One run; the first break that the check finds, or None."""
     sheet, run, moves = walker.sheet, start(walker.sheet), []
     late = 0
     totals.runs += 1
     while len(moves) < MOVES and late < 3 and len(run.history) < MAX_HISTORY:
         totals.states += 1
-        found = first_break(sheet, run, walker.test)
+        totals.count_owed(run)
+        found = check(walker, run)
         if found:
             return Break(number, moves, *found)
         move = walker.move(run)
@@ -131,7 +168,8 @@ def walk(walker, totals, number):
         totals.deepest = max(totals.deepest, len(after.open_calls))
         run = after
     totals.states += 1
-    found = first_break(sheet, run, walker.test)
+    totals.count_owed(run)
+    found = check(walker, run)
     return Break(number, moves, *found) if found else None
 
 
@@ -140,6 +178,8 @@ def accepted_sheets(seed, count):
     sheets = [sheet for _, sheet in true_sheets(seed, count)]
     yield from accepted_among(examples())
     yield from sheets
+    for _, sheet in true_sheets(seed + 3, count // 4, shapes=[repeated_calls]):
+        yield sheet
     yield from accepted_among(changed_conditions(seed + 1, sheets))
     yield from accepted_among(changed_bytes(seed + 2, sheets, 6))
 
@@ -172,6 +212,9 @@ def main(arguments):
           f"{totals.runs} runs, {totals.moves} moves ({totals.made} made, "
           f"{totals.after_end} after the end), {totals.ended} runs ended, "
           f"deepest {totals.deepest} open calls")
+    print(f"{totals.owed} futures owed, {totals.past_maker} of them after the "
+          f"caller's return; {totals.told_apart} not owed in an activation "
+          f"with the method, step and beginning of a caller")
     if found is None:
         print("0 breaks")
         return 0

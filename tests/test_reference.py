@@ -3,6 +3,8 @@ import subprocess
 import sys
 import unittest
 from collections import Counter
+from functools import lru_cache
+from itertools import product
 from pathlib import Path
 
 from generate import faults
@@ -10,21 +12,24 @@ from generate.draws import Draws
 from generate.refusals import reading_cases
 from generate.special import M, special_cases
 from generate.trees import random_tree
+from generate.plans import recursion, repeated_calls
 from generate.true_sheets import true_sheets
 from generate.words import condition_cases, is_light, matches
 from reference.certificates import (Fault, first_fault, is_included, moves,
                                     reachable_pairs)
 from reference.conditions import (ANY, EITHER, EMPTY, JOIN, LEAF, STAR, holds,
                                   parse_postfix, places_of, postfix, step)
+from reference.inclusion import missing_word
 from reference.loader import load_line, verdict, word_line, word_line_of
 from reference.reading import Point, Refusal, Sheet, read_sheet, reading_line
 from reference.rules import all_rules, certificates_needed, rule_count
-from reference.runs import RETURN, Move, first_break, make_move, start
+from reference.runs import (RETURN, Move, first_break, first_owed_break,
+                            in_caller, make_move, missing, start)
 from sheets import records as r
 from sheets.assemble import TextError, assemble
 from sheets.disassemble import disassemble
 from sheets.expressions import ExpressionError, parse_expression, show
-from simulate import Totals, Walker, walk
+from simulate import Totals, Walker, in_like_of_caller, walk
 
 HERE = Path(__file__).resolve().parent
 CRATES = HERE.parent / "crates"
@@ -37,6 +42,33 @@ FRONT = bytes.fromhex("0206 07000000000000 0900000000000000000000")
 def text(*lines):
     """The sheet of an assembler text, read."""
     return read_sheet(assemble("\n".join(lines)))
+
+
+@lru_cache
+def broken_rules():
+    """For each rule, sheets on which just that rule is false."""
+    return [(int(case.label.split()[1]), read_sheet(case.data))
+            for case in faults.broken_rules(5, 20)]
+
+
+def breaks_without(check):
+    """For each rule, what random runs break where just that rule is false."""
+    found = {}
+    for rule, sheet in broken_rules():
+        walker = Walker(Draws(1), sheet)
+        for _ in range(40):
+            result = walk(walker, Totals(), 0, check)
+            if result:
+                found.setdefault(rule, set()).add(result.broken)
+                break
+    return found
+
+
+def is_true(rule):
+    """Whether a rule's claim holds of the languages."""
+    if rule.right is None:
+        return holds(rule.left, ())
+    return missing_word(rule.left, rule.right) is None
 
 
 def example(name):
@@ -331,16 +363,18 @@ class Loader(unittest.TestCase):
         self.assertEqual(word_line(FRONT, 0, ()), "yes")
 
 
-class Runs(unittest.TestCase):
-    def make(self, sheet, *moves_):
-        run = start(sheet)
-        for move in moves_:
-            run = make_move(sheet, run, move)
-        return run
+def make(sheet, *moves_):
+    """The run of the moves."""
+    run = start(sheet)
+    for move in moves_:
+        run = make_move(sheet, run, move)
+    return run
 
+
+class Runs(unittest.TestCase):
     def test_close_loop(self):
         sheet = example("close_loop.txt")
-        run = self.make(sheet, Move(0), Move(1, (1,)), Move(0), Move(1, (1,)))
+        run = make(sheet, Move(0), Move(1, (1,)), Move(0), Move(1, (1,)))
         self.assertEqual(run.history, (2, 1, 2, 1))
         self.assertEqual([call.raised for call in run.returned_calls],
                          [(1,), (1,)])
@@ -353,17 +387,17 @@ class Runs(unittest.TestCase):
 
     def test_impossible_moves(self):
         sheet = example("close_loop.txt")
-        first, middle = start(sheet), self.make(sheet, Move(0))
+        first, middle = start(sheet), make(sheet, Move(0))
         for move in (Move(1, (1,)), Move(2), Move(-1), Move(999)):
             self.assertEqual(make_move(sheet, first, move), first)
         for move in (RETURN, Move(0), Move(1), Move(1, ()), Move(1, (2,)),
                      Move(1, (1, 1)), Move(1, (200,))):
             self.assertEqual(make_move(sheet, middle, move), middle)
-        self.assertEqual(self.make(sheet, Move(0, (9, 200))), middle)
+        self.assertEqual(make(sheet, Move(0, (9, 200))), middle)
 
     def test_recursion(self):
         sheet = example("recursion.txt")
-        run = self.make(sheet, Move(0), Move(1), Move(0), Move(1), Move(3))
+        run = make(sheet, Move(0), Move(1), Move(0), Move(1), Move(3))
         self.assertEqual([call.begun for call in run.open_calls],
                          [(), (3,), (3, 3)])
         self.assertEqual([call.step for call in run.open_calls], [None, 1, 1])
@@ -382,7 +416,7 @@ class Runs(unittest.TestCase):
     def test_break_of_a_future(self):
         """Seen only at the end: after close comes open."""
         sheet = example("close_loop_open.txt")
-        run = self.make(sheet, Move(0), Move(1, (1,)), Move(0), Move(1, (1,)))
+        run = make(sheet, Move(0), Move(1, (1,)), Move(0), Move(1, (1,)))
         self.assertIsNone(first_break(sheet, run))
         run = make_move(sheet, run, RETURN)
         call, broken = first_break(sheet, run)
@@ -392,17 +426,151 @@ class Runs(unittest.TestCase):
         """Without any one rule, some sheet has a run that breaks demand 3."""
         parts = {1: "pre", 3: "pre", 7: "pre", 10: "pre", 11: "pre", 15: "pre",
                  4: "trace", 5: "trace", 8: "trace", 12: "trace", 16: "trace"}
-        found = {}
-        for case in faults.broken_rules(5, 20):
-            walker = Walker(Draws(1), read_sheet(case.data))
-            for _ in range(40):
-                result = walk(walker, Totals(), 0)
-                if result:
-                    number = int(case.label.split()[1])
-                    found.setdefault(number, set()).add(result.broken)
-                    break
-        self.assertEqual(found, {number: {parts.get(number, "future")}
-                                 for number in range(1, 18)})
+        self.assertEqual(breaks_without(Walker.demand_3),
+                         {number: {parts.get(number, "future")}
+                          for number in range(1, 18)})
+
+
+class Owed(unittest.TestCase):
+    """Ask 12: what is owed while a run goes on."""
+
+    def test_missing_word(self):
+        """Against every word of up to four of the events that occur."""
+        draws = Draws(12)
+        words = [word for length in range(5)
+                 for word in product((0, 1, 2), repeat=length)]
+        seen = Counter()
+        for _ in range(400):
+            left, right = (random_tree(draws, draws.between(1, 4), [0, 1], 0.1)
+                           for _ in range(2))
+            before = draws.pick(words[:13])
+            lacking = [word for word in words if holds(left, word)
+                       and not holds(right, before + word)]
+            found = missing_word(left, right, before)
+            if found is not None:
+                self.assertTrue(holds(left, found))
+                self.assertFalse(holds(right, before + found))
+            if lacking:
+                self.assertEqual(len(found), len(lacking[0]))
+            else:
+                self.assertTrue(found is None or len(found) > 4)
+            seen[found is None, bool(before)] += 1
+        self.assertEqual(len(seen), 4)
+
+    def test_in_the_maker(self):
+        """What comes after close is not in its future; the end is not awaited."""
+        sheet = example("close_loop_open.txt")
+        run = make(sheet, Move(0), Move(1, (1,)))
+        self.assertIsNone(first_break(sheet, run))
+        call, broken = first_owed_break(sheet, run)
+        self.assertEqual((call.method, call.step, broken), (1, 1, "owed"))
+
+    def test_after_the_callers_return(self):
+        """close is owed when the method that called it has returned."""
+        sheet = example("future_past_caller.txt")
+        inside = make(sheet, Move(0), Move(2, (1,)))
+        self.assertIsNone(first_owed_break(sheet, inside))
+        outside = make_move(sheet, inside, RETURN)
+        later = make_move(sheet, outside, Move(1))
+        for run in (outside, later):
+            self.assertIsNone(first_break(sheet, run))
+            call, broken = first_owed_break(sheet, run)
+            self.assertEqual((call.method, call.step, broken), (2, 2, "owed"))
+        ended = make_move(sheet, later, RETURN)
+        self.assertTrue(ended.ended)
+        self.assertIsNone(first_owed_break(sheet, ended))
+        self.assertEqual(first_break(sheet, ended), (call, "future"))
+
+    def test_activations(self):
+        """Two activations by one step, with equal histories and one caller."""
+        sheet = example("activations.txt")
+        probe, visit, leave = Move(0, ()), Move(1), Move(2)
+        first = make(sheet, probe, visit, probe)
+        back = make_move(sheet, make_move(sheet, first, leave), RETURN)
+        second = make_move(sheet, back, visit)
+        self.assertEqual(first.open_calls, second.open_calls)
+        probed = second.returned_calls[1]
+        self.assertIs(probed.maker, first.open_calls[1])
+        self.assertEqual([in_caller(run, probed)
+                          for run in (first, back, second)],
+                         [True, True, False])
+        self.assertTrue(in_like_of_caller(second, probed))
+        self.assertEqual(missing(sheet, sheet.points[second.point].due,
+                                 sheet.methods[probed.method].future, ()), (0,))
+
+    def test_all_moves(self):
+        """Every run of up to 14 moves of that sheet owes as it must."""
+        sheet = example("activations.txt")
+        runs, owed, alike = [start(sheet)], 0, 0
+        for _ in range(14):
+            runs = [after for run in runs
+                    for move in (RETURN, Move(0, ()), Move(1), Move(2), Move(3))
+                    if (after := make_move(sheet, run, move)) is not run]
+            for run in runs:
+                self.assertIsNone(first_owed_break(sheet, run))
+                owed += sum(in_caller(run, call)
+                            for call in run.returned_calls)
+                alike += sum(in_like_of_caller(run, call)
+                             and not in_caller(run, call)
+                             for call in run.returned_calls)
+        self.assertGreater(owed, 1000)
+        self.assertGreater(alike, 100)
+
+    def test_callers_by_depth(self):
+        """A call's callers are the open calls that no return has closed since."""
+        draws, seen = Draws(13), Counter()
+        shapes = recursion, repeated_calls
+        for _, sheet in true_sheets(13, 40, shapes=shapes):
+            walker = Walker(draws, sheet)
+            for _ in range(8):
+                run, depths = start(sheet), []
+                for _ in range(40):
+                    run = make_move(sheet, run, walker.move(run))
+                    depth = len(run.open_calls)
+                    if len(depths) < len(run.returned_calls):
+                        depths.append(depth)
+                    depths = [min(depth, old) for old in depths]
+                    for call, lowest in zip(run.returned_calls, depths):
+                        owed = in_caller(run, call)
+                        self.assertEqual(owed, 0 < depth == lowest)
+                        seen[owed, in_like_of_caller(run, call)] += 1
+        self.assertEqual(set(seen), {(True, True), (False, True),
+                                     (False, False)})
+        self.assertGreater(min(seen.values()), 100)
+
+    def test_rules_it_rests_on(self):
+        """Each of the rules on due and own; past and the ends do not matter."""
+        found = breaks_without(Walker.ask_12)
+        self.assertEqual(found, {rule: {"owed"}
+                                 for rule in (4, 6, 9, 12, 13, 14, 17)})
+
+    def test_traces_it_rests_on(self):
+        """A caller that trusts a trace which the called method breaks."""
+        for rule, inner, exit_, trace in ((5, "opens", "opens", "advances"),
+                                          (8, "advances", "advances", "advances"),
+                                          (16, "opens", "advances", "advances")):
+            sheet = text(
+                "condition nothing = empty", "condition all = any*",
+                "condition opens = {0}", "condition advances = globally({2})",
+                "point m0 past all own nothing due all",
+                "point m1 past all own nothing due advances",
+                "point m2 past all own all due nothing",
+                "point i0 past all own nothing due all",
+                f"point i1 past all own {inner} due nothing",
+                f"point i2 past all own {exit_} due nothing",
+                "method main pre all trace all future nothing entry m0 exit m2",
+                f"method inner pre all trace {trace} future nothing"
+                " entry i0 exit i2",
+                "primitive probe pre all trace nothing future advances",
+                "step m0 -> m1 call probe", "step m1 -> m2 call inner",
+                "step i0 -> i1 event 0", "step i1 -> i2 pass")
+            self.assertEqual([one.number for one in all_rules(sheet)
+                              if not is_true(one)], [rule])
+            run = make(sheet, Move(0, ()), Move(1), Move(2), Move(3))
+            self.assertIsNone(first_owed_break(sheet, run))
+            run = make_move(sheet, run, RETURN)
+            call, broken = first_owed_break(sheet, run)
+            self.assertEqual((call.method, call.step, broken), (2, 0, "owed"))
 
 
 class Texts(unittest.TestCase):

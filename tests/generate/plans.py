@@ -192,6 +192,21 @@ def exit_steps(draws, alphabet):
     return plan
 
 
+def repeated_calls(draws, alphabet):
+    """A method that calls a primitive, then itself by one step in a loop: its
+    activations often begin with equal histories."""
+    plan = Plan(alphabet)
+    entry, middle, out = plan.point(), plan.point(), plan.point()
+    plan.methods.append(Body(entry, out))
+    add_primitives(draws, plan, draws.between(1, 2))
+    primitives = range(1, len(plan.methods))
+    plan.call(entry, middle, draws.pick(primitives))
+    plan.call(middle, middle, 0)
+    plan.pass_(middle, out)
+    add_step(draws, plan, middle, out, primitives)
+    return plan
+
+
 SHAPES = (line, loop, structured, nested_calls, recursion, shared_points,
           tangled, exit_steps)
 

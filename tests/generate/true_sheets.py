@@ -263,11 +263,11 @@ def true_sheet(draws, shape, max_pairs=150):
         return None
 
 
-def true_sheets(seed, count, max_pairs=150):
+def true_sheets(seed, count, max_pairs=150, shapes=SHAPES):
     """That many true sheets, of every shape in turn."""
     draws, made = Draws(seed), 0
     while made < count:
-        shape = SHAPES[made % len(SHAPES)]
+        shape = shapes[made % len(shapes)]
         sheet = true_sheet(draws, shape, max_pairs)
         if sheet is not None:
             yield shape.__name__, checked(sheet)

@@ -1,20 +1,32 @@
-"""Document 01, "Runs": the state of a run, its moves, and demand 3 on a state.
+"""Document 01, "Runs": the state of a run, its moves, and demand 3 on a state;
+document 02, Ask 12: what is owed while a run goes on.
 
 Demand 3: every call so far, the outermost activation too, began after a
 history in its pre; every returned call raised a word of its trace; if the
 run has ended, the events after each return are in its future.
+
+Ask 12: after a call has returned, and whenever control is in the activation
+that made it or in one of that activation's callers, the events raised since
+that return, followed by any word of the due at the present point, lie in the
+call's future.
 """
 from typing import NamedTuple
 
 from .conditions import EVENTS, holds
+from .inclusion import missing_word
 from .reading import CALL_STEP, EVENT_STEP
 
 
 class Call(NamedTuple):
-    """A call; the outermost has no step, an open one no history at return."""
+    """A call; the outermost has no step, an open one no history at return.
+
+    Two activations may be equal in every field. They are told apart as
+    objects: an open call stays one object until it returns.
+    """
     method: int
     step: int | None
     begun: tuple
+    maker: "Call | None" = None   # the activation that made it
     returned: tuple | None = None
 
     @property
@@ -68,7 +80,7 @@ def make_call(sheet, run, move):
     """The run after a call step at whose source control is, or the same run."""
     step = sheet.steps[move.step]
     method = sheet.methods[step.operand]
-    call = Call(step.operand, move.step, run.history)
+    call = Call(step.operand, move.step, run.history, run.open_calls[-1])
     if method.has_body:
         return run._replace(open_calls=run.open_calls + (call,),
                             point=method.entry)
@@ -119,4 +131,33 @@ def first_break(sheet, run, test=in_condition):
         broken = broken_call(sheet, run, call, test)
         if broken:
             return call, broken
+    return None
+
+
+def callers(call):
+    """The activation that made a call, and that activation's callers."""
+    while call.maker is not None:
+        call = call.maker
+        yield call
+
+
+def in_caller(run, call):
+    """Whether control is in one of a call's callers."""
+    return not run.ended and any(caller is run.open_calls[-1]
+                                 for caller in callers(call))
+
+
+def missing(sheet, due, future, since):
+    """A shortest word of due that, behind since, is not in future, or None."""
+    return missing_word(sheet.conditions[due], sheet.conditions[future], since)
+
+
+def first_owed_break(sheet, run, find=missing):
+    """The first returned call that breaks Ask 12 as (call, "owed"), or None."""
+    for call in run.returned_calls:
+        if in_caller(run, call):
+            future = sheet.methods[call.method].future
+            since = run.history[len(call.returned):]
+            if find(sheet, sheet.points[run.point].due, future, since) is not None:
+                return call, "owed"
     return None
