@@ -9,7 +9,7 @@ use Rattle.sheet.specs.Each.{Each}
 use Rattle.sheet.specs.Sheet.{Step, call-step, Sheet, past, own, due, pre, trace, future}
 use Rattle.runs.specs.Runs.{Call, Returned, State, fromOf, stepOf}
 use Rattle.runs.proofs.Adds.{Adds}
-use Rattle.runs.proofs.Numbers.{IsCaller}
+use Rattle.runs.specs.Owing.{IsCaller}
 
 module _ (S : Sheet) where
   -- The open calls -------------------------------------------------------------------------------------------------------

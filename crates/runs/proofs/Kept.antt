@@ -10,12 +10,13 @@ use Rattle.sheet.specs.Each.{Each, nil, cons}
 use Rattle.sheet.proofs.Each.{each-map, each-zip}
 use Rattle.sheet.specs.Sheet.{Body, call-step, Sheet, past, trace, future, body}
 use Rattle.runs.specs.Runs.{Call, Returned, State, entryOf, start, Move, raise, newCall, openCall, returnedNow, stepOf, targetOr, noneOpen, close, run}
+use Rattle.runs.specs.Owing.{IsCaller}
 use Rattle.sheet.proofs.Kept.{HasBody}
 use Rattle.runs.proofs.Rules.{BodyRules, CallRules, MethodRules, StepRules, SheetRules}
 use Rattle.runs.proofs.Adds.{Adds, adds-more, adds-weaker, adds-nothing}
 use Rattle.runs.proofs.Leads.{Leads, event-leads, pass-leads, call-leads}
 use Rattle.runs.proofs.Moves.{Makes, event-made, pass-made, primitive-made, open-made, return-made, run-keeps}
-use Rattle.runs.proofs.Numbers.{IsCaller, NumbersAt, next-is-new, made-numbers, start-numbers}
+use Rattle.runs.proofs.Numbers.{NumbersAt, next-is-new, made-numbers, start-numbers}
 use Rattle.runs.proofs.Invariant.{Stands, source, origin, Frames, outermost, inner, Well, Due, Owed, here, below, Running, Good, running, over}
 
 module _ (S : Sheet) where

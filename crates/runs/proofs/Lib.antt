@@ -4,6 +4,7 @@ pub mod Adds
 pub mod Moves
 pub mod Grow
 pub mod Numbers
+pub mod Apart
 pub mod Leads
 pub mod Invariant
 pub mod Kept

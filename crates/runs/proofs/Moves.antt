@@ -3,7 +3,7 @@ use mathlib.Core.Path.{_≡_, refl, sym, subst}
 use Prim.Native.Nat.{ℕ}
 use mathlib.Core.Bool.{Bool, true, false, cond}
 use mathlib.Core.Option.{Option, none, some}
-use mathlib.Core.List.{List, [], _∷_}
+use mathlib.Core.List.{List, [], _∷_, _++_}
 use lib.ListN.{getElem?}
 use lib.Dec.{T, eqb, eqb→eq}
 use Rattle.condition.specs.Condition.{Word, Condition, Holds}
@@ -35,7 +35,7 @@ module _ (S : Sheet) where
     return-made : {c : Call} {cs : List Call} {b : Body} → s .open-calls ≡ c ∷ cs → body S (c .method) ≡ some b → s .point ≡ b .exit
         → Makes s (close S s c cs)
 
-  -- what holds of s, and of what each move made from s leads to, holds after any move
+  -- what holds of s, and of what each move that can be made from s leads to, holds after trying any move
   module _ (P : State → Type 0) (s : State) (same : P s) (made : (t : State) → Makes s t → P t) where
     call-case : {q m : ℕ} (i : ℕ) (w : Word) → getElem? (S .steps) i ≡ some (call-step (s .point) q m) → (d : Option Body) → body S m ≡ d
         → P (makeCall s (newCall s i m) w q (trace S m) d)
@@ -64,20 +64,30 @@ module _ (S : Sheet) where
     try-move-case return = try-return-case (s .open-calls) refl
     try-move-case (by-step i w) = try-step-case i w (getElem? (S .steps) i) refl
 
+  -- what holds of s, and of what each move that is made leads to, holds after any move
+  pub move-case : (P : State → Type 0) (s : State) → P s → ((t : State) → s .ended ≡ false → Makes s t → P t) → (m : Move) → P (move S s m)
+  unfolding move
+  move-case P s same made m = by-test P (s .ended) (λ e. same) (λ e. try-move-case P s same (λ t. made t e) m)
+
   run-is : (m : ℕ) (ms : List Move) → runOn S (start S m) ms ≡ run S m ms
   unfolding run
   run-is m ms = refl
 
+  run-on-one-more : (s : State) (ms : List Move) (x : Move) → runOn S s (ms ++ (x ∷ [])) ≡ move S (runOn S s ms) x
+  unfolding runOn
+  run-on-one-more s [] x = refl
+  run-on-one-more s (m ∷ ms) x = run-on-one-more (move S s m) ms x
+
+  pub run-one-more : (m : ℕ) (ms : List Move) (x : Move) → run S m (ms ++ (x ∷ [])) ≡ move S (run S m ms) x
+  unfolding run
+  run-one-more m ms x = run-on-one-more (start S m) ms x
+
   -- what holds at the start, and is kept by each move that is made, holds after every list of moves
   module _ (P : State → Type 0) (kept : (s t : State) → s .ended ≡ false → Makes s t → P s → P t) where
-    move-keeps : (s : State) (m : Move) → P s → P (move S s m)
-    unfolding move
-    move-keeps s m h = by-test P (s .ended) (λ e. h) (λ e. try-move-case P s h (λ t made. kept s t e made h) m)
-
     pub run-on-keeps : (s : State) (ms : List Move) → P s → P (runOn S s ms)
     unfolding runOn
     run-on-keeps s [] h = h
-    run-on-keeps s (m ∷ ms) h = run-on-keeps (move S s m) ms (move-keeps s m h)
+    run-on-keeps s (m ∷ ms) h = run-on-keeps (move S s m) ms (move-case P s h (λ t e made. kept s t e made h) m)
 
     pub run-keeps : (m : ℕ) → P (start S m) → (ms : List Move) → P (run S m ms)
     run-keeps m h ms = subst P (run-is m ms) (run-on-keeps (start S m) ms h)

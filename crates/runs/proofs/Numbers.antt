@@ -3,22 +3,19 @@ use mathlib.Core.Path.{subst}
 use mathlib.Core.Logic.{⊎-elim}
 use Prim.Native.Nat.{ℕ, _+_, _≤_, _<_, zero-le, suc-le-suc}
 use native.Mathlib.Omega.{arith}
-use mathlib.Core.List.{List, _∷_, List·Memᴰ, List·Memᴰ·cases-cons, List·Memᴰ·not-nil}
+use mathlib.Core.List.{List, _∷_, map, List·Memᴰ, List·Memᴰ·cases-cons, List·Memᴰ·not-nil}
 use lib.ListN.{length}
 use Rattle.sheet.specs.Each.{Each, nil, cons}
-use Rattle.sheet.proofs.Each.{each-map, each-head, each-tail, each-mapped}
+use Rattle.sheet.proofs.Each.{each-map, each-head, each-tail, each-append, each-mapped}
 use Rattle.sheet.specs.Sheet.{Sheet}
-use Rattle.runs.specs.Runs.{Call, Returned, State, start, newCall}
+use Rattle.runs.specs.Runs.{Call, Returned, State, calls, start, newCall}
+use Rattle.runs.specs.Owing.{callNumber, callerNumbers, IsCaller, callNumbers}
 use Rattle.runs.proofs.Moves.{Makes, event-made, pass-made, primitive-made, open-made, return-made}
-
--- c was open when the call of r began
-abbrev pub IsCaller : Call → Returned → Type 0
-IsCaller c r = List·Memᴰ (c .activation .number) (r .call .activation .callers)
 
 -- of n calls so far, c is one
 record Numbered (n : ℕ) (c : Call) : Type 0 where
-  self : c .activation .number < n
-  callers : Each (λ k. k < n) (c .activation .callers)
+  self : callNumber c < n
+  callers : Each (λ k. k < n) (callerNumbers c)
 
 pub record Numbers (cs : List Call) (rs : List Returned) : Type 0 where
   opened : Each (Numbered (length cs + length rs)) cs
@@ -33,6 +30,16 @@ more-calls le c x = record { self = omega (arith, x .self); callers = each-map (
 not-below : {n : ℕ} {ks : List ℕ} → Each (λ k. k < n) ks → List·Memᴰ n ks → ⊥
 not-below nil m = List·Memᴰ·not-nil m
 not-below (cons b t) m = ⊎-elim (λ e. omega arith) (λ k. not-below t k) (List·Memᴰ·cases-cons m)
+
+-- the next call's number is that of no call so far
+pub next-number : (s : State) → NumbersAt s → List·Memᴰ (length (s .open-calls) + length (s .returned-calls)) (callNumbers (calls s)) → ⊥
+next-number s g = not-below (each-mapped (λ k. k < n) callNumber (each-map (λ c x. x .self) all))
+  where
+    n : ℕ
+    n = length (s .open-calls) + length (s .returned-calls)
+
+    all : Each (Numbered n) (calls s)
+    all = each-append (g .opened) (each-mapped (Numbered n) (λ r. r .call) (g .returned))
 
 -- the next call is not a caller of one that has returned
 pub next-is-new : (s : State) (i m : ℕ) → NumbersAt s → Each (λ r. IsCaller (newCall s i m) r → ⊥) (s .returned-calls)

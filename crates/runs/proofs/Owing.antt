@@ -1,33 +1,18 @@
 -- While a caller of a returned call has control, what followed the return and any word of the present due make a word of its future.
 use mathlib.Core.Path.{subst}
 use Prim.Native.Nat.{ℕ}
-use mathlib.Core.List.{List, [], _∷_, _++_}
-use Rattle.condition.specs.Condition.{Word, Holds}
-use Rattle.sheet.specs.Each.{Each}
+use mathlib.Core.List.{List}
+use Rattle.condition.specs.Condition.{Word}
 use Rattle.sheet.proofs.Each.{each-map, each-all}
-use Rattle.sheet.specs.Sheet.{Sheet, due, future, body}
+use Rattle.sheet.specs.Sheet.{Sheet, body}
 use Rattle.runs.specs.Rules.{rulesFrom, AllMet}
-use Rattle.runs.specs.Runs.{Call, Returned, State, since, Move, run}
+use Rattle.runs.specs.Runs.{Call, Returned, State, Move, run}
+use Rattle.runs.specs.Owing.{InCaller, Owing}
 use Rattle.sheet.proofs.Kept.{HasBody}
 use Rattle.runs.proofs.Rules.{by-number}
 use Rattle.runs.proofs.Adds.{adds-since}
-use Rattle.runs.proofs.Numbers.{IsCaller}
 use Rattle.runs.proofs.Invariant.{Due, Owed, here, below, Good, running, over}
 use Rattle.runs.proofs.Kept.{runs-are-good}
-
--- control is in the activation that made the returned call, or in one of that activation's callers
-abbrev pub InCaller : List Call → Returned → Type 0
-InCaller [] r = ⊥
-InCaller (c ∷ cs) r = IsCaller c r
-
--- After a call has returned, and whenever control is in the activation that made it or in one of that activation's callers, the events raised
--- since that return, followed by any word of the due at the present point, lie in the call's future.
-abbrev pub Owing : Sheet → State → Type 0
-Owing S s =
-    Each
-    (λ r. InCaller (s .open-calls) r
-    → (v : Word) → Holds (due S (s .point)) v → Holds (future S (r .call .method)) (since (r .at) (s .history) ++ v))
-    (s .returned-calls)
 
 module _ (S : Sheet) where
   owed-due : {p : ℕ} {h : Word} {cs : List Call} (r : Returned) → Owed S r p h cs → InCaller cs r → Due S r p h
@@ -38,5 +23,6 @@ module _ (S : Sheet) where
   good-is-owing (running e g) = each-map (λ r o i. adds-since (owed-due r o i)) (g .owed)
   good-is-owing (over e g) = each-all (λ r i. absurd (subst (λ cs. InCaller cs r) (g .none-open) i))
 
+-- request 12, of every list of moves
 pub runs-owe : (S : Sheet) (m : ℕ) → HasBody (body S m) → AllMet (rulesFrom m S) → (ms : List Move) → Owing S (run S m ms)
 runs-owe S m b h ms = good-is-owing S (runs-are-good S (by-number S m h) b ms)

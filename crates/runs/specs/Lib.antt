@@ -1,2 +1,3 @@
 pub mod Rules
 pub mod Runs
+pub mod Owing

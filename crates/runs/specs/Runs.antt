@@ -13,7 +13,7 @@ use Rattle.sheet.specs.Sheet.{Body, Step, event-step, call-step, pass-step, She
 
 -- The state of a run ----------------------------------------------------------------------------------------------------
 
--- Which activation a call is, which document 01's promises do not read: how many calls began before it, and that number of each call that was
+-- Which activation a call is, which only request 12 asks (specs/Owing): how many calls began before it, and that number of each call that was
 -- open when it began, the caller's first.
 pub record Activation : Type 0 where
   pub number : ℕ

@@ -1,6 +1,6 @@
 -- Laws of a property of each element of a list.
-use mathlib.Core.Path.{sym, subst}
-use mathlib.Core.List.{List, [], _∷_, _++_, map, List·Memᴰ, List·Memᴰ·cases-cons, List·Memᴰ·not-nil}
+use mathlib.Core.Path.{refl, sym, subst}
+use mathlib.Core.List.{List, [], _∷_, _++_, map, List·Memᴰ, List·Memᴰ·head, List·Memᴰ·tail, List·Memᴰ·cases-cons, List·Memᴰ·not-nil}
 use mathlib.Core.Logic.{⊎-elim}
 use mathlib.Core.Option.{Option, none, some}
 use Prim.Native.Nat.{ℕ, zero, suc, _<_}
@@ -44,6 +44,11 @@ module _ {A : Type 0} {P : A → Type 0} where
 pub each-mapped : {A B : Type 0} (P : B → Type 0) (f : A → B) {xs : List A} → Each (λ x. P (f x)) xs → Each P (map f xs)
 each-mapped P f nil = nil
 each-mapped P f (cons h t) = cons h (each-mapped P f t)
+
+-- each element is a member
+pub each-is-member : {A : Type 0} (xs : List A) → Each (λ x. List·Memᴰ x xs) xs
+each-is-member [] = nil
+each-is-member (x ∷ xs) = cons (List·Memᴰ·head refl) (each-map (λ y. List·Memᴰ·tail) (each-is-member xs))
 
 -- of a member, of an element by its number, and of an element or nothing
 pub each-member : {A : Type 0} (P : A → Type 0) {xs : List A} {y : A} → Each P xs → List·Memᴰ y xs → P y
