@@ -13,7 +13,7 @@ use lib.Seq.{take-suc, take-all, take-length}
 use Rattle.sheet.specs.Each.{Each, nil, cons}
 use Rattle.sheet.proofs.Each.{each-map, each-zip, each-head, each-tail, each-append, each-left, each-right, each-is-member, each-member}
 use Rattle.sheet.specs.Sheet.{Sheet}
-use Rattle.runs.specs.Runs.{Call, Returned, State, calls, start, Move, return, newCall, run}
+use Rattle.runs.specs.Runs.{Call, Returned, State, calls, start, Move, return, callersNow, newCall, run}
 use Rattle.runs.specs.Owing.{callNumber, callNumbers, callerNumbers, stateAfter, Began, at-start, by-move, Stacked, bottom, upon, ToldApart}
 use Rattle.runs.proofs.Moves.{Makes, event-made, pass-made, primitive-made, open-made, return-made, move-case, run-one-more, run-keeps}
 use Rattle.runs.proofs.Numbers.{NumbersAt, next-number, made-numbers, start-numbers}
@@ -42,6 +42,11 @@ ToldAt s = Told (s .open-calls) (s .returned-calls)
 stacked-below : {c : Call} {cs : List Call} → Stacked (c ∷ cs) → Stacked cs
 stacked-below (upon e k) = k
 
+-- the callers of the next call are the open calls
+callers-are : {cs : List Call} → Stacked cs → callersNow cs ≡ callNumbers cs
+callers-are bottom = refl
+callers-are (upon {c = c} e k) = ap (λ (ns : List ℕ). callNumber c ∷ ns) e
+
 new-nodup : (s : State) (i m : ℕ) → NumbersAt s → ToldAt s → List·Nodup (callNumbers (newCall s i m ∷ calls s))
 new-nodup s i m n g = nodup-cons .1 (λ k. ∥∥₁-elim k ⊥-prop (next-number s n), g .numbers)
 
@@ -51,7 +56,7 @@ module _ (S : Sheet) where
   made-told s t (pass-made i found) n g = g
   made-told s t (primitive-made {m = m} i w found is h) n g =
       record { numbers = nodup-moved (newCall s i m) (s .open-calls) _ (new-nodup s i m n g); stacked = g .stacked }
-  made-told s t (open-made {m = m} i found is) n g = record { numbers = new-nodup s i m n g; stacked = upon refl (g .stacked) }
+  made-told s t (open-made {m = m} i found is) n g = record { numbers = new-nodup s i m n g; stacked = upon (callers-are (g .stacked)) (g .stacked) }
   made-told s t (return-made {c = c} {cs = cs} opened is at) n g =
       let k : Told (c ∷ cs) (s .returned-calls) = subst (λ x. Told x (s .returned-calls)) opened g in
       record { numbers = nodup-moved c cs (map (λ r. r .call) (s .returned-calls)) (k .numbers); stacked = stacked-below (k .stacked) }
@@ -70,7 +75,7 @@ module _ (S : Sheet) where
 -- after a move from s: a call of s, or the call that the move began
 data OldOrNew (s : State) (c : Call) : Type 0 where
   old : List·Memᴰ c (calls s) → OldOrNew s c
-  new : callNumber c ≡ length (s .open-calls) + length (s .returned-calls) → c .began ≡ s .history → callerNumbers c ≡ callNumbers (s .open-calls)
+  new : callNumber c ≡ length (s .open-calls) + length (s .returned-calls) → c .began ≡ s .history → callerNumbers c ≡ callersNow (s .open-calls)
       → OldOrNew s c
 
 all-old : (s : State) → Each (OldOrNew s) (calls s)
@@ -108,12 +113,13 @@ module _ (S : Sheet) where
     began : (k : ℕ) → Each (Began S m ms) (calls (at k)) → (c : Call) → List·Memᴰ c (calls (at (suc k))) → OldOrNew (at k) c → Began S m ms c
     began k g c there (old i) = each-member (Began S m ms) g i
     began k g c there (new n h o) =
+        let t = runs-told S m (take k ms) in
         by-move k
         record {
-          not-before = λ i. next-number (at k) (runs-told S m (take k ms) .0) (subst (λ (j : ℕ). List·Memᴰ j (callNumbers (calls (at k)))) n i);
+          not-before = λ i. next-number (at k) (t .0) (subst (λ (j : ℕ). List·Memᴰ j (callNumbers (calls (at k)))) n i);
           there-after = there;
           history = h;
-          callers = o;
+          callers = o ∙ callers-are (t .1 .stacked);
         }
 
     all-began : (k : ℕ) → Each (Began S m ms) (calls (at k))

@@ -1,3 +1,4 @@
+pub mod Amiss
 pub mod Rules
 pub mod Count
 pub mod Adds

@@ -3,12 +3,12 @@ use mathlib.Core.Path.{subst}
 use mathlib.Core.Logic.{⊎-elim}
 use Prim.Native.Nat.{ℕ, _+_, _≤_, _<_, zero-le, suc-le-suc}
 use native.Mathlib.Omega.{arith}
-use mathlib.Core.List.{List, _∷_, map, List·Memᴰ, List·Memᴰ·cases-cons, List·Memᴰ·not-nil}
+use mathlib.Core.List.{List, _∷_, List·Memᴰ, List·Memᴰ·cases-cons, List·Memᴰ·not-nil}
 use lib.ListN.{length}
 use Rattle.sheet.specs.Each.{Each, nil, cons}
 use Rattle.sheet.proofs.Each.{each-map, each-head, each-tail, each-append, each-mapped}
 use Rattle.sheet.specs.Sheet.{Sheet}
-use Rattle.runs.specs.Runs.{Call, Returned, State, calls, start, newCall}
+use Rattle.runs.specs.Runs.{Call, Returned, State, calls, start, callersNow, newCall}
 use Rattle.runs.specs.Owing.{callNumber, callerNumbers, IsCaller, callNumbers}
 use Rattle.runs.proofs.Moves.{Makes, event-made, pass-made, primitive-made, open-made, return-made}
 
@@ -45,14 +45,15 @@ next-number s g = not-below (each-mapped (λ k. k < n) callNumber (each-map (λ 
 pub next-is-new : (s : State) (i m : ℕ) → NumbersAt s → Each (λ r. IsCaller (newCall s i m) r → ⊥) (s .returned-calls)
 next-is-new s i m g = each-map (λ r x. not-below (x .callers)) (g .returned)
 
+-- the callers of the next call
+callers-below : {n : ℕ} {cs : List Call} → Each (Numbered n) cs → Each (λ k. k < n) (callersNow cs)
+callers-below nil = nil
+callers-below (cons x t) = cons (x .self) (x .callers)
+
 module _ (S : Sheet) where
   new-numbered : {n : ℕ} (s : State) (i m : ℕ) → NumbersAt s → length (s .open-calls) + length (s .returned-calls) < n
       → Numbered n (newCall s i m)
-  new-numbered {n} s i m g b =
-      record {
-        self = b;
-        callers = each-mapped (λ k. k < n) (λ c. c .activation .number) (each-map (λ c x. omega (arith, x .self)) (g .opened));
-      }
+  new-numbered s i m g b = record { self = b; callers = each-map (λ k x. omega arith) (callers-below (g .opened)) }
 
   pub made-numbers : (s t : State) → Makes S s t → NumbersAt s → NumbersAt t
   made-numbers s t (event-made i found) g = g

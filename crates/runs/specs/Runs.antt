@@ -13,8 +13,8 @@ use Rattle.sheet.specs.Sheet.{Body, Step, event-step, call-step, pass-step, She
 
 -- The state of a run ----------------------------------------------------------------------------------------------------
 
--- Which activation a call is, which only request 12 asks (specs/Owing): how many calls began before it, and that number of each call that was
--- open when it began, the caller's first.
+-- Which activation a call is, which only request 12 asks (specs/Owing): how many calls began before it, and that number of the activation that
+-- made it and of that activation's callers, in this order.
 pub record Activation : Type 0 where
   pub number : ℕ
   pub callers : List ℕ
@@ -80,6 +80,11 @@ abbrev pub raise : Word → ℕ → State → State
 raise w q s =
     record { history = s .history ++ w; open-calls = s .open-calls; returned-calls = s .returned-calls; point = q; ended = s .ended }
 
+-- the activation that makes a call now, the innermost open one, and that activation's callers
+abbrev pub callersNow : List Call → List ℕ
+callersNow [] = []
+callersNow (c ∷ cs) = c .activation .number ∷ c .activation .callers
+
 -- the call of the method m that step i makes in the state s
 abbrev pub newCall : State → ℕ → ℕ → Call
 newCall s i m =
@@ -90,7 +95,7 @@ newCall s i m =
       activation =
           record {
             number = length (s .open-calls) + length (s .returned-calls);
-            callers = map (λ c. c .activation .number) (s .open-calls);
+            callers = callersNow (s .open-calls);
           };
     }
 

@@ -1,5 +1,5 @@
 -- The verdict keeps the three demands: it accepts exactly the well formed sheets whose tests all pass, names the first fault else, and the runs
--- of an accepted sheet are safe.
+-- of an accepted sheet are safe and meet what they owe.
 use mathlib.Core.Path.{_≡_, refl, sym, ap, _∙_, subst}
 use mathlib.Core.Bool.{Bool, true, false, cond}
 use mathlib.Core.Option.{Option, some}
@@ -17,7 +17,10 @@ use Rattle.sheet.proofs.Kept.{HasBody, events-below, first-has-body}
 use Rattle.sheet.proofs.Narrow.{conditions-below}
 use Rattle.runs.specs.Rules.{rules, rulesFrom, AllMet, count}
 use Rattle.runs.specs.Runs.{Move, run, Safe}
+use Rattle.runs.specs.Owing.{Owing}
+use Rattle.runs.proofs.Apart.{told-apart}
 use Rattle.runs.proofs.Safe.{runs-are-safe}
+use Rattle.runs.proofs.Owing.{runs-owe}
 use Rattle.verdict.specs.Verdict.{Report, accepted, refused, unproved, certificatesNeeded, firstFault, judged, verdictAfter, verdictOf}
 use Rattle.verdict.specs.Promise.{WellFormed, EachCertified, Passes, FirstFault, Loads}
 use Rattle.verdict.proofs.Judged.{Tried, all-pass, one-fails, tried, pass-all}
@@ -147,6 +150,10 @@ module _ (M : Model) (s : List ℕ) where
     unfolding rules
     accepted-safe n h ms = runs-are-safe (sheetOf M s) 0 (accepted-has-body n h) (accepted-met n h) ms
 
+    -- and meets what it owes
+    pub accepted-owing : (n : ℕ) → verdictOf M s ≡ accepted n → (ms : List Move) → Owing (sheetOf M s) (run (sheetOf M s) 0 ms)
+    accepted-owing n h ms = runs-owe (sheetOf M s) 0 (accepted-has-body n h) (accepted-met n h) ms
+
     -- what the loader promises is true of the definition's answer
     pub loads : Loads M s (verdictOf M s)
     unfolding rules
@@ -157,5 +164,7 @@ module _ (M : Model) (s : List ℕ) where
           unproved-first = unproved-out;
           rules-met = accepted-met;
           sound = accepted-safe;
+          owing = accepted-owing;
+          told-apart = told-apart (sheetOf M s) 0;
           complete = λ w h c. accepted-in w (exact-pass (M .events) c h);
         }

@@ -16,6 +16,7 @@ use Rattle.sheet.specs.Reading.{Reading, whole, refusal, readSheet}
 use Rattle.sheet.specs.Decode.{sheetOf}
 use Rattle.runs.specs.Rules.{Claim, _isIn_, holdsEmpty, Rule, _of_says_, rules, AllMet, count}
 use Rattle.runs.specs.Runs.{Move, run, Safe}
+use Rattle.runs.specs.Owing.{Owing, ToldApart}
 use Rattle.verdict.specs.Verdict.{Report, accepted, unproved, testOf, certificatesNeeded, nextOf, verdictOf}
 use Rattle.verdict.specs.WordTest.{Answer, tested, wordTest}
 
@@ -74,6 +75,10 @@ pub record Loads (M : Model) (s : List ℕ) (answer : Report) : Type 0 where
   pub rules-met : (n : ℕ) → answer ≡ accepted n → AllMet (rules (sheetOf M s))
   -- Demand 3: "If a sheet is accepted .. then after EVERY list of moves" the state of the run is safe
   pub sound : (n : ℕ) → answer ≡ accepted n → (ms : List Move) → Safe (sheetOf M s) (run (sheetOf M s) 0 ms)
+  -- Request 12: "In an accepted sheet, after a call has returned, ..", after every list of moves
+  pub owing : (n : ℕ) → answer ≡ accepted n → (ms : List Move) → Owing (sheetOf M s) (run (sheetOf M s) 0 ms)
+  -- and its activations are told apart, whatever the answer
+  pub told-apart : (ms : List Move) → ToldApart (sheetOf M s) 0 ms
   -- "Conversely a well-formed sheet with true rules is accepted if each certificate lists exactly the reachable pairs, the start first."
   pub complete : WellFormed M s → AllMet (rules (sheetOf M s)) → EachCertified (ExactFor (M .events)) (rules (sheetOf M s)) (sheetOf M s .certificates)
       → answer ≡ accepted (count (sheetOf M s))

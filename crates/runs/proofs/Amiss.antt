@@ -1,0 +1,60 @@
+-- Runs in which a future that is owed is not met: what is owed, as defined, does not hold of them.
+use mathlib.Core.Path.{_≡_, refl, subst}
+use mathlib.Core.Bool.{false}
+use mathlib.Core.Option.{none, some}
+use mathlib.Core.List.{List, [], _∷_, _++_, List·Memᴰ·head, List·Memᴰ·tail}
+use lib.Dec.{T}
+use Rattle.condition.specs.Condition.{Word, Condition, empty, join, either, star, Holds, event, any}
+use Rattle.condition.specs.Places.{accepts}
+use Rattle.condition.proofs.Words.{words}
+use Rattle.sheet.proofs.Each.{each-head, each-tail}
+use Rattle.sheet.specs.Sheet.{event-step, call-step, Sheet}
+use Rattle.runs.specs.Runs.{Move, return, by-step, run}
+use Rattle.runs.specs.Owing.{Owing}
+
+-- nothing more, or next 2 (advance): what the primitive asks, whose trace is the one word 1 (close)
+abbrev asked : Condition
+asked = either empty (join (event 2) (star (any 32)))
+
+lacks : (c : Condition) (w : Word) → accepts c w ≡ false → Holds c w → ⊥
+lacks c w e h = subst T e (words c w .1 h)
+
+-- Method 0 goes from point 0 to 1 by the primitive 2, called by itself (step 3) or by method 1 (steps 0 and 2), and on to 2 by 0 (open). So open
+-- is due at point 1, which the primitive does not ask for.
+abbrev opening : Sheet
+opening = record {
+  conditions = empty ∷ star (any 32) ∷ event 0 ∷ event 1 ∷ asked ∷ [];
+  points =
+      record { past = 1; own = 1; due = 1 }
+      ∷ record { past = 1; own = 1; due = 2 }
+      ∷ record { past = 1; own = 1; due = 0 }
+      ∷ record { past = 1; own = 1; due = 1 }
+      ∷ record { past = 1; own = 1; due = 0 }
+      ∷ [];
+  methods =
+      record { pre = 1; trace = 1; future = 0; body = some (record { entry = 0; exit = 2 }) }
+      ∷ record { pre = 1; trace = 1; future = 1; body = some (record { entry = 3; exit = 4 }) }
+      ∷ record { pre = 1; trace = 3; future = 4; body = none }
+      ∷ [];
+  steps = call-step 0 1 1 ∷ event-step 1 2 0 ∷ call-step 3 4 2 ∷ call-step 0 1 2 ∷ [];
+  certificates = [];
+}
+
+-- control is in the activation that made the call, and open is due
+pub unmet-in-maker : Owing opening (run opening 0 (by-step 3 (1 ∷ []) ∷ [])) → ⊥
+unfolding run
+unmet-in-maker o = lacks asked (0 ∷ []) refl (each-head o (List·Memᴰ·head refl) (0 ∷ []) (0, tt, refl))
+
+-- the moves to where method 1, which made the call, returns
+abbrev to-return : List Move
+to-return = by-step 0 [] ∷ by-step 2 (1 ∷ []) ∷ return ∷ []
+
+-- control is in that activation's caller, and open is due
+pub unmet-in-caller : Owing opening (run opening 0 to-return) → ⊥
+unfolding run
+unmet-in-caller o = lacks asked (0 ∷ []) refl (each-head (each-tail o) (List·Memᴰ·tail (List·Memᴰ·head refl)) (0 ∷ []) (0, tt, refl))
+
+-- open has been raised, and nothing more is due
+pub unmet-since : Owing opening (run opening 0 (to-return ++ (by-step 1 [] ∷ []))) → ⊥
+unfolding run
+unmet-since o = lacks asked (0 ∷ []) refl (each-head (each-tail o) (List·Memᴰ·tail (List·Memᴰ·head refl)) [] refl)
