@@ -48,7 +48,7 @@ module _ (S : Sheet) where
   -- it is so where the active call stands, or where one below it stands; the calls above that one began after r's return, and are not r's callers
   pub data Owed (r : Returned) : ℕ → Word → List Call → Type 0 where
     here : {p : ℕ} {h : Word} {c : Call} {cs : List Call} → Due r p h → Owed r p h (c ∷ cs)
-    below : {p : ℕ} {h : Word} {c : Call} {cs : List Call} → (IsCaller c r → ⊥) → Owed r (origin c) (c .began) cs → Owed r p h (c ∷ cs)
+    below : {p : ℕ} {h : Word} {c : Call} {cs : List Call} → (IsCaller c (r .call) → ⊥) → Owed r (origin c) (c .began) cs → Owed r p h (c ∷ cs)
 
   -- The state ------------------------------------------------------------------------------------------------------------
 

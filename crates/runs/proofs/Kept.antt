@@ -63,7 +63,7 @@ module _ (S : Sheet) where
         }
 
     open-good : {q m entry exit : ℕ} (i : ℕ) → getElem? (S .steps) i ≡ some (call-step (s .point) q m) → CallRules S (s .point) q m
-        → BodyRules S m entry exit → Each (λ r. IsCaller (newCall s i m) r → ⊥) (s .returned-calls)
+        → BodyRules S m entry exit → Each (λ r. IsCaller (newCall s i m) (r .call) → ⊥) (s .returned-calls)
         → Good S (openCall (newCall s i m) entry s)
     open-good {q} {m} i found k b new =
         let begun = k .rule-10 _ (frames-past (g .frames)) in

@@ -73,14 +73,14 @@ module _ (S : Sheet) where
   unfolding run
   run-is m ms = refl
 
-  run-on-one-more : (s : State) (ms : List Move) (x : Move) → runOn S s (ms ++ (x ∷ [])) ≡ move S (runOn S s ms) x
+  run-on-append : (s : State) (xs ys : List Move) → runOn S s (xs ++ ys) ≡ runOn S (runOn S s xs) ys
   unfolding runOn
-  run-on-one-more s [] x = refl
-  run-on-one-more s (m ∷ ms) x = run-on-one-more (move S s m) ms x
+  run-on-append s [] ys = refl
+  run-on-append s (x ∷ xs) ys = run-on-append (move S s x) xs ys
 
-  pub run-one-more : (m : ℕ) (ms : List Move) (x : Move) → run S m (ms ++ (x ∷ [])) ≡ move S (run S m ms) x
+  pub run-append : (m : ℕ) (xs ys : List Move) → run S m (xs ++ ys) ≡ runOn S (run S m xs) ys
   unfolding run
-  run-one-more m ms x = run-on-one-more (start S m) ms x
+  run-append m xs ys = run-on-append (start S m) xs ys
 
   -- what holds at the start, and is kept by each move that is made, holds after every list of moves
   module _ (P : State → Type 0) (kept : (s t : State) → s .ended ≡ false → Makes s t → P s → P t) where

@@ -9,13 +9,13 @@ use Rattle.sheet.specs.Each.{Each, nil, cons}
 use Rattle.sheet.proofs.Each.{each-map, each-head, each-tail, each-append, each-mapped}
 use Rattle.sheet.specs.Sheet.{Sheet}
 use Rattle.runs.specs.Runs.{Call, Returned, State, calls, start, callersNow, newCall}
-use Rattle.runs.specs.Owing.{callNumber, callerNumbers, IsCaller, callNumbers}
+use Rattle.runs.specs.Owing.{callNumber, IsCaller}
 use Rattle.runs.proofs.Moves.{Makes, event-made, pass-made, primitive-made, open-made, return-made}
 
 -- of n calls so far, c is one
 record Numbered (n : ℕ) (c : Call) : Type 0 where
   self : callNumber c < n
-  callers : Each (λ k. k < n) (callerNumbers c)
+  callers : Each (λ k. k < n) (c .activation .callers)
 
 pub record Numbers (cs : List Call) (rs : List Returned) : Type 0 where
   opened : Each (Numbered (length cs + length rs)) cs
@@ -27,22 +27,19 @@ NumbersAt s = Numbers (s .open-calls) (s .returned-calls)
 more-calls : {n m : ℕ} → n ≤ m → (c : Call) → Numbered n c → Numbered m c
 more-calls le c x = record { self = omega (arith, x .self); callers = each-map (λ k b. omega arith) (x .callers) }
 
-not-below : {n : ℕ} {ks : List ℕ} → Each (λ k. k < n) ks → List·Memᴰ n ks → ⊥
+pub not-below : {n : ℕ} {ks : List ℕ} → Each (λ k. k < n) ks → List·Memᴰ n ks → ⊥
 not-below nil m = List·Memᴰ·not-nil m
 not-below (cons b t) m = ⊎-elim (λ e. omega arith) (λ k. not-below t k) (List·Memᴰ·cases-cons m)
 
--- the next call's number is that of no call so far
-pub next-number : (s : State) → NumbersAt s → List·Memᴰ (length (s .open-calls) + length (s .returned-calls)) (callNumbers (calls s)) → ⊥
-next-number s g = not-below (each-mapped (λ k. k < n) callNumber (each-map (λ c x. x .self) all))
+-- every number so far is below the next one
+pub numbers-below : (s : State) → NumbersAt s → Each (λ c. callNumber c < length (s .open-calls) + length (s .returned-calls)) (calls s)
+numbers-below s g = each-map (λ c x. x .self) (each-append (g .opened) (each-mapped (Numbered n) (λ r. r .call) (g .returned)))
   where
     n : ℕ
     n = length (s .open-calls) + length (s .returned-calls)
 
-    all : Each (Numbered n) (calls s)
-    all = each-append (g .opened) (each-mapped (Numbered n) (λ r. r .call) (g .returned))
-
 -- the next call is not a caller of one that has returned
-pub next-is-new : (s : State) (i m : ℕ) → NumbersAt s → Each (λ r. IsCaller (newCall s i m) r → ⊥) (s .returned-calls)
+pub next-is-new : (s : State) (i m : ℕ) → NumbersAt s → Each (λ r. IsCaller (newCall s i m) (r .call) → ⊥) (s .returned-calls)
 next-is-new s i m g = each-map (λ r x. not-below (x .callers)) (g .returned)
 
 -- the callers of the next call

@@ -15,13 +15,13 @@ use Rattle.runs.proofs.Invariant.{Due, Owed, here, below, Good, running
 use Rattle.runs.proofs.Kept.{runs-are-good}
 
 module _ (S : Sheet) where
-  owed-due : {p : ℕ} {h : Word} {cs : List Call} (r : Returned) → Owed S r p h cs → InCaller cs r → Due S r p h
+  owed-due : {p : ℕ} {h : Word} {cs : List Call} (r : Returned) → Owed S r p h cs → InCaller cs (r .call) → Due S r p h
   owed-due r (here d) i = d
   owed-due r (below n o) i = absurd (n i)
 
   good-is-owing : {s : State} → Good S s → Owing S s
   good-is-owing (running e g) = each-map (λ r o i. adds-since (owed-due r o i)) (g .owed)
-  good-is-owing (over e g) = each-all (λ r i. absurd (subst (λ cs. InCaller cs r) (g .none-open) i))
+  good-is-owing (over e g) = each-all (λ r i. absurd (subst (λ cs. InCaller cs (r .call)) (g .none-open) i))
 
 -- request 12, of every list of moves
 pub runs-owe : (S : Sheet) (m : ℕ) → HasBody (body S m) → AllMet (rulesFrom m S) → (ms : List Move) → Owing S (run S m ms)

@@ -134,15 +134,15 @@ unfolding sheet sheetOf run
 has-returned = (List·Memᴰ·head refl, List·Memᴰ·tail (List·Memᴰ·head refl))
 
 -- what it asks is owed in the first and in the outermost, and not in the second
-owed-in-first : InCaller (run S 0 to-first .open-calls) probed
+owed-in-first : InCaller (run S 0 to-first .open-calls) (probed .call)
 unfolding sheet sheetOf run
 owed-in-first = List·Memᴰ·head refl
 
-owed-in-outermost : InCaller (run S 0 to-outermost .open-calls) probed
+owed-in-outermost : InCaller (run S 0 to-outermost .open-calls) (probed .call)
 unfolding sheet sheetOf run
 owed-in-outermost = List·Memᴰ·tail (List·Memᴰ·head refl)
 
-not-owed-in-second : InCaller (run S 0 to-second .open-calls) probed → ⊥
+not-owed-in-second : InCaller (run S 0 to-second .open-calls) (probed .call) → ⊥
 unfolding sheet sheetOf run
 not-owed-in-second m = ⊎-elim (λ e. omega arith) (λ k. ⊎-elim (λ e. omega arith) List·Memᴰ·not-nil (List·Memᴰ·cases-cons k)) (List·Memᴰ·cases-cons m)
 
