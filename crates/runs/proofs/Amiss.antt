@@ -12,15 +12,15 @@ use Rattle.sheet.specs.Sheet.{event-step, call-step, Sheet}
 use Rattle.runs.specs.Runs.{Move, return, by-step, run}
 use Rattle.runs.specs.Owing.{Owing}
 
--- nothing more, or next 2 (advance): what the primitive asks, whose trace is the one word 1 (close)
+-- what may follow the primitive: nothing more, or next the event 2 (advance); its trace is the one word 1 (close)
 abbrev asked : Condition
 asked = either empty (join (event 2) (star (any 32)))
 
 lacks : (c : Condition) (w : Word) → accepts c w ≡ false → Holds c w → ⊥
 lacks c w e h = subst T e (words c w .1 h)
 
--- Method 0 goes from point 0 to 1 by the primitive 2, called by itself (step 3) or by method 1 (steps 0 and 2), and on to 2 by 0 (open). So open
--- is due at point 1, which the primitive does not ask for.
+-- Method 0 goes from point 0 to 1 by the primitive 2, which it calls itself (step 3) or through method 1 (steps 0 and 2), and on to point 2 by the
+-- event 0 (open). So open is due at point 1, and the primitive does not allow it.
 abbrev opening : Sheet
 opening = record {
   conditions = empty ∷ star (any 32) ∷ event 0 ∷ event 1 ∷ asked ∷ [];

@@ -1,4 +1,5 @@
--- What is promised of the loader's and of the word test's answers: the three demands, each as one record over the bytes and the answer.
+-- What is promised of the loader's and of the word test's answers: the three demands and what document 02's requests add, as one record each over
+-- the bytes and the answer.
 use Prim.Native.Nat.{ℕ, _≤_, _<_}
 use mathlib.Core.Path.{_≡_}
 use mathlib.Core.Bool.{Bool}
@@ -75,9 +76,9 @@ pub record Loads (M : Model) (s : List ℕ) (answer : Report) : Type 0 where
   pub rules-met : (n : ℕ) → answer ≡ accepted n → AllMet (rules (sheetOf M s))
   -- Demand 3: "If a sheet is accepted .. then after EVERY list of moves" the state of the run is safe
   pub sound : (n : ℕ) → answer ≡ accepted n → (ms : List Move) → Safe (sheetOf M s) (run (sheetOf M s) 0 ms)
-  -- Request 12: "In an accepted sheet, after a call has returned, ..", after every list of moves
+  -- Request 12: "In an accepted sheet, after a call has returned, ..", after every list of moves, what is owed then holds
   pub owing : (n : ℕ) → answer ≡ accepted n → (ms : List Move) → Owing (sheetOf M s) (run (sheetOf M s) 0 ms)
-  -- and its activations are told apart, whatever the answer
+  -- and the activations that it speaks of are told apart, in the runs of every sheet
   pub told-apart : (ms : List Move) → ToldApart (sheetOf M s) 0 ms
   -- "Conversely a well-formed sheet with true rules is accepted if each certificate lists exactly the reachable pairs, the start first."
   pub complete : WellFormed M s → AllMet (rules (sheetOf M s)) → EachCertified (ExactFor (M .events)) (rules (sheetOf M s)) (sheetOf M s .certificates)
