@@ -1,4 +1,5 @@
 """Tests of the reference: the cases of "Sheets to try" in document 01, and more."""
+import re
 import subprocess
 import sys
 import unittest
@@ -650,6 +651,25 @@ class Programs(unittest.TestCase):
         path = str(CRATES / "word_cases" / "stdin")
         self.assertEqual(self.run_module("reference.wordtest", path, "0", "1"),
                          (0, b"refused 1 at 65536\n", ""))
+
+
+class Proofs(unittest.TestCase):
+    """What the proofs say of an example is of its bytes."""
+
+    def bytes_of(self, name, *paths):
+        """The bytes of a list in files of definitions: hexadecimal, or lists."""
+        source = "".join((CRATES / path).read_text(encoding="utf-8")
+                         for path in paths)
+        body = re.search(rf"^{name} =(.*?)^$", source, re.M | re.S)[1]
+        return b"".join(bytes([int(word, 16)]) if word.startswith("0x")
+                        else self.bytes_of(word, *paths)
+                        for word in re.findall(r"\w+", body))
+
+    def test_activations(self):
+        sheet = (HERE.parent / "examples" / "activations.sheet").read_bytes()
+        self.assertEqual(sheet, self.bytes_of(
+            "sheet", "verdict/proofs/Activations.antt",
+            "verdict/specs/Cases.antt"))
 
 
 class Vectors(unittest.TestCase):

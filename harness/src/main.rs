@@ -4,11 +4,14 @@ mod answer;
 mod bench;
 mod clock;
 mod compare;
+mod derivatives;
 mod library;
 mod naive;
 mod random;
 mod reference;
+mod runs;
 mod sheets;
+mod simulate;
 mod stack;
 #[cfg(test)]
 mod tests;
@@ -23,6 +26,7 @@ const USAGE: &str = "commands:
   compare N --seed S      N sheets: library against reference, or reference against naive
   self-check N --seed S   N sheets: reference against naive
   vectors CRATES          stored cases of the gate's programs
+  runs CRATES --seed S    random runs of the stored sheets that are accepted
   bench [WORD]            timings of the families, or of those with WORD in their name
   stack                   stack used by one call
   load                    the line for the sheet on standard input";
@@ -55,6 +59,10 @@ fn run(words: &[&str]) -> Result<usize, String> {
             Ok(compare::compare(&reference::DOORS, &naive::DOORS, sheets, seed))
         }
         ["vectors", folder] => vectors::run(folder, &loaders()),
+        ["runs", folder, rest @ ..] => {
+            let doors = library::doors().unwrap_or(reference::DOORS);
+            simulate::simulate(folder, &doors, seed(rest)?)
+        }
         ["bench"] => {
             bench::bench(&loaders(), "");
             Ok(0)
@@ -77,13 +85,24 @@ fn loaders() -> Vec<Doors> {
     [Some(reference::DOORS), library::doors()].into_iter().flatten().collect()
 }
 
+fn number(word: &str) -> Result<u64, String> {
+    word.parse().map_err(|_| USAGE.to_string())
+}
+
+/// The seed, 1 if none is given.
+fn seed(words: &[&str]) -> Result<u64, String> {
+    match words {
+        [] => Ok(1),
+        ["--seed", seed] => number(seed),
+        _ => Err(USAGE.to_string()),
+    }
+}
+
 /// The number of sheets and the seed.
 fn numbers(words: &[&str]) -> Result<(usize, u64), String> {
-    let number = |word: &str| word.parse::<u64>().map_err(|_| USAGE.to_string());
     match words {
-        [sheets] => Ok((number(sheets)? as usize, 1)),
-        [sheets, "--seed", seed] => Ok((number(sheets)? as usize, number(seed)?)),
-        _ => Err(USAGE.to_string()),
+        [sheets, rest @ ..] => Ok((number(sheets)? as usize, seed(rest)?)),
+        [] => Err(USAGE.to_string()),
     }
 }
 

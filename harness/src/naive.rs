@@ -9,8 +9,7 @@ mod reading;
 use crate::answer::{Answer, Counts, Doors, Fault, Refusal, Verdict};
 use crate::tree::Tree;
 pub use glushkov::Side;
-#[cfg(test)]
-pub use matching::holds;
+pub use matching::{holds, holds_empty};
 pub use reading::{read as read_sheet, Act, Sheet};
 
 pub const DOORS: Doors = Doors { name: "naive", load, word_test, read };

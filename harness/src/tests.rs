@@ -1,6 +1,7 @@
 //! The starred cases of the document, and more.
 mod certificates;
 mod reading;
+mod runs;
 mod tools;
 
 use crate::answer::Doors;

@@ -1,7 +1,7 @@
 //! A condition as a tree.
 use crate::random::Random;
 
-#[derive(Clone, Debug, PartialEq)]
+#[derive(Clone, Debug, PartialEq, Eq, Hash, PartialOrd, Ord)]
 pub enum Tree {
     Leaf(u32),
     Empty,

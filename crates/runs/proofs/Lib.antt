@@ -1,3 +1,4 @@
+pub mod Alike
 pub mod Amiss
 pub mod Rules
 pub mod Count

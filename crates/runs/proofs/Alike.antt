@@ -1,0 +1,78 @@
+-- Two activations that agree in method, step, history and callers. What a call that the first made still asks is owed in the first and in its
+-- caller, and not in the second, where it would not be met. The sheet is that of examples/activations.
+use mathlib.Core.Path.{_≡_, refl}
+use mathlib.Core.Option.{none, some}
+use mathlib.Core.List.{List, [], _∷_, _++_, List·Memᴰ, List·Memᴰ·head, List·Memᴰ·tail, List·Memᴰ·cases-cons, List·Memᴰ·not-nil}
+use mathlib.Core.Logic.{⊎-elim}
+use Prim.Native.Nat.{ℕ, _-_, _^_}
+use native.Mathlib.Omega.{arith}
+use Rattle.condition.specs.Condition.{empty, star, event, any, globally}
+use Rattle.condition.proofs.Words.{words}
+use Rattle.sheet.specs.Sheet.{event-step, call-step, pass-step, Sheet, condition}
+use Rattle.runs.specs.Runs.{Call, Returned, Move, return, by-step, run}
+use Rattle.runs.specs.Owing.{InCaller, LiesInFuture}
+
+-- Method 0 goes from point 0 to 2. It calls the primitive 1, which raises nothing and asks that 0 does not come; then any number of times itself,
+-- by one step; then it passes or raises 2. At point 0 anything is due.
+abbrev pub visits : Sheet
+visits = record {
+  conditions = empty ∷ star (any 32) ∷ star (event 2) ∷ globally (2 ^ 32 - 1 - 1) ∷ [];
+  points = record { past = 2; own = 0; due = 1 } ∷ record { past = 2; own = 2; due = 2 } ∷ record { past = 2; own = 2; due = 2 } ∷ [];
+  methods =
+      record { pre = 2; trace = 2; future = 2; body = some (record { entry = 0; exit = 2 }) }
+      ∷ record { pre = 1; trace = 0; future = 3; body = none }
+      ∷ [];
+  steps = call-step 0 1 1 ∷ call-step 1 1 0 ∷ pass-step 1 2 ∷ event-step 1 2 2 ∷ [];
+  certificates = [];
+}
+
+-- the primitive, method 0, the primitive again: now in the first of the two
+abbrev pub to-first : List Move
+to-first = by-step 0 [] ∷ by-step 1 [] ∷ by-step 0 [] ∷ []
+
+-- it returns, to the outermost
+abbrev to-outermost : List Move
+to-outermost = to-first ++ (by-step 2 [] ∷ return ∷ [])
+
+-- the same step again: in the second
+abbrev to-second : List Move
+to-second = to-outermost ++ (by-step 1 [] ∷ [])
+
+abbrev outermost : Call
+outermost = record { method = 0; step = none; began = []; activation = record { number = 0; callers = [] } }
+
+-- the first and the second, but for their numbers
+abbrev visit : ℕ → Call
+visit n = record { method = 0; step = some 1; began = []; activation = record { number = n; callers = 0 ∷ [] } }
+
+-- the call of the primitive that the first made
+abbrev probed : Returned
+probed = record { call = record { method = 1; step = some 0; began = []; activation = record { number = 3; callers = 2 ∷ 0 ∷ [] } }; at = [] }
+
+pub open-calls-are :
+    (run visits 0 to-first .open-calls ≡ visit 2 ∷ outermost ∷ [])
+    × (run visits 0 to-outermost .open-calls ≡ outermost ∷ [])
+    × (run visits 0 to-second .open-calls ≡ visit 4 ∷ outermost ∷ [])
+unfolding run
+open-calls-are = (refl, refl, refl)
+
+pub has-returned : List·Memᴰ probed (run visits 0 to-first .returned-calls) × List·Memᴰ probed (run visits 0 to-second .returned-calls)
+unfolding run
+has-returned = (List·Memᴰ·head refl, List·Memᴰ·tail (List·Memᴰ·head refl))
+
+pub owed-in-first : InCaller (run visits 0 to-first .open-calls) (probed .call)
+unfolding run
+owed-in-first = List·Memᴰ·head refl
+
+pub owed-in-outermost : InCaller (run visits 0 to-outermost .open-calls) (probed .call)
+unfolding run
+owed-in-outermost = List·Memᴰ·tail (List·Memᴰ·head refl)
+
+pub not-owed-in-second : InCaller (run visits 0 to-second .open-calls) (probed .call) → ⊥
+unfolding run
+not-owed-in-second m = ⊎-elim (λ e. omega arith) (λ k. ⊎-elim (λ e. omega arith) List·Memᴰ·not-nil (List·Memᴰ·cases-cons k)) (List·Memᴰ·cases-cons m)
+
+-- 0 is due there
+pub not-met-in-second : LiesInFuture visits (run visits 0 to-second) probed → ⊥
+unfolding run
+not-met-in-second f = words (condition visits 3) (0 ∷ []) .1 (f (0 ∷ []) (words (condition visits 1) (0 ∷ []) .0 tt))

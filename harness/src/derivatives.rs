@@ -1,0 +1,90 @@
+//! Which word of one condition another lacks, by partial derivatives (Antimirov).
+use crate::naive::holds_empty;
+use crate::tree::Tree;
+use std::collections::{BTreeSet, HashSet, VecDeque};
+
+/// Pairs looked at before giving up.
+const MOST: usize = 50_000;
+
+type Trees = BTreeSet<Tree>;
+
+/// What may follow the event in the words of a tree, each way as a tree.
+fn partial(tree: &Tree, event: u8) -> Trees {
+    match tree {
+        Tree::Leaf(set) if set >> event & 1 == 1 => Trees::from([Tree::Empty]),
+        Tree::Leaf(_) | Tree::Empty => Trees::new(),
+        Tree::Join(a, b) => {
+            let mut ways = before(partial(a, event), b);
+            if holds_empty(a) {
+                ways.extend(partial(b, event));
+            }
+            ways
+        }
+        Tree::Either(a, b) => &partial(a, event) | &partial(b, event),
+        Tree::Star(a) => before(partial(a, event), tree),
+    }
+}
+
+/// Each of the trees, followed by the rest.
+fn before(trees: Trees, rest: &Tree) -> Trees {
+    let joined = |tree| match tree {
+        Tree::Empty => rest.clone(),
+        tree => tree.join(rest.clone()),
+    };
+    trees.into_iter().map(joined).collect()
+}
+
+fn step(trees: &Trees, event: u8) -> Trees {
+    trees.iter().flat_map(|tree| partial(tree, event)).collect()
+}
+
+fn sets(tree: &Tree, found: &mut BTreeSet<u32>) {
+    match tree {
+        Tree::Leaf(set) => {
+            found.insert(*set);
+        }
+        Tree::Empty => {}
+        Tree::Join(a, b) | Tree::Either(a, b) => {
+            sets(a, found);
+            sets(b, found);
+        }
+        Tree::Star(a) => sets(a, found),
+    }
+}
+
+/// One event of each class that no leaf tells apart.
+fn events(left: &Tree, rights: &Trees) -> Vec<u8> {
+    let mut found = BTreeSet::new();
+    sets(left, &mut found);
+    rights.iter().for_each(|tree| sets(tree, &mut found));
+    let mut classes = HashSet::new();
+    let class = |event: &u8| found.iter().map(|set| set >> event & 1).collect::<Vec<u32>>();
+    (0..32).filter(|event| classes.insert(class(event))).collect()
+}
+
+/// A shortest word of the left that, behind some events, is not in the right;
+/// an error if that was not found out.
+pub fn missing_word(left: &Tree, right: &Tree, since: &[u8]) -> Result<Option<Vec<u8>>, ()> {
+    let rights = since.iter().fold(Trees::from([right.clone()]), |all, &event| step(&all, event));
+    let events = events(left, &rights);
+    let mut seen = HashSet::from([(left.clone(), rights.clone())]);
+    let mut todo = VecDeque::from([(left.clone(), rights, vec![])]);
+    while let Some((tree, others, word)) = todo.pop_front() {
+        if holds_empty(&tree) && !others.iter().any(holds_empty) {
+            return Ok(Some(word));
+        }
+        for &event in &events {
+            let ways = partial(&tree, event);
+            let after = if ways.is_empty() { Trees::new() } else { step(&others, event) };
+            for way in ways {
+                if seen.insert((way.clone(), after.clone())) {
+                    todo.push_back((way, after.clone(), [&word[..], &[event]].concat()));
+                }
+            }
+        }
+        if seen.len() > MOST {
+            return Err(());
+        }
+    }
+    Ok(None)
+}

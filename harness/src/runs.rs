@@ -1,0 +1,209 @@
+//! Runs of a sheet and what is promised of them: document 01, "Runs", with
+//! demand 3, and document 02, Ask 12.
+use crate::derivatives::missing_word;
+use crate::naive::{holds, Act, Sheet};
+use crate::random::Random;
+use std::collections::HashMap;
+
+/// A call. Histories are lengths: each is a beginning of the present one.
+pub struct Call {
+    pub method: usize,
+    pub step: Option<usize>,
+    pub began: usize,
+    pub returned: Option<usize>,
+    /// The activation that made it.
+    pub maker: Option<usize>,
+}
+
+pub enum Move {
+    Return,
+    Step(usize, Vec<u8>),
+}
+
+/// What a call breaks.
+#[derive(Clone, Copy, Debug, PartialEq, Eq, Hash, PartialOrd, Ord)]
+pub enum Broken {
+    Pre,
+    Trace,
+    Future,
+    Owed,
+    /// Whether a future that is owed is met was not found out.
+    Undecided,
+}
+
+pub struct Run<'a> {
+    sheet: &'a Sheet,
+    pub history: Vec<u8>,
+    /// In the order in which they began.
+    pub calls: Vec<Call>,
+    /// Numbers of open calls, the innermost last.
+    pub open: Vec<usize>,
+    pub point: usize,
+}
+
+impl<'a> Run<'a> {
+    /// The run that has made no move; the first method has a body.
+    pub fn start(sheet: &'a Sheet) -> Run<'a> {
+        let (entry, _) = sheet.methods[0].body.unwrap();
+        let mut run = Run { sheet, history: vec![], calls: vec![], open: vec![], point: entry };
+        run.begin(0, None);
+        run
+    }
+
+    pub fn ended(&self) -> bool {
+        self.open.is_empty()
+    }
+
+    fn begin(&mut self, method: usize, step: Option<usize>) {
+        let maker = self.open.last().copied();
+        self.calls.push(Call { method, step, began: self.history.len(), returned: None, maker });
+        self.open.push(self.calls.len() - 1);
+    }
+
+    fn close(&mut self) {
+        let call = self.open.pop().unwrap();
+        self.calls[call].returned = Some(self.history.len());
+        if let Some(step) = self.calls[call].step {
+            self.point = self.sheet.steps[step].to;
+        }
+    }
+
+    /// Makes a move if it can be made; tells whether it was made.
+    pub fn make(&mut self, what: &Move) -> bool {
+        let Some(&active) = self.open.last() else {
+            return false;
+        };
+        match what {
+            Move::Return => {
+                let body = self.sheet.methods[self.calls[active].method].body;
+                let exits = body.is_some_and(|(_, exit)| exit == self.point);
+                if exits {
+                    self.close();
+                }
+                exits
+            }
+            Move::Step(number, word) => self.make_step(*number, word),
+        }
+    }
+
+    fn make_step(&mut self, number: usize, word: &[u8]) -> bool {
+        let Some(step) = self.sheet.steps.get(number).filter(|step| step.from == self.point) else {
+            return false;
+        };
+        match step.act {
+            Act::Event(event) => self.history.push(event),
+            Act::Pass => {}
+            Act::Call(method) => return self.make_call(number, method, word),
+        }
+        self.point = step.to;
+        true
+    }
+
+    fn make_call(&mut self, step: usize, method: usize, word: &[u8]) -> bool {
+        let called = &self.sheet.methods[method];
+        if let Some((entry, _)) = called.body {
+            self.begin(method, Some(step));
+            self.point = entry;
+            return true;
+        }
+        if !holds(&self.sheet.conditions[called.trace], word) {
+            return false;
+        }
+        self.begin(method, Some(step));
+        self.history.extend_from_slice(word);
+        self.close();
+        true
+    }
+
+    /// Whether control is in the activation that made a call, or in one of that
+    /// activation's callers.
+    pub fn in_caller(&self, call: usize) -> bool {
+        let mut caller = self.calls[call].maker;
+        while let Some(number) = caller {
+            if self.open.last() == Some(&number) {
+                return true;
+            }
+            caller = self.calls[number].maker;
+        }
+        false
+    }
+}
+
+/// What is known of a sheet's conditions.
+pub struct Languages<'a> {
+    sheet: &'a Sheet,
+    held: HashMap<(usize, Vec<u8>), bool>,
+    within: HashMap<(usize, usize, Vec<u8>), Option<Broken>>,
+}
+
+impl<'a> Languages<'a> {
+    pub fn new(sheet: &'a Sheet) -> Languages<'a> {
+        Languages { sheet, held: HashMap::new(), within: HashMap::new() }
+    }
+
+    fn holds(&mut self, condition: usize, word: &[u8]) -> bool {
+        let tree = &self.sheet.conditions[condition];
+        *self.held.entry((condition, word.to_vec())).or_insert_with(|| holds(tree, word))
+    }
+
+    /// Whether the events, followed by any word of the due, lie in the future.
+    fn owed(&mut self, due: usize, future: usize, since: &[u8]) -> Option<Broken> {
+        let conditions = &self.sheet.conditions;
+        *self.within.entry((due, future, since.to_vec())).or_insert_with(|| {
+            match missing_word(&conditions[due], &conditions[future], since) {
+                Ok(None) => None,
+                Ok(Some(_)) => Some(Broken::Owed),
+                Err(()) => Some(Broken::Undecided),
+            }
+        })
+    }
+
+    /// What a call breaks, if anything.
+    fn broken_call(&mut self, run: &Run, number: usize) -> Option<Broken> {
+        let call = &run.calls[number];
+        let method = &self.sheet.methods[call.method];
+        if !self.holds(method.pre, &run.history[..call.began]) {
+            return Some(Broken::Pre);
+        }
+        let returned = call.returned?;
+        let since = &run.history[returned..];
+        if !self.holds(method.trace, &run.history[call.began..returned]) {
+            return Some(Broken::Trace);
+        }
+        if run.ended() && !self.holds(method.future, since) {
+            return Some(Broken::Future);
+        }
+        if run.in_caller(number) {
+            return self.owed(self.sheet.points[run.point].due, method.future, since);
+        }
+        None
+    }
+
+    /// The first call that breaks what is promised.
+    pub fn first_break(&mut self, run: &Run) -> Option<(usize, Broken)> {
+        (0..run.calls.len()).find_map(|call| Some((call, self.broken_call(run, call)?)))
+    }
+}
+
+/// A move, mostly one that control allows.
+pub fn random_move(run: &Run, random: &mut Random) -> Move {
+    let sheet = run.sheet;
+    if run.ended() || random.once_in(5) {
+        let word = (0..random.below(3)).map(|_| random.below(4) as u8).collect();
+        return match random.below(sheet.steps.len() + 2) {
+            0 => Move::Return,
+            number => Move::Step(number - 1, word),
+        };
+    }
+    let fitting = |&step: &usize| sheet.steps[step].from == run.point;
+    let steps: Vec<usize> = (0..sheet.steps.len()).filter(fitting).collect();
+    if steps.is_empty() || random.once_in(3) {
+        return Move::Return;
+    }
+    let step = steps[random.below(steps.len())];
+    let mut word = vec![];
+    if let Act::Call(method) = sheet.steps[step].act {
+        sheet.conditions[sheet.methods[method].trace].word(random, &mut word);
+    }
+    Move::Step(step, word)
+}

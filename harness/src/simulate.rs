@@ -1,0 +1,82 @@
+//! Random runs of stored sheets, checked state by state.
+use crate::answer::{Doors, Verdict};
+use crate::naive;
+use crate::random::Random;
+use crate::runs::{random_move, Broken, Languages, Run};
+use crate::vectors;
+use std::collections::BTreeMap;
+use std::fs;
+use std::path::Path;
+
+const RUNS: usize = 40;
+const MOVES: usize = 40;
+const LONGEST: usize = 100;
+
+#[derive(Default)]
+pub struct Totals {
+    pub sheets: usize,
+    pub runs: usize,
+    pub states: usize,
+    pub ended: usize,
+    pub owed: usize,
+    pub past_maker: usize,
+    pub broken: BTreeMap<Broken, usize>,
+}
+
+impl Totals {
+    fn state(&mut self, run: &Run) {
+        self.states += 1;
+        let returned = (0..run.calls.len()).filter(|&call| run.calls[call].returned.is_some());
+        for call in returned.filter(|&call| run.in_caller(call)) {
+            self.owed += 1;
+            self.past_maker += (run.calls[call].maker != run.open.last().copied()) as usize;
+        }
+    }
+
+    /// Random runs of a sheet, each up to its first break.
+    pub fn sheet(&mut self, bytes: &[u8], random: &mut Random) {
+        let Ok(sheet) = naive::read_sheet(bytes) else {
+            return;
+        };
+        self.sheets += 1;
+        let mut languages = Languages::new(&sheet);
+        for _ in 0..RUNS {
+            self.runs += 1;
+            self.run(Run::start(&sheet), &mut languages, random);
+        }
+    }
+
+    fn run(&mut self, mut run: Run, languages: &mut Languages, random: &mut Random) {
+        for _ in 0..MOVES {
+            self.state(&run);
+            if let Some((_, broken)) = languages.first_break(&run) {
+                *self.broken.entry(broken).or_default() += 1;
+                return;
+            }
+            if run.ended() || run.history.len() > LONGEST {
+                break;
+            }
+            let next = random_move(&run, random);
+            run.make(&next);
+        }
+        self.ended += run.ended() as usize;
+    }
+}
+
+/// Runs of the stored sheets that the loader accepts; returns the breaks.
+pub fn simulate(crates: &str, doors: &Doors, seed: u64) -> Result<usize, String> {
+    let path = Path::new(crates).join("sheet_cases").join("stdin");
+    let file = fs::read(&path).map_err(|error| format!("{}: {error}", path.display()))?;
+    let mut totals = Totals::default();
+    let mut random = Random::new(seed);
+    for sheet in vectors::sheets(&file)? {
+        if matches!((doors.load)(&sheet), Verdict::Accepted(_)) {
+            totals.sheet(&sheet, &mut random);
+        }
+    }
+    let Totals { sheets, runs, states, ended, owed, past_maker, broken } = totals;
+    println!("{sheets} sheets that the {} accepts, {runs} runs, {ended} ended", doors.name);
+    println!("{states} states; {owed} futures owed, {past_maker} after the caller's return");
+    println!("{} breaks {broken:?}", broken.values().sum::<usize>());
+    Ok(broken.values().sum())
+}
