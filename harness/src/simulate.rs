@@ -8,7 +8,7 @@ use std::collections::BTreeMap;
 use std::fs;
 use std::path::Path;
 
-const RUNS: usize = 40;
+const RUNS: usize = 400;
 const MOVES: usize = 40;
 const LONGEST: usize = 100;
 

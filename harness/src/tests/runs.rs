@@ -65,7 +65,10 @@ fn activations_are_told_apart() {
     let second = 4;
     assert_eq!((run.open.as_slice(), run.in_caller(probed)), (&[0, second][..], false));
     let (one, two) = (&run.calls[first], &run.calls[second]);
-    assert_eq!((one.method, one.step, one.began, one.maker), (two.method, two.step, two.began, two.maker));
+    assert_eq!(
+        (one.method, one.step, one.began, one.maker),
+        (two.method, two.step, two.began, two.maker)
+    );
     assert_eq!(languages.first_break(&run), None);
     let due = sheet.points[run.point].due;
     let future = sheet.methods[run.calls[probed].method].future;
@@ -86,7 +89,7 @@ fn moves_that_cannot_be_made_change_nothing() {
     assert_eq!((run.history.as_slice(), run.calls.len()), (&[2][..], 1));
 }
 
-/// Against every word of up to four of three events.
+/// Against every word of one event, and of up to four of three events.
 #[test]
 fn missing_words() {
     let mut words: Vec<Vec<u8>> = vec![vec![]];
@@ -101,13 +104,13 @@ fn missing_words() {
         let [left, right] = [0; 2].map(|_| Tree::random(&mut random, 2));
         let since = &words[random.below(13)];
         let lacks = |word: &[u8]| holds(&left, word) && !holds(&right, &[since, word].concat());
-        let first = words.iter().find(|word| lacks(word));
+        let tried = words.iter().cloned().chain((3..32).map(|event| vec![event]));
+        let shortest = tried.filter(|word| lacks(word)).map(|word| word.len()).min();
         let found = missing_word(&left, &right, since).unwrap();
         seen[found.is_some() as usize] += 1;
-        match (first, &found) {
-            (Some(first), Some(found)) => assert!(lacks(found) && first.len() == found.len()),
-            (None, Some(found)) => assert!(lacks(found)),
-            (first, None) => assert_eq!(first, None),
+        match found {
+            Some(word) => assert!(lacks(&word) && shortest.is_none_or(|least| word.len() <= least)),
+            None => assert_eq!(shortest, None),
         }
     }
     assert!(seen.iter().all(|&count| count > 200), "{seen:?}");
