@@ -188,7 +188,7 @@ impl<'a> Languages<'a> {
 /// A move, mostly one that control allows.
 pub fn random_move(run: &Run, random: &mut Random) -> Move {
     let sheet = run.sheet;
-    if run.ended() || random.once_in(5) {
+    if random.once_in(5) {
         let word = (0..random.below(3)).map(|_| random.below(4) as u8).collect();
         return match random.below(sheet.steps.len() + 2) {
             0 => Move::Return,

@@ -46,14 +46,15 @@ impl Totals {
         }
     }
 
+    /// One run; each of its states is checked, the last one too.
     fn run(&mut self, mut run: Run, languages: &mut Languages, random: &mut Random) {
-        for _ in 0..MOVES {
+        for left in (0..=MOVES).rev() {
             self.state(&run);
             if let Some((_, broken)) = languages.first_break(&run) {
                 *self.broken.entry(broken).or_default() += 1;
                 return;
             }
-            if run.ended() || run.history.len() > LONGEST {
+            if left == 0 || run.ended() || run.history.len() > LONGEST {
                 break;
             }
             let next = random_move(&run, random);

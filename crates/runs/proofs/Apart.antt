@@ -23,6 +23,9 @@ use Rattle.runs.proofs.Numbers.{NumbersAt, not-below, numbers-below, ma
 abbrev callNumbers : List Call → List ℕ
 callNumbers = map callNumber
 
+abbrev returned : State → List Call
+returned s = map (λ r. r .call) (s .returned-calls)
+
 -- a call is moved behind those that stay open
 module _ (c : Call) (cs ds : List Call) where
   each-moved : {P : Call → Type 0} → Each P (c ∷ (cs ++ ds)) ↔ Each P (cs ++ (c ∷ ds))
@@ -78,7 +81,7 @@ module _ (S : Sheet) where
   made-told s t (open-made {m = m} i found is) n g = record { numbers = new-nodup s i m n g; stacked = upon (callers-are (g .stacked)) (g .stacked) }
   made-told s t (return-made {c = c} {cs = cs} opened is at) n g =
       let k : Told (c ∷ cs) (s .returned-calls) = subst (λ x. Told x (s .returned-calls)) opened g in
-      record { numbers = nodup-moved c cs (map (λ r. r .call) (s .returned-calls)) (k .numbers); stacked = stacked-below (k .stacked) }
+      record { numbers = nodup-moved c cs (returned s) (k .numbers); stacked = stacked-below (k .stacked) }
 
   start-told : (m : ℕ) → ToldAt (start S m)
   unfolding start
@@ -105,21 +108,21 @@ module _ (S : Sheet) where
   made-calls s t (event-made i found) = all-old s
   made-calls s t (pass-made i found) = all-old s
   made-calls s t (primitive-made {m = m} i w found is h) =
-      each-moved (newCall s i m) (s .open-calls) (map (λ r. r .call) (s .returned-calls)) .0 (cons (new refl refl refl) (all-old s))
+      each-moved (newCall s i m) (s .open-calls) (returned s) .0 (cons (new refl refl refl) (all-old s))
   made-calls s t (open-made i found is) = cons (new refl refl refl) (all-old s)
   made-calls s t (return-made {c = c} {cs = cs} opened is at) =
-      each-moved c cs (map (λ r. r .call) (s .returned-calls)) .0
-      (subst (λ (xs : List Call). Each (OldOrNew s) (xs ++ map (λ r. r .call) (s .returned-calls))) opened (all-old s))
+      each-moved c cs (returned s) .0
+      (subst (λ (xs : List Call). Each (OldOrNew s) (xs ++ returned s)) opened (all-old s))
 
   made-stay : (s t : State) → Makes S s t → Each (λ c. List·Memᴰ c (calls t)) (calls s)
   made-stay s t (event-made i found) = each-is-member (calls s)
   made-stay s t (pass-made i found) = each-is-member (calls s)
   made-stay s t (primitive-made {m = m} i w found is h) =
-      each-tail (each-moved (newCall s i m) (s .open-calls) (map (λ r. r .call) (s .returned-calls)) .1 (each-is-member _))
+      each-tail (each-moved (newCall s i m) (s .open-calls) (returned s) .1 (each-is-member _))
   made-stay s t (open-made i found is) = each-tail (each-is-member _)
   made-stay s t (return-made {c = c} {cs = cs} opened is at) =
-      subst (λ (xs : List Call). Each (λ d. List·Memᴰ d (calls t)) (xs ++ map (λ r. r .call) (s .returned-calls))) (sym opened)
-      (each-moved c cs (map (λ r. r .call) (s .returned-calls)) .1 (each-is-member _))
+      subst (λ (xs : List Call). Each (λ d. List·Memᴰ d (calls t)) (xs ++ returned s)) (sym opened)
+      (each-moved c cs (returned s) .1 (each-is-member _))
 
   module _ (m : ℕ) (ms : List Move) where
     abbrev at : ℕ → State

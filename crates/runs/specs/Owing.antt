@@ -12,6 +12,7 @@ use Rattle.runs.specs.Runs.{Call, Returned, State, calls, since, Move, r
 
 -- What is owed ----------------------------------------------------------------------------------------------------------
 
+-- the number of the activation that a call is: how many calls began before it
 abbrev pub callNumber : Call → ℕ
 callNumber c = c .activation .number
 
@@ -40,12 +41,14 @@ module _ (S : Sheet) (m : ℕ) (ms : List Move) where
   abbrev pub stateAfter : ℕ → State
   stateAfter k = run S m (take k ms)
 
-  -- The call c began by move k, counted from 0: it is there after that move and not before, and of all calls of the run its callers are those that
-  -- were open when it began.
+  -- the call c began by move k, counted from 0
   pub record BeganBy (k : ℕ) (c : Call) : Type 0 where
+    -- it is there after that move, and not before
     pub not-before : List·Memᴰ c (calls (stateAfter k)) → ⊥
     pub there-after : List·Memᴰ c (calls (stateAfter (suc k)))
+    -- "the history at its beginning"
     pub history : c .began ≡ stateAfter k .history
+    -- of all calls of the run, its callers are those that were open when it began
     pub callers : (d : Call) → List·Memᴰ d (calls (run S m ms)) → IsCaller d c ↔ List·Memᴰ d (stateAfter k .open-calls)
 
   -- the outermost call is there from the start, and has no callers; each other one began by a move
