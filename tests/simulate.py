@@ -37,7 +37,7 @@ class Totals:
         for call in run.returned_calls:
             if in_caller(run, call):
                 self.owed += 1
-                self.past_maker += call.maker is not run.open_calls[-1]
+                self.past_maker += call.maker is not run.active
             else:
                 self.told_apart += in_like_of_caller(run, call)
 
@@ -45,8 +45,8 @@ class Totals:
 def in_like_of_caller(run, call):
     """Whether the active call has the method, the step and the beginning of
     one of a call's callers."""
-    return not run.ended and any(caller[:3] == run.open_calls[-1][:3]
-                                 for caller in callers(call))
+    return run.active is not None and any(caller[:3] == run.active[:3]
+                                          for caller in callers(call))
 
 
 class Break(NamedTuple):
@@ -97,7 +97,7 @@ class Walker:
 
     def fitting_move(self, run):
         """A move that control allows, if there is one."""
-        active = self.sheet.methods[run.open_calls[-1].method]
+        active = self.sheet.methods[run.active.method]
         steps = [number for number, step in enumerate(self.sheet.steps)
                  if step.source == run.point]
         if run.point == active.exit and (not steps or self.draws.chance(0.5)):
@@ -127,7 +127,7 @@ def must_stay(sheet, run, move):
     if run.ended:
         return True
     if move.step is None:
-        return run.point != sheet.methods[run.open_calls[-1].method].exit
+        return run.point != sheet.methods[run.active.method].exit
     return (not 0 <= move.step < len(sheet.steps)
             or sheet.steps[move.step].source != run.point)
 

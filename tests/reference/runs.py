@@ -41,6 +41,11 @@ class Run(NamedTuple):
     point: int
 
     @property
+    def active(self):
+        """The innermost open call, which has control, or None."""
+        return self.open_calls[-1] if self.open_calls else None
+
+    @property
     def ended(self):
         return not self.open_calls
 
@@ -67,7 +72,7 @@ def in_condition(sheet, number, word):
 
 def make_return(sheet, run):
     """The run after a return, or the same run."""
-    call = run.open_calls[-1]
+    call = run.active
     if run.point != sheet.methods[call.method].exit:
         return run
     point = run.point if call.step is None else sheet.steps[call.step].target
@@ -80,7 +85,7 @@ def make_call(sheet, run, move):
     """The run after a call step at whose source control is, or the same run."""
     step = sheet.steps[move.step]
     method = sheet.methods[step.operand]
-    call = Call(step.operand, move.step, run.history, run.open_calls[-1])
+    call = Call(step.operand, move.step, run.history, run.active)
     if method.has_body:
         return run._replace(open_calls=run.open_calls + (call,),
                             point=method.entry)
@@ -143,8 +148,7 @@ def callers(call):
 
 def in_caller(run, call):
     """Whether control is in one of a call's callers."""
-    return not run.ended and any(caller is run.open_calls[-1]
-                                 for caller in callers(call))
+    return any(caller is run.active for caller in callers(call))
 
 
 def missing(sheet, due, future, since):
