@@ -128,7 +128,8 @@ module _ (S : Sheet) where
     abbrev at : ℕ → State
     at = stateAfter S m ms
 
-    stays : (k : ℕ) (c : Call) → List·Memᴰ c (calls (at k)) → List·Memᴰ c (calls (run S m ms))
+    -- no call is lost
+    pub stays : (k : ℕ) (c : Call) → List·Memᴰ c (calls (at k)) → List·Memᴰ c (calls (run S m ms))
     stays k c i =
         subst (λ (t : State). List·Memᴰ c (calls t)) (sym (run-append S m (take k ms) (drop k ms)) ∙ ap (run S m) (take-append-drop k ms))
         (run-on-keeps S (λ t. List·Memᴰ c (calls t)) (λ s t z made j. each-member (λ d. List·Memᴰ d (calls t)) (made-stay s t made) j) (at k) (drop k ms) i)

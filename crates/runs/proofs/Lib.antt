@@ -7,6 +7,7 @@ pub mod Moves
 pub mod Grow
 pub mod Numbers
 pub mod Apart
+pub mod WhenOpen
 pub mod Leads
 pub mod Invariant
 pub mod Kept
