@@ -171,8 +171,11 @@ module _ (S : Sheet) where
     began k g c there (new n h o) =
         by-move k
         record {
-          not-before = λ i. let l = each-member (λ d. callNumber d < _) (numbers-below (at k) (runs-told S m (take k ms) .0)) i in omega arith;
-          there-after = there;
+          begins =
+              record {
+                not-before = λ i. let l = each-member (λ d. callNumber d < _) (numbers-below (at k) (runs-told S m (take k ms) .0)) i in omega arith;
+                there-after = there;
+              };
           history = h;
           callers = callers k c o;
         }

@@ -12,17 +12,12 @@ use Rattle.sheet.specs.Each.{Each}
 use Rattle.sheet.proofs.Each.{each-zip, each-is-member, each-member}
 use Rattle.sheet.specs.Sheet.{Sheet}
 use Rattle.runs.specs.Runs.{Call, Returned, State, calls, Move, run}
-use Rattle.runs.specs.Owing.{InCaller, LiesInFuture, Owing, stateAfter, BeganBy, Began, at-start, by-move, ToldApart}
+use Rattle.runs.specs.Owing.{InCaller, LiesInFuture, Owing, stateAfter, Begins, Began, at-start, by-move, ToldApart}
 use Rattle.runs.proofs.Apart.{stays}
 
 module _ (S : Sheet) (m : ℕ) (ms : List Move) where
   abbrev now : State
   now = run S m ms
-
-  -- the call c begins with move k
-  pub record Begins (k : ℕ) (c : Call) : Type 0 where
-    not-before : List·Memᴰ c (calls (stateAfter S m ms k)) → ⊥
-    there-after : List·Memᴰ c (calls (stateAfter S m ms (suc k)))
 
   -- of the open calls cs, the innermost was open before move k
   abbrev pub WasOpen : ℕ → List Call → Type 0
@@ -30,18 +25,15 @@ module _ (S : Sheet) (m : ℕ) (ms : List Move) where
   WasOpen k (d ∷ ds) = List·Memᴰ d (stateAfter S m ms k .open-calls)
 
   abbrev pub OwingWhenOpen : Type 0
-  OwingWhenOpen = Each (λ r. (k : ℕ) → Begins k (r .call) → WasOpen k (now .open-calls) → LiesInFuture S now r) (now .returned-calls)
+  OwingWhenOpen = Each (λ r. (k : ℕ) → Begins S m ms k (r .call) → WasOpen k (now .open-calls) → LiesInFuture S now r) (now .returned-calls)
 
   -- A call begins once ----------------------------------------------------------------------------------------------------
-
-  begins : {k : ℕ} {c : Call} → BeganBy S m ms k c → Begins k c
-  begins a = record { not-before = a .not-before; there-after = a .there-after }
 
   stays-to : (j k : ℕ) {c : Call} → j ≤ k → List·Memᴰ c (calls (stateAfter S m ms j)) → List·Memᴰ c (calls (stateAfter S m ms k))
   stays-to j k {c} l i =
       stays S m (take k ms) j c (subst (λ (xs : List Move). List·Memᴰ c (calls (run S m xs))) (sym (take-take j k ms l)) i)
 
-  not-later : {j k : ℕ} {c : Call} → Begins j c → Begins k c → k ≤ j
+  not-later : {j k : ℕ} {c : Call} → Begins S m ms j c → Begins S m ms k c → k ≤ j
   not-later {j} {k} a b = go (decLe k j)
     where
       go : Dec (k ≤ j) → k ≤ j
@@ -53,18 +45,18 @@ module _ (S : Sheet) (m : ℕ) (ms : List Move) where
   innermost-is-call : {d : Call} {ds : List Call} → now .open-calls ≡ d ∷ ds → List·Memᴰ d (calls now)
   innermost-is-call {d} e = Memᴰ·append-left _ (subst (λ (cs : List Call). List·Memᴰ d cs) (sym e) (List·Memᴰ·head refl))
 
-  caller-if-open : {c : Call} → Began S m ms c → (k : ℕ) → Begins k c → (cs : List Call) → now .open-calls ≡ cs → WasOpen k cs → InCaller cs c
+  caller-if-open : {c : Call} → Began S m ms c → (k : ℕ) → Begins S m ms k c → (cs : List Call) → now .open-calls ≡ cs → WasOpen k cs → InCaller cs c
   caller-if-open g k b [] e w = w
   caller-if-open (at-start i none) k b (d ∷ ds) e w = absurd (b .not-before (stays-to 0 k zero-le i))
   caller-if-open (by-move j a) k b (d ∷ ds) e w =
       a .callers d (innermost-is-call e) .1
-      (subst (λ (n : ℕ). List·Memᴰ d (stateAfter S m ms n .open-calls)) (le-antisymm (not-later (begins a) b) (not-later b (begins a))) w)
+      (subst (λ (n : ℕ). List·Memᴰ d (stateAfter S m ms n .open-calls)) (le-antisymm (not-later (a .begins) b) (not-later b (a .begins))) w)
 
   open-if-caller : {c : Call} → Began S m ms c → (cs : List Call) → now .open-calls ≡ cs → InCaller cs c
-      → (k : ℕ) × Begins k c × WasOpen k cs
+      → (k : ℕ) × Begins S m ms k c × WasOpen k cs
   open-if-caller g [] e i = absurd i
   open-if-caller (at-start h none) (d ∷ ds) e i = absurd (none d i)
-  open-if-caller (by-move k a) (d ∷ ds) e i = (k, begins a, a .callers d (innermost-is-call e) .0 i)
+  open-if-caller (by-move k a) (d ∷ ds) e i = (k, a .begins, a .callers d (innermost-is-call e) .0 i)
 
   -- The same is owed ------------------------------------------------------------------------------------------------------
 

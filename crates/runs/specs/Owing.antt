@@ -41,11 +41,14 @@ module _ (S : Sheet) (m : ℕ) (ms : List Move) where
   abbrev pub stateAfter : ℕ → State
   stateAfter k = run S m (take k ms)
 
-  -- the call c began by move k, counted from 0
-  pub record BeganBy (k : ℕ) (c : Call) : Type 0 where
-    -- it is there after that move, and not before
+  -- the call c begins with move k, counted from 0: it is there after that move, and not before
+  pub record Begins (k : ℕ) (c : Call) : Type 0 where
     pub not-before : List·Memᴰ c (calls (stateAfter k)) → ⊥
     pub there-after : List·Memᴰ c (calls (stateAfter (suc k)))
+
+  -- the call c began by move k
+  pub record BeganBy (k : ℕ) (c : Call) : Type 0 where
+    pub begins : Begins k c
     -- "the history at its beginning"
     pub history : c .began ≡ stateAfter k .history
     -- of all calls of the run, its callers are those that were open when it began

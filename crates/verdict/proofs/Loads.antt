@@ -19,6 +19,7 @@ use Rattle.runs.specs.Rules.{rules, rulesFrom, AllMet, count}
 use Rattle.runs.specs.Runs.{Move, run, Safe}
 use Rattle.runs.specs.Owing.{Owing}
 use Rattle.runs.proofs.Apart.{told-apart}
+use Rattle.runs.proofs.WhenOpen.{OwingWhenOpen, owing-when-open}
 use Rattle.runs.proofs.Safe.{runs-are-safe}
 use Rattle.runs.proofs.Owing.{runs-owe}
 use Rattle.verdict.specs.Verdict.{Report, accepted, refused, unproved, certificatesNeeded, firstFault, judged, verdictAfter, verdictOf}
@@ -168,3 +169,8 @@ module _ (M : Model) (s : List ℕ) where
           told-apart = told-apart (sheetOf M s) 0;
           complete = λ w h c. accepted-in w (exact-pass (M .events) c h);
         }
+
+-- what is owed, said with no numbers, follows from the promise alone
+pub promised-when-open : {M : Model} {s : List ℕ} {answer : Report} → Loads M s answer → (n : ℕ) → answer ≡ accepted n → (ms : List Move)
+    → OwingWhenOpen (sheetOf M s) 0 ms
+promised-when-open {M} {s} l n h ms = owing-when-open (sheetOf M s) 0 ms (l .told-apart ms) .0 (l .owing n h ms)
