@@ -1,5 +1,5 @@
 -- The lines, and the pieces that are put for each.
-use mathlib.Core.Path.{_≡_, refl}
+use mathlib.Core.Path.{_≡_, refl, ap}
 use mathlib.Core.Bool.{true, false}
 use mathlib.Core.Option.{Option, none, some}
 use mathlib.Core.List.{List, _++_, append-nil}
@@ -12,7 +12,7 @@ use Rattle.line.proofs.Put.{and-then}
 
 pub accepted-line : (n : ℕ) → line (accepted n) ≡ ascii "accepted " ++ decimal n
 unfolding line
-accepted-line n = refl
+accepted-line n = ap (λ (d : List ℕ). ascii "accepted " ++ d) (append-nil (decimal n))
 
 pub refused-line : (n : ℕ) (at : Option ℕ) → line (refused n at) ≡ refusedLine n at
 unfolding line
@@ -33,7 +33,7 @@ untested-line n at = refl
 -- a refusal's line, with a place and without
 module _ {o o₁ : List ℕ} {a n m : ℕ} {at : Option ℕ} (number : n ≡ m) (first : Put o 0 (ascii "refused " ++ decimal n) o₁ a) where
   pub refused-somewhere : {o₂ : List ℕ} {b k : ℕ} → at ≡ some k → Put o₁ a (ascii " at " ++ decimal k) o₂ b → Put o 0 (refusedLine m at) o₂ b
-  refused-somewhere e p = rw (e, ← number) (and-then (ascii "refused ") (decimal n) first p)
+  refused-somewhere e p = rw (e, ← number, append-nil) (and-then (ascii "refused ") (decimal n) first p)
 
   pub refused-nowhere : at ≡ none → Put o 0 (refusedLine m at) o₁ a
   refused-nowhere e = rw (e, ← number, append-nil) first
@@ -46,7 +46,7 @@ pub unproved-pieces : {o o₁ o₂ o₃ o₄ o₅ o₆ : List ℕ} {a₁ a₂ a�
     → Put o 0 (line (unproved r′ k′ c i e l)) o₆ a₆
 unfolding line
 unproved-pieces {r} {k} c i e l same-rule same-subject p₁ p₂ p₃ p₄ p₅ p₆ =
-    rw (← same-rule, ← same-subject)
+    rw (← same-rule, ← same-subject, append-nil)
     (and-then (ascii "unproved rule ") (decimal r) p₁
     (and-then (subjectName r) (decimal k) p₂
     (and-then (ascii " clause ") (decimal c) p₃

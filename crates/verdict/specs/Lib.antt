@@ -1,5 +1,6 @@
 pub mod Verdict
 pub mod WordTest
+pub mod Reply
 pub mod Line
 pub mod Promise
 pub mod Cases

@@ -3,11 +3,12 @@ use Prim.Native.Nat.{ℕ, zero, suc, _+_, _/_, _%_}
 use Prim.Native.String.{String, [] as noChars, _∷_ as _andThen_}
 use Prim.Native.Char.{code}
 use mathlib.Core.Bool.{true, false, cond}
-use mathlib.Core.Option.{Option, none, some}
+use mathlib.Core.Option.{Option}
 use mathlib.Core.List.{List, [], _∷_, _++_}
 use lib.Dec.{ltb}
 use Rattle.verdict.specs.Verdict.{Report, accepted, refused, unproved}
 use Rattle.verdict.specs.WordTest.{Answer, tested, untested}
+use Rattle.verdict.specs.Reply.{replyOf}
 
 -- the bytes of a text in ASCII
 unfoldable pub ascii : String → List ℕ
@@ -26,28 +27,29 @@ unfoldable pub decimal : ℕ → List ℕ
 unfolding digitsOn
 decimal n = digitsOn (suc n) n []
 
--- "refused 9 at 0", and without a place "refused 12"
-abbrev pub placed : Option ℕ → List ℕ
-placed none = []
-placed (some at) = ascii " at " ++ decimal at
+-- texts, and behind each of them a number, as far as there are numbers
+abbrev pub labelled : List (List ℕ) → List ℕ → List ℕ
+labelled [] values = []
+labelled (text ∷ texts) [] = []
+labelled (text ∷ texts) (n ∷ values) = text ++ (decimal n ++ labelled texts values)
 
+-- "refused 9 at 0", and without a place "refused 12"
 abbrev pub refusedLine : ℕ → Option ℕ → List ℕ
-refusedLine n at = ascii "refused " ++ (decimal n ++ placed at)
+refusedLine n at = ascii "refused " ++ (decimal n ++ labelled (ascii " at " ∷ []) (replyOf (refused n at) .values))
 
 -- "from rule 7 on, `step` stands for `method`"
 abbrev pub subjectName : ℕ → List ℕ
 subjectName rule = cond (ltb rule 7) (ascii " method ") (ascii " step ")
 
+abbrev pub unprovedTexts : ℕ → List (List ℕ)
+unprovedTexts rule =
+    ascii "unproved rule " ∷ subjectName rule ∷ ascii " clause " ∷ ascii " pair " ∷ ascii " event " ∷ ascii " place " ∷ []
+
 unfoldable pub line : Report → List ℕ
 unfolding ascii decimal
-line (accepted n) = ascii "accepted " ++ decimal n
+line (accepted n) = labelled (ascii "accepted " ∷ []) (replyOf (accepted n) .values)
 line (refused n at) = refusedLine n at
-line (unproved r k c i e l) =
-    ascii "unproved rule " ++ (decimal r ++ (subjectName r ++ (decimal k
-    ++ (ascii " clause " ++ (decimal c
-    ++ (ascii " pair " ++ (decimal i
-    ++ (ascii " event " ++ (decimal e
-    ++ (ascii " place " ++ decimal l))))))))))
+line (unproved r k c i e l) = labelled (unprovedTexts r) (replyOf (unproved r k c i e l) .values)
 
 -- what the word test's program prints
 unfoldable pub answerLine : Answer → List ℕ
