@@ -9,7 +9,7 @@ ghost use Rattle.sheet.specs.Decode.{sheetOf};
 ghost use Rattle.runs.specs.Rules.{methodRules, stepRules, rules};
 ghost use Rattle.walk.specs.Indexed.{Indexed, StepsHeld};
 ghost use Rattle.claims.specs.Claims.{Kth};
-ghost use Rattle.rule_tests.specs.Tested.{Tries, Room};
+ghost use Rattle.rule_tests.specs.Tested.{Tries, RoomToTest};
 ghost use Rattle.all_rules.specs.Subjects.{rulesOf, SubjectExists, subjectAt};
 use claims::Claim;
 use fields::byte_at;
@@ -126,9 +126,9 @@ fn subject_rules(
     requires { ⌜ Indexed large (now s) (now conditions) (now points) (now methods) ⌝ }
     requires { ⌜ StepsHeld large (now s) (now steps) ⌝ }
     requires { ⌜ SubjectExists (sheetOf large (now s)) subject ⌝ }
-    requires { ⌜ Room (now nulls) (now firsts) (now lasts) (now lfollow) (now lsets) (now rfollow) (now rsets) (now missing) (now shared) ⌝ }
+    requires { ⌜ RoomToTest (now nulls) (now firsts) (now lasts) (now lfollow) (now lsets) (now rfollow) (now rsets) (now missing) (now shared) ⌝ }
     ensures tried { λ r. ⌜ Tries (now (s .entry)) (rulesOf (now (s .entry)) (now (steps .entry)) subject) from r ⌝ }
-    ensures room { λ _. ⌜ Room (now (nulls .exit)) (now (firsts .exit)) (now (lasts .exit)) (now (lfollow .exit)) (now (lsets .exit)) (now (rfollow .exit)) (now (rsets .exit)) (now (missing .exit)) (now (shared .exit)) ⌝ }
+    ensures room { λ _. ⌜ RoomToTest (now (nulls .exit)) (now (firsts .exit)) (now (lasts .exit)) (now (lfollow .exit)) (now (lsets .exit)) (now (rfollow .exit)) (now (rsets .exit)) (now (missing .exit)) (now (shared .exit)) ⌝ }
 {
     let mut at = from;
     let mut k: usize = 0;

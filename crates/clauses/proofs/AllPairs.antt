@@ -14,7 +14,7 @@ use Rattle.sheet.specs.Decode.{certificateAt}
 use Rattle.pairs.specs.Found.{pairFound}
 use Rattle.pairs.specs.declared.Pair.the-variants.{At as PairAt, End}
 use Rattle.pairs.proofs.Laws.{certificate-pair, certificate-none}
-use Rattle.clauses.specs.Clauses.{findingOf, eachPair, PlacesOf, Active, Kept}
+use Rattle.clauses.specs.Clauses.{findingOf, eachPair, PlacesOf, Active, Surveyed}
 use Rattle.clauses.specs.declared.Fault.{Fault}
 use Rattle.clauses.specs.declared.Fault.the-variants.{At}
 
@@ -28,8 +28,8 @@ places-same {leaves} {m} {k} a b = go (ltb 62 leaves) refl
     go false e = let l = ltb-false 62 leaves e in a .places-is l ∙ sym (b .places-is l)
 
 -- so what is known of one is known of the other
-pub kept-same : {c : Certificate} {leaves m : ℕ} {sets rows : List ℕ} → PlacesOf leaves m → Kept c m sets rows → (k : ℕ) → PlacesOf leaves k → Kept c k sets rows
-kept-same {c} {leaves} {m} {sets} {rows} p h k q = subst (λ (n : ℕ). Kept c n sets rows) (places-same p q) h
+pub kept-same : {c : Certificate} {leaves m : ℕ} {sets rows : List ℕ} → PlacesOf leaves m → Surveyed c m sets rows → (k : ℕ) → PlacesOf leaves k → Surveyed c k sets rows
+kept-same {c} {leaves} {m} {sets} {rows} p h k q = subst (λ (n : ℕ). Surveyed c n sets rows) (places-same p q) h
 
 pub active-same : {leaves n events x : ℕ} {sets : List ℕ} → PlacesOf leaves n → Active sets n events x → (k : ℕ) → PlacesOf leaves k → Active sets k events x
 active-same {leaves} {n} {events} {x} {sets} p h k q = subst (λ (n : ℕ). Active sets n events x) (places-same p q) h

@@ -13,7 +13,7 @@ use Rattle.bits.proofs.Tests.{T-true, T-ext, and-out, and-in, any-in, any-out}
 use Rattle.bits.proofs.Masks.{has-and}
 use Rattle.certificate.specs.Certificate.{Certificate, fine, fault, inOrder, unless}
 use Rattle.certificate.proofs.Findings.{Fine, fine-is, unless-in, inOrder-in, inOrder-stops, inOrder-cong}
-use Rattle.clauses.specs.Clauses.{rowHas, gathered, Lowest, servedBy, misses, Active, Wanted, Served, missingAt, unlistedAt}
+use Rattle.clauses.specs.Clauses.{rowHas, gathered, IsLowest, servedBy, misses, Active, Wanted, Served, missingAt, unlistedAt}
 use Rattle.clauses.proofs.Serving.{served-is}
 
 T-of : {b : Bool} → b ≡ true → T b
@@ -40,11 +40,11 @@ module _ (missers : ℕ) (rows : List ℕ) (n i all : ℕ) (all-is : (k : ℕ) �
       inOrder-in n (λ l. unless (not (misses missers rows l e)) (fault 4 i e l))
       (λ l k. unless-in (not (misses missers rows l e)) (fault 4 i e l) (fails (no-place e h l k)))
 
-  pub missing-none : (events e : ℕ) → Lowest events (λ k. has all k) e → events ≤ e → fine ≡ inOrder events (missingAt n i missers rows)
+  pub missing-none : (events e : ℕ) → IsLowest events (λ k. has all k) e → events ≤ e → fine ≡ inOrder events (missingAt n i missers rows)
   missing-none events e low h =
       sym (fine-is _ (inOrder-in events (missingAt n i missers rows) (λ k l. event-fine k (low .before k (omega arith)))))
 
-  module _ (e l : ℕ) (at-place : Lowest n (λ q. misses missers rows q e) l) where
+  module _ (e l : ℕ) (at-place : IsLowest n (λ q. misses missers rows q e) l) where
     on-side : has all e ≡ true → l < n
     on-side h =
         let (p, a, x) = any-out n (λ p. misses missers rows p e) (T-of (sym (all-is e) ∙ h)) in
@@ -61,7 +61,7 @@ module _ (missers : ℕ) (rows : List ℕ) (n i all : ℕ) (all-is : (k : ℕ) �
         4 i e l
         (ap (λ (b : Bool). unless (not b) (fault 4 i e l)) (at-place .stops (on-side h)))
 
-    pub missing-first : (events : ℕ) → Lowest events (λ k. has all k) e → e < events → fault 4 i e l ≡ inOrder events (missingAt n i missers rows)
+    pub missing-first : (events : ℕ) → IsLowest events (λ k. has all k) e → e < events → fault 4 i e l ≡ inOrder events (missingAt n i missers rows)
     missing-first events low h =
         sym (inOrder-stops events (missingAt n i missers rows) e h
         (inOrder-in e (missingAt n i missers rows) (λ k a. event-fine k (low .before k a)))

@@ -18,7 +18,7 @@ use Rattle.bits.proofs.Masks.{has-and}
 use Rattle.bits.proofs.Bitwise.{has-below}
 use Rattle.places.proofs.Lowest.{positive, lowest, of-rest, all-none, all-split}
 use Rattle.certificate.specs.Certificate.{Pair, pair, Certificate, pairOf}
-use Rattle.clauses.specs.Clauses.{rowHas, allHold, Kept}
+use Rattle.clauses.specs.Clauses.{rowHas, allHold, Surveyed}
 use Rattle.clauses.proofs.Rows.{row-set}
 
 -- One set, the lowest place first ---------------------------------------------------------------------------------------
@@ -114,10 +114,10 @@ module _ (c : Certificate) (m : ℕ) (sets : List ℕ) where
     pub keeping-past : 64 ≤ count → Keeping c m sets (count + 1) rows
     keeping-past l = record { long = g .long; row = λ i e h k. g .row i e h (omega arith) }
 
-    pub keeping-all : count ≡ length c → Kept c m sets rows
+    pub keeping-all : count ≡ length c → Surveyed c m sets rows
     keeping-all n = record { long = g .long; row = λ i e h k. g .row i e h (omega arith) }
 
 -- the row of a pair whose set is x
-pub kept-row : (c : Certificate) (m : ℕ) (sets rows : List ℕ) (i x : ℕ) → i < 64 → Kept c m sets rows → i < length c → pairOf c i .set ≡ x
+pub kept-row : (c : Certificate) (m : ℕ) (sets rows : List ℕ) (i x : ℕ) → i < 64 → Surveyed c m sets rows → i < length c → pairOf c i .set ≡ x
     → (e : ℕ) → e < 64 → rowHas rows i e ≡ allHold m sets x e
 kept-row c m sets rows i x h k l y e b = k .row i e h l b ∙ ap (λ (t : ℕ). allHold m sets t e) y

@@ -39,7 +39,7 @@ abbrev pub gathered : List ℕ → ℕ → ℕ → ℕ → Bool
 gathered rows n s k = anyBelow n (λ p. has s p && rowHas rows p k)
 
 -- r is the lowest number below n that passes the test f, or n where none does
-pub record Lowest (n : ℕ) (f : ℕ → Bool) (r : ℕ) : Type 0 where
+pub record IsLowest (n : ℕ) (f : ℕ → Bool) (r : ℕ) : Type 0 where
   pub bound : r ≤ n
   pub before : (k : ℕ) → k < r → f k ≡ false
   pub stops : r < n → f r ≡ true
@@ -77,7 +77,7 @@ pub record Wanted (missers : ℕ) (sets : List ℕ) (mask : ℕ) (rows : List �
   pub row : (q : ℕ) → T (has missers q) → getD rows q 0 ≡ bitAnd (getD sets q 0) mask
 
 -- row i has the events that each place of pair i's set holds, of the pairs below 64
-pub record Kept (c : Certificate) (m : ℕ) (sets rows : List ℕ) : Type 0 where
+pub record Surveyed (c : Certificate) (m : ℕ) (sets rows : List ℕ) : Type 0 where
   pub long : length rows ≡ 64
   pub row : (i e : ℕ) → i < 64 → i < length c → e < 64 → rowHas rows i e ≡ allHold m sets (pairOf c i .set) e
 

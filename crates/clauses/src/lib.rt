@@ -10,7 +10,7 @@ ghost use Rattle.condition.specs.Condition.{Condition};
 ghost use Rattle.certificate.specs.Certificate.{pair, fault, pairFinding, inOrder, check};
 ghost use Rattle.sheet.specs.Decode.{certificateAt};
 ghost use Rattle.places.specs.Tables.{Tables};
-ghost use Rattle.clauses.specs.Clauses.{findingOf, eachPair, PlacesOf, Active, Kept};
+ghost use Rattle.clauses.specs.Clauses.{findingOf, eachPair, PlacesOf, Active, Surveyed};
 use fields::index;
 use pairs::Pair;
 use pairs::pair_from;
@@ -105,7 +105,7 @@ pub fn pair_fault(
 ) -> Found
     requires { ⌜ t .events ≤ 64 ⌝ }
     requires { ⌜ (count ≡ length (certificateAt (now s) (t .from))) × (length (now missing) ≡ 64) ⌝ }
-    requires { ⌜ ((m : ℕ) → PlacesOf (t .right .leaves) m → Kept (certificateAt (now s) (t .from)) m (now rsets) (now shared)) ⌝ }
+    requires { ⌜ ((m : ℕ) → PlacesOf (t .right .leaves) m → Surveyed (certificateAt (now s) (t .from)) m (now rsets) (now shared)) ⌝ }
     requires { ⌜ ((n : ℕ) → PlacesOf (t .left .leaves) n → Active (now lsets) n (t .events) alive) ⌝ }
     ensures finding { λ r. ⌜ ((l g : Condition) → Tables l (t .left) (now (lfollow .entry)) (now (lsets .entry)) → Tables g (t .right) (now (rfollow .entry)) (now (rsets .entry)) → findingOf (r .fault) ≡ pairFinding (t .events) l g (certificateAt (now (s .entry)) (t .from)) i (pair place set)) ⌝ }
     ensures rows { λ _. ⌜ length (now (missing .exit)) ≡ 64 ⌝ }

@@ -8,7 +8,7 @@ ghost use lib.ListN.{length};
 ghost use Rattle.bits.specs.Bits.{has};
 ghost use Rattle.certificate.specs.Certificate.{Certificate, pairOf, inOrder};
 ghost use Rattle.sheet.specs.Decode.{certificateAt};
-ghost use Rattle.clauses.specs.Clauses.{findingOf, Active, Wanted, allHold, Kept, Served, missingAt, unlistedAt};
+ghost use Rattle.clauses.specs.Clauses.{findingOf, Active, Wanted, allHold, Surveyed, Served, missingAt, unlistedAt};
 use super::Fault;
 use super::Found;
 use super::sets::least;
@@ -82,7 +82,7 @@ pub fn meet(set: u64, m: usize, sets: &[u64; 64]) -> u64
 pub fn survey(s: &[u8], from: usize, m: usize, sets: &[u64; 64], shared: &mut [u64; 64]) -> usize
     requires { ⌜ (m ≤ 64) × (length (now shared) ≡ 64) ⌝ }
     ensures count { λ r. ⌜ r ≡ length (certificateAt (now (s .entry)) from) ⌝ }
-    ensures kept { λ _. ⌜ Kept (certificateAt (now (s .entry)) from) m (now (sets .entry)) (now (shared .exit)) ⌝ }
+    ensures kept { λ _. ⌜ Surveyed (certificateAt (now (s .entry)) from) m (now (sets .entry)) (now (shared .exit)) ⌝ }
 {
     let mut at: usize = from;
     let mut count: usize = 0;
@@ -107,7 +107,7 @@ pub fn survey(s: &[u8], from: usize, m: usize, sets: &[u64; 64], shared: &mut [u
 // The events that pair i serves, whose set this is: kept, or found again.
 pub fn events_of(i: usize, set: u64, m: usize, sets: &[u64; 64], shared: &[u64; 64]) -> u64
     requires { ⌜ m ≤ 64 ⌝ }
-    ensures { λ r. ⌜ ((c : Certificate) → Kept c m (now (sets .entry)) (now (shared .entry)) → i < length c → pairOf c i .set ≡ set
+    ensures { λ r. ⌜ ((c : Certificate) → Surveyed c m (now (sets .entry)) (now (shared .entry)) → i < length c → pairOf c i .set ≡ set
         → (e : ℕ) → e < 64 → has r e ≡ allHold m (now (sets .entry)) set e) ⌝ }
 {
     if i < 64 {
@@ -138,7 +138,7 @@ pub fn serve(
     missing: &mut [u64; 64],
 ) -> Rest
     requires { ⌜ (count ≡ length (certificateAt (now s) from)) × (m ≤ 64) × (length (now missing) ≡ 64) ⌝ }
-    requires { ⌜ Kept (certificateAt (now s) from) m (now sets) (now shared) ⌝ }
+    requires { ⌜ Surveyed (certificateAt (now s) from) m (now sets) (now shared) ⌝ }
     ensures { λ r. ⌜ Served (certificateAt (now (s .entry)) from) m onward (now (sets .entry)) wanted (now (missing .entry)) (r .missers) (now (missing .exit)) ⌝ }
 {
     let mut missers = wanted;
@@ -206,7 +206,7 @@ pub fn unlisted(
 ) -> Found
     requires { ⌜ (events ≤ 64) × (n ≤ 64) × (m ≤ 64) ⌝ }
     requires { ⌜ (count ≡ length (certificateAt (now s) from)) × (length (now missing) ≡ 64) ⌝ }
-    requires { ⌜ Kept (certificateAt (now s) from) m (now rsets) (now shared) ⌝ }
+    requires { ⌜ Surveyed (certificateAt (now s) from) m (now rsets) (now shared) ⌝ }
     requires { ⌜ Active (now lsets) n events alive ⌝ }
     ensures finding { λ r. ⌜ findingOf (r .fault) ≡ inOrder events (unlistedAt (certificateAt (now (s .entry)) from) n i followers (now (lsets .entry)) m onward (now (rsets .entry))) ⌝ }
     ensures rows { λ _. ⌜ length (now (missing .exit)) ≡ 64 ⌝ }

@@ -7,7 +7,7 @@ use native.Mathlib.Omega.{arith}
 use lib.ListN.{length, length-append, set, take, getD}
 use lib.Seq.{sets, sets-eq, take-all, take-suc}
 use Rattle.verdict.specs.Line.{decimal}
-use Rattle.line.specs.Put.{Put, Begins}
+use Rattle.line.specs.Put.{Put, Written}
 use Rattle.line.proofs.Decimal.{one-digit, last-digit}
 
 sets-append : (l : List ℕ) (i : ℕ) (x y : List ℕ) → sets (sets l i x) (i + length x) y ≡ sets l i (x ++ y)
@@ -36,7 +36,7 @@ pub and-then : {a b c z : List ℕ} {i j k : ℕ} (x y : List ℕ) → Put a i (
 and-then x y p q = rw append-assoc at (then p q)
 
 -- a line that is put at the start of a buffer is whole
-pub begins : {a b x : List ℕ} {k : ℕ} → length a ≡ 160 → k ≤ 152 → Put a 0 x b k → Begins a x b k
+pub begins : {a b x : List ℕ} {k : ℕ} → length a ≡ 160 → k ≤ 152 → Put a 0 x b k → Written a x b k
 begins {a} {x} l h p =
     let e : 0 + length x ≡ length x = omega arith in
     record { held = p .stored ∙ sets-eq x a 0 (omega arith) ∙ rw e; whole = omega arith; short = h }

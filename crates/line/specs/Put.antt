@@ -11,7 +11,7 @@ pub record Put (before : List ℕ) (at : ℕ) (bytes : List ℕ) (after : List �
   pub behind : next ≡ at + length bytes
 
 -- the buffer begins with the line, of `size` bytes, and holds behind it what it held before
-pub record Begins (before : List ℕ) (line : List ℕ) (after : List ℕ) (size : ℕ) : Type 0 where
+pub record Written (before : List ℕ) (line : List ℕ) (after : List ℕ) (size : ℕ) : Type 0 where
   pub held : after ≡ line ++ drop (length line) before
   pub whole : size ≡ length line
   -- 50 bytes of text, a rule's number of two digits and five numbers of 20 digits

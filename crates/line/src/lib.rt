@@ -7,7 +7,7 @@ ghost use Rattle.verdict.specs.Verdict.{unproved};
 ghost use Rattle.verdict.specs.Line.{ascii, decimal, subjectName, refusedLine, line, answerLine};
 ghost use Rattle.records.specs.Refusal.{numberOf, placeOf};
 ghost use Rattle.answers.specs.Answers.{ruleNumber, ruleSubject, reportOf, answerOf};
-ghost use Rattle.line.specs.Put.{Put, Begins};
+ghost use Rattle.line.specs.Put.{Put, Written};
 use answers::Place;
 use answers::Rule;
 use answers::Verdict;
@@ -125,7 +125,7 @@ fn put_unproved(
 // behind a reference a contract has to say it.
 pub fn write_line(v: Verdict, out: &mut [u8; 160]) -> usize
     requires { ⌜ length (now out) ≡ 160 ⌝ }
-    ensures { λ r. ⌜ Begins (now (out .entry)) (line (reportOf v)) (now (out .exit)) r ⌝ }
+    ensures { λ r. ⌜ Written (now (out .entry)) (line (reportOf v)) (now (out .exit)) r ⌝ }
 {
     match v {
         Verdict::Accepted(n) => put_value(b"accepted ", n, out, 0),
@@ -143,7 +143,7 @@ pub fn write_line(v: Verdict, out: &mut [u8; 160]) -> usize
 // The line of the word test's program.
 pub fn write_answer(a: WordAnswer, out: &mut [u8; 160]) -> usize
     requires { ⌜ length (now out) ≡ 160 ⌝ }
-    ensures { λ r. ⌜ Begins (now (out .entry)) (answerLine (answerOf a)) (now (out .exit)) r ⌝ }
+    ensures { λ r. ⌜ Written (now (out .entry)) (answerLine (answerOf a)) (now (out .exit)) r ⌝ }
 {
     match a {
         WordAnswer::Yes => put_text(b"yes", out, 0),

@@ -11,10 +11,10 @@ use borrow.Author.Tests.{lt-ltb, le-ltb, lt-leb, le-leb}
 use Rattle.condition.specs.Places.{accepts}
 use Rattle.sheet.specs.Model.{large}
 use Rattle.sheet.specs.Sheet.{condition}
-use Rattle.sheet.specs.Reading.{Tally, Reading, whole, readSheet}
+use Rattle.sheet.specs.Reading.{Tally, countsOf, Reading, whole, readSheet}
 use Rattle.sheet.specs.Decode.{sheetOf}
 use Rattle.sheet.proofs.SheetOf.{conditions-counted, methods-counted, steps-counted}
-use Rattle.sheet.proofs.Counted.{tallyOf as countsOf, read-counted}
+use Rattle.sheet.proofs.Counted.{read-counted}
 use Rattle.sheet.proofs.Certified.{certificates-chained}
 use Rattle.sheet.proofs.Bounded.{FewIn, read-few}
 use Rattle.runs.specs.Rules.{bodyCount, total, rules, count}
@@ -28,9 +28,9 @@ use Rattle.answers.specs.Answers.{ruleNumber, ruleSubject}
 use Rattle.tally.specs.Tally.{tallyOf}
 use Rattle.reader.specs.declared.Contents.{Contents}
 use Rattle.reader.specs.State.{lastState, overwritten}
-use Rattle.reader.specs.Contract.{Refuses, Takes, Tables}
+use Rattle.reader.specs.Contract.{Refuses, ReadWhole, TablesFilled}
 use Rattle.walk.specs.Trial.{tryRules, reportOn}
-use Rattle.walk.specs.Indexed.{Begins, Indexed, ConditionsHeld, StepsHeld}
+use Rattle.walk.specs.Indexed.{HoldsOffsets, Indexed, ConditionsHeld, StepsHeld}
 use Rattle.walk.specs.Counts.{stepCount}
 use Rattle.walk.proofs.Needed.{rules-need, count-is}
 use Rattle.walk.proofs.Verdict.{verdict-refused, verdict-miscounted, verdict-tried, chained-from}
@@ -42,13 +42,13 @@ use Rattle.loader.specs.Stray.{FirstStray}
 
 -- Tables ----------------------------------------------------------------------------------------------------------------
 
-pub overwritten-begins : (os table : List ℕ) → length os ≤ length table → Begins os (overwritten os table)
+pub overwritten-begins : (os table : List ℕ) → length os ≤ length table → HoldsOffsets os (overwritten os table)
 overwritten-begins [] table h i l = absurd (not-suc-le-zero l)
 overwritten-begins (o ∷ os) [] h i l = absurd (not-suc-le-zero h)
 overwritten-begins (o ∷ os) (x ∷ table) h zero l = refl
 overwritten-begins (o ∷ os) (x ∷ table) h (suc i) l = overwritten-begins os table (le-of-suc-le-suc h) i (le-of-suc-le-suc l)
 
-module _ (s : List ℕ) (c : Contents) (t : Takes large s c) where
+module _ (s : List ℕ) (c : Contents) (t : ReadWhole large s c) where
   -- how many there are of each, by the code's tally
   counted : tallyOf (c .tally) ≡ countsOf (lastState large s .offsets)
   counted = sym (t .tally) ∙ read-counted large s _ (t .outcome)
@@ -110,11 +110,11 @@ module _ (s : List ℕ) (c : Contents) (t : Takes large s c) where
 
   -- The tables, which are as long as the limits -------------------------------------------------------------------------
 
-  held : (os table table′ : List ℕ) → length os ≤ length table → table′ ≡ overwritten os table → Begins os table′
-  held os table table′ l e = subst (Begins os) (sym e) (overwritten-begins os table l)
+  held : (os table table′ : List ℕ) → length os ≤ length table → table′ ≡ overwritten os table → HoldsOffsets os table′
+  held os table table′ l e = subst (HoldsOffsets os) (sym e) (overwritten-begins os table l)
 
   module _ {conditions conditions′ points points′ methods methods′ steps steps′ : List ℕ}
-      (w : Tables conditions conditions′ points points′ methods methods′ steps steps′ (lastState large s .offsets)) where
+      (w : TablesFilled conditions conditions′ points points′ methods methods′ steps steps′ (lastState large s .offsets)) where
     pub conditions-held : length conditions ≡ 256 → ConditionsHeld large s conditions′
     conditions-held l = record { reading = lastState large s; read = t .outcome; held = held (lastState large s .offsets .conditions) conditions _ (omega (arith, few .few-conditions)) (w .conditions) }
 

@@ -11,8 +11,7 @@ use borrow.Author.Tests.{le-leb, lt-leb}
 use Rattle.sheet.specs.Model.{Model, methodLimit, stepLimit}
 use Rattle.sheet.specs.Sheet.{Body}
 use Rattle.sheet.specs.Record.{Record, byteAt, sectionOf, nextAt, recordsByKind, recordAt, point-record, pointAt, method-record, methodAt, step-record, stepAt}
-use Rattle.sheet.specs.Reading.{Tally as Counts, Offsets, Unended, nothing, Reading, conditionOpen, startOf, wrongItems, overLimit, named, isPrimitive, firstIsPrimitive, unendedPast, tallyPast, offsetsPast}
-use Rattle.sheet.proofs.Counted.{tallyOf as countsOf}
+use Rattle.sheet.specs.Reading.{Tally as Counts, Offsets, countsOf, Unended, nothing, Reading, conditionOpen, startOf, wrongItems, overLimit, named, isPrimitive, firstIsPrimitive, unendedPast, tallyPast, offsetsPast}
 use Rattle.sheet.proofs.Kind.{kind-is}
 use Rattle.records.specs.declared.Refusal.the-variants.{OverLimit, UnknownName, NoFirstBody}
 use Rattle.records.proofs.Laws.{Stood}

@@ -10,8 +10,7 @@ use lib.Dec.{T, ltb, leb, eqb, lit≤}
 use borrow.Author.Tests.{ltb-true, ltb-false, eqb-true, lt-ltb, le-ltb, ne-eqb}
 use Rattle.sheet.specs.Model.{Model, conditionLimit, symbolLimit, leafLimit}
 use Rattle.sheet.specs.Record.{Symbol, leaf-symbol, empty-symbol, join-symbol, either-symbol, star-symbol, symbol-record, end-of-condition, byteAt, setAt, sectionOf, nextAt, recordsByKind, recordAt}
-use Rattle.sheet.specs.Reading.{Tally as Counts, Offsets, Unended, nothing, a-condition, a-certificate, Reading, itemsOf, symbolsOf, leavesOf, startOf, conditionOpen, takes, isLeaf, leafCount, overLimit, unendedPast, offsetsPast, readingPast, taken, not-taken, takeAt, endsInside}
-use Rattle.sheet.proofs.Counted.{tallyOf as countsOf}
+use Rattle.sheet.specs.Reading.{Tally as Counts, Offsets, countsOf, Unended, nothing, a-condition, a-certificate, Reading, itemsOf, symbolsOf, leavesOf, startOf, conditionOpen, takes, isLeaf, leafCount, overLimit, unendedPast, offsetsPast, readingPast, taken, not-taken, takeAt, endsInside}
 use Rattle.sheet.proofs.Kind.{kind-is}
 use Rattle.records.specs.declared.Refusal.{Refusal}
 use Rattle.records.specs.declared.Refusal.the-variants.{WrongSection, Unfinished}

@@ -12,8 +12,8 @@ use Rattle.bits.proofs.Tests.{all-out}
 use borrow.Author.Tests.{eqb-true, eqb-false}
 use Rattle.sheet.specs.Model.{Model}
 use Rattle.sheet.specs.Record.{Record, byteAt, sectionOf, recordAt}
-use Rattle.sheet.specs.Reading.{Tally as Counts, Reading, tallyPast, readingPast, taken, not-taken, takeAt, noneYet}
-use Rattle.sheet.proofs.Counted.{tallyOf as countsOf, tally-past}
+use Rattle.sheet.specs.Reading.{Tally as Counts, countsOf, Reading, tallyPast, readingPast, taken, not-taken, takeAt, noneYet}
+use Rattle.sheet.proofs.Counted.{tally-past}
 use Rattle.records.specs.declared.Refusal.{Refusal}
 use Rattle.records.specs.declared.Refusal.the-variants.{WrongSection}
 use Rattle.records.specs.declared.Found.{Found}

@@ -16,7 +16,7 @@ use Rattle.reader.specs.declared.Section.the-variants.{Done, Refused}
 use Rattle.reader.specs.declared.Read.{Read}
 use Rattle.reader.specs.declared.Read.the-variants as read
 use Rattle.reader.specs.State.{stateAt}
-use Rattle.reader.specs.Contract.{Answered, Tables, Reads}
+use Rattle.reader.specs.Contract.{Answered, TablesFilled, Reads}
 use Rattle.reader.specs.Left.{readOf, Between, put, Filled, Kept, Told, Concluded}
 use Rattle.reader.proofs.Here.{too-long, start-is}
 use Rattle.reader.proofs.Step.{begin}
@@ -46,26 +46,26 @@ pub record Sofar (M : Model) (s : List ℕ) (k at : ℕ) (t : Tally) (Holds : Of
 
 -- what the tables hold with a section more
 module _ {c₀ c p₀ p m₀ m e₀ e : List ℕ} {f g : Offsets} where
-  pub with-conditions : Tables c₀ c₀ p₀ p m₀ m e₀ e f → Filled 1 f g c₀ c → Tables c₀ c p₀ p m₀ m e₀ e g
-  with-conditions h w = subst (Tables c₀ c p₀ p m₀ m e₀ e) (sym (w .offsets)) (record { conditions = w .table; points = h .points; methods = h .methods; steps = h .steps })
+  pub with-conditions : TablesFilled c₀ c₀ p₀ p m₀ m e₀ e f → Filled 1 f g c₀ c → TablesFilled c₀ c p₀ p m₀ m e₀ e g
+  with-conditions h w = subst (TablesFilled c₀ c p₀ p m₀ m e₀ e) (sym (w .offsets)) (record { conditions = w .table; points = h .points; methods = h .methods; steps = h .steps })
 
-  pub with-points : Tables c₀ c p₀ p₀ m₀ m e₀ e f → Filled 2 f g p₀ p → Tables c₀ c p₀ p m₀ m e₀ e g
-  with-points h w = subst (Tables c₀ c p₀ p m₀ m e₀ e) (sym (w .offsets)) (record { conditions = h .conditions; points = w .table; methods = h .methods; steps = h .steps })
+  pub with-points : TablesFilled c₀ c p₀ p₀ m₀ m e₀ e f → Filled 2 f g p₀ p → TablesFilled c₀ c p₀ p m₀ m e₀ e g
+  with-points h w = subst (TablesFilled c₀ c p₀ p m₀ m e₀ e) (sym (w .offsets)) (record { conditions = h .conditions; points = w .table; methods = h .methods; steps = h .steps })
 
-  pub with-methods : Tables c₀ c p₀ p m₀ m₀ e₀ e f → Filled 3 f g m₀ m → Tables c₀ c p₀ p m₀ m e₀ e g
-  with-methods h w = subst (Tables c₀ c p₀ p m₀ m e₀ e) (sym (w .offsets)) (record { conditions = h .conditions; points = h .points; methods = w .table; steps = h .steps })
+  pub with-methods : TablesFilled c₀ c p₀ p m₀ m₀ e₀ e f → Filled 3 f g m₀ m → TablesFilled c₀ c p₀ p m₀ m e₀ e g
+  with-methods h w = subst (TablesFilled c₀ c p₀ p m₀ m e₀ e) (sym (w .offsets)) (record { conditions = h .conditions; points = h .points; methods = w .table; steps = h .steps })
 
-  pub with-steps : Tables c₀ c p₀ p m₀ m e₀ e₀ f → Filled 4 f g e₀ e → Tables c₀ c p₀ p m₀ m e₀ e g
-  with-steps h w = subst (Tables c₀ c p₀ p m₀ m e₀ e) (sym (w .offsets)) (record { conditions = h .conditions; points = h .points; methods = h .methods; steps = w .table })
+  pub with-steps : TablesFilled c₀ c p₀ p m₀ m e₀ e₀ f → Filled 4 f g e₀ e → TablesFilled c₀ c p₀ p m₀ m e₀ e g
+  with-steps h w = subst (TablesFilled c₀ c p₀ p m₀ m e₀ e) (sym (w .offsets)) (record { conditions = h .conditions; points = h .points; methods = h .methods; steps = w .table })
 
 -- Before the first section --------------------------------------------------------------------------------------------
 
 module _ (M : Model) (s : List ℕ) {c₀ p₀ m₀ e₀ : List ℕ} where
-  no-offsets : Tables c₀ c₀ p₀ p₀ m₀ m₀ e₀ e₀ (fresh .offsets)
+  no-offsets : TablesFilled c₀ c₀ p₀ p₀ m₀ m₀ e₀ e₀ (fresh .offsets)
   no-offsets = record { conditions = refl; points = refl; methods = refl; steps = refl }
 
-  pub start-tables : Tables c₀ c₀ p₀ p₀ m₀ m₀ e₀ e₀ (stateAt M s 0 .offsets)
-  start-tables = subst (λ (r : Reading). Tables c₀ c₀ p₀ p₀ m₀ m₀ e₀ e₀ (r .offsets)) (sym (start-is M s)) no-offsets
+  pub start-tables : TablesFilled c₀ c₀ p₀ p₀ m₀ m₀ e₀ e₀ (stateAt M s 0 .offsets)
+  start-tables = subst (λ (r : Reading). TablesFilled c₀ c₀ p₀ p₀ m₀ m₀ e₀ e₀ (r .offsets)) (sym (start-is M s)) no-offsets
 
   -- 1
   pub refused-length : M .bytes < length s → Reads M s (read.Refused (TooLong (M .bytes))) c₀ c₀ p₀ p₀ m₀ m₀ e₀ e₀
@@ -73,7 +73,7 @@ module _ (M : Model) (s : List ℕ) {c₀ p₀ m₀ e₀ : List ℕ} where
       let (outcome, last) = too-long M s h in
       record {
         answer = record { place = M .bytes; placed = refl; outcome = outcome };
-        tables = subst (λ (r : Reading). Tables c₀ c₀ p₀ p₀ m₀ m₀ e₀ e₀ (r .offsets)) (sym last) no-offsets;
+        tables = subst (λ (r : Reading). TablesFilled c₀ c₀ p₀ p₀ m₀ m₀ e₀ e₀ (r .offsets)) (sym last) no-offsets;
       }
 
 pub start-unread : (M : Model) (s : List ℕ) → Unread 1 (stateAt M s 0 .offsets)
@@ -84,8 +84,8 @@ start-unread M s =
 -- Past a section ------------------------------------------------------------------------------------------------------
 
 module _ (M : Model) (s : List ℕ) (k from : ℕ) (before after : List ℕ) {c₀ c p₀ p m₀ m e₀ e : List ℕ}
-    (grow : (g : Offsets) → Filled k (stateAt M s from .offsets) g before after → Tables c₀ c p₀ p m₀ m e₀ e g) (a : Section) (told : Told M s k from before after a) where
-  pub goes-on : {at : ℕ} {t : Tally} → Unread k (stateAt M s from .offsets) → a ≡ Done at t → Sofar M s (suc k) at t (Tables c₀ c p₀ p m₀ m e₀ e)
+    (grow : (g : Offsets) → Filled k (stateAt M s from .offsets) g before after → TablesFilled c₀ c p₀ p m₀ m e₀ e g) (a : Section) (told : Told M s k from before after a) where
+  pub goes-on : {at : ℕ} {t : Tally} → Unread k (stateAt M s from .offsets) → a ≡ Done at t → Sofar M s (suc k) at t (TablesFilled c₀ c p₀ p m₀ m e₀ e)
   goes-on unread is =
       let (between, filled) = subst (Told M s k from before after) is told in
       record { between = between; holds = grow _ filled; unread = unread-past unread filled }
@@ -113,10 +113,10 @@ module _ {M : Model} {s : List ℕ} {at : ℕ} {t : Tally} {Holds : Offsets → 
 
 -- The answer ----------------------------------------------------------------------------------------------------------
 
-pub all-read : {M : Model} {s : List ℕ} {from : ℕ} {r : Read} {c₀ c p₀ p m₀ m e₀ e : List ℕ} → Tables c₀ c p₀ p m₀ m e₀ e (stateAt M s from .offsets) → Concluded M s from r
+pub all-read : {M : Model} {s : List ℕ} {from : ℕ} {r : Read} {c₀ c p₀ p m₀ m e₀ e : List ℕ} → TablesFilled c₀ c p₀ p m₀ m e₀ e (stateAt M s from .offsets) → Concluded M s from r
     → Reads M s r c₀ c p₀ p m₀ m e₀ e
 all-read {c₀ = c₀} {c} {p₀} {p} {m₀} {m} {e₀} {e} h w =
     record {
       answer = w .answer;
-      tables = subst (Tables c₀ c p₀ p m₀ m e₀ e) (sym (w .offsets)) (record { conditions = h .conditions; points = h .points; methods = h .methods; steps = h .steps });
+      tables = subst (TablesFilled c₀ c p₀ p m₀ m e₀ e) (sym (w .offsets)) (record { conditions = h .conditions; points = h .points; methods = h .methods; steps = h .steps });
     }

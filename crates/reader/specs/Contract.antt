@@ -21,17 +21,17 @@ pub record Refuses (M : Model) (s : List ℕ) (x : Refusal) : Type 0 where
   pub outcome : readSheet M s ≡ refusal (numberOf x) place
 
 -- reading takes the whole sheet; c has the tally at the end, and where the first certificate starts: at the length, if there is none
-pub record Takes (M : Model) (s : List ℕ) (c : Contents) : Type 0 where
+pub record ReadWhole (M : Model) (s : List ℕ) (c : Contents) : Type 0 where
   pub outcome : readSheet M s ≡ whole (lastState M s)
   pub tally : lastState M s .tally ≡ tallyOf (c .tally)
   pub certificates : c .certificates ≡ getD (lastState M s .offsets .certificates) 0 (length s)
 
 abbrev pub Answered : Model → List ℕ → Read → Type 0
-Answered M s (Whole c) = Takes M s c
+Answered M s (Whole c) = ReadWhole M s c
 Answered M s (Refused x) = Refuses M s x
 
 -- each of the four tables, before and after: the offsets f are written over its front
-pub record Tables (conditions₀ conditions₁ points₀ points₁ methods₀ methods₁ steps₀ steps₁ : List ℕ) (f : Offsets) : Type 0 where
+pub record TablesFilled (conditions₀ conditions₁ points₀ points₁ methods₀ methods₁ steps₀ steps₁ : List ℕ) (f : Offsets) : Type 0 where
   pub conditions : conditions₁ ≡ overwritten (f .conditions) conditions₀
   pub points : points₁ ≡ overwritten (f .points) points₀
   pub methods : methods₁ ≡ overwritten (f .methods) methods₀
@@ -40,4 +40,4 @@ pub record Tables (conditions₀ conditions₁ points₀ points₁ methods₀ me
 -- the answer r, and the tables as reading leaves them, also where it refuses the sheet
 pub record Reads (M : Model) (s : List ℕ) (r : Read) (conditions₀ conditions₁ points₀ points₁ methods₀ methods₁ steps₀ steps₁ : List ℕ) : Type 0 where
   pub answer : Answered M s r
-  pub tables : Tables conditions₀ conditions₁ points₀ points₁ methods₀ methods₁ steps₀ steps₁ (lastState M s .offsets)
+  pub tables : TablesFilled conditions₀ conditions₁ points₀ points₁ methods₀ methods₁ steps₀ steps₁ (lastState M s .offsets)

@@ -7,8 +7,7 @@ use lib.ListN.{length}
 use lib.Dec.{eqb}
 use Rattle.sheet.specs.Model.{Model}
 use Rattle.sheet.specs.Record.{byteAt, sectionOf}
-use Rattle.sheet.specs.Reading.{Offsets, nothing, readOn, readSheet}
-use Rattle.sheet.proofs.Counted.{tallyOf as countsOf}
+use Rattle.sheet.specs.Reading.{Offsets, countsOf, nothing, readOn, readSheet}
 use Rattle.records.specs.declared.Found.{Found}
 use Rattle.records.specs.declared.Found.the-variants as found
 use Rattle.checks.specs.declared.Stepped.{Stepped}

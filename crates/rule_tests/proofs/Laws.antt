@@ -21,7 +21,7 @@ use Rattle.pairs.specs.Found.{pairFound}
 use Rattle.pairs.specs.declared.Pair.{Pair}
 use Rattle.pairs.specs.declared.Pair.the-variants.{At, End}
 use Rattle.pairs.proofs.Laws.{Reached, reached-start, reached-next, reached-end}
-use Rattle.walk.specs.Trial.{passed, behind, afterTest, tryRules}
+use Rattle.walk.specs.Trial.{passed, afterCertificate, afterTest, tryRules}
 use Rattle.walk.proofs.Trial.{trial-one}
 use Rattle.answers.specs.declared.Rule as answers
 use Rattle.claims.specs.Claims.{Says, SaysInclusion, SaysJoined, SaysEmpty}
@@ -68,8 +68,8 @@ module _ (s : List ℕ) (from : ℕ) where
 
 -- the trial of one rule, by what its test finds
 pub trial-finds : (s : List ℕ) (x : Rule) (from : ℕ) (f : Finding) → f ≡ testOf 32 (x .claim) (certificateAt s from)
-    → afterTest x f (passed (behind s (x .claim) from)) ≡ tryRules 32 s (x ∷ []) from
-trial-finds s x from f e = ap (λ (f : Finding). afterTest x f (passed (behind s (x .claim) from))) e ∙ sym (trial-one 32 s x from)
+    → afterTest x f (passed (afterCertificate s (x .claim) from)) ≡ tryRules 32 s (x ∷ []) from
+trial-finds s x from f e = ap (λ (f : Finding). afterTest x f (passed (afterCertificate s (x .claim) from))) e ∙ sym (trial-one 32 s x from)
 
 -- the empty word, by place 0
 pub ends-empty : (a : Condition) (side : Side) (follow sets : List ℕ) → Tables a side follow sets → (b : Bool) → has (side .ends) 0 ≡ b

@@ -28,7 +28,7 @@ pub record Stated (s : List ℕ) (claim : Claim) : Type 0 where
 
 -- The tables that a test is lent: the stack on which a side's places are found, the rows of the left side and of the right, and room for the
 -- search of a certificate's faults.
-pub record Room (nulls : List Bool) (firsts lasts lfollow lsets rfollow rsets missing shared : List ℕ) : Type 0 where
+pub record RoomToTest (nulls : List Bool) (firsts lasts lfollow lsets rfollow rsets missing shared : List ℕ) : Type 0 where
   pub stack : Roomy nulls firsts lasts
   pub left : Rows lfollow lsets
   pub right : Rows rfollow rsets

@@ -11,7 +11,7 @@ ghost use Rattle.clauses.specs.Clauses.{findingOf};
 ghost use Rattle.runs.specs.Rules as runs;
 ghost use Rattle.runs.specs.Rules.{_isIn_, holdsEmpty};
 ghost use Rattle.claims.specs.Claims.{Says, _says_};
-ghost use Rattle.rule_tests.specs.Tested.{Stated, Room, Tries};
+ghost use Rattle.rule_tests.specs.Tested.{Stated, RoomToTest, Tries};
 use answers::Rule;
 use claims::Claim;
 use clauses::Fault;
@@ -125,9 +125,9 @@ pub fn test(
     shared: &mut [u64; 64],
 ) -> Tested
     requires { ⌜ Stated (now s) claim ⌝ }
-    requires { ⌜ Room (now nulls) (now firsts) (now lasts) (now lfollow) (now lsets) (now rfollow) (now rsets) (now missing) (now shared) ⌝ }
+    requires { ⌜ RoomToTest (now nulls) (now firsts) (now lasts) (now lfollow) (now lsets) (now rfollow) (now rsets) (now missing) (now shared) ⌝ }
     ensures tried { λ r. ⌜ ((x : runs.Rule) → Says (now (s .entry)) claim x → Tries (now (s .entry)) (x ∷ []) at r) ⌝ }
-    ensures room { λ _. ⌜ Room
+    ensures room { λ _. ⌜ RoomToTest
         (now (nulls .exit)) (now (firsts .exit)) (now (lasts .exit)) (now (lfollow .exit)) (now (lsets .exit))
         (now (rfollow .exit)) (now (rsets .exit)) (now (missing .exit)) (now (shared .exit)) ⌝ }
 {

@@ -12,14 +12,14 @@ use Rattle.sheet.specs.Model.{Model}
 use Rattle.sheet.specs.Each.{Each, nil, cons}
 use Rattle.sheet.specs.Sheet.{Point, Body, Method, Step, event-step, call-step, pass-step, Sheet}
 use Rattle.sheet.specs.Record.{Record, symbol-record, end-of-condition, point-record, method-record, step-record, pair-record, end-of-certificate, pointAt, methodAt, stepAt}
-use Rattle.sheet.specs.Reading.{Tally, Offsets, Reading, fresh, bodyNamed, stepNamed, named, tallyPast, offsetsPast, whole, readSheet}
+use Rattle.sheet.specs.Reading.{Tally, Offsets, countsOf, Reading, fresh, bodyNamed, stepNamed, named, tallyPast, offsetsPast, whole, readSheet}
 use Rattle.sheet.specs.Decode.{conditionAt, sheetAt, sheetOf}
 use Rattle.sheet.proofs.Each.{each-map, each-append, each-mapped}
 use Rattle.sheet.proofs.Kind.{Fits, fits}
 use Rattle.sheet.proofs.Take.{Took}
 use Rattle.sheet.proofs.ReadOn.{read-keeps}
 use Rattle.sheet.proofs.SheetOf.{sheet-is}
-use Rattle.sheet.proofs.Counted.{tallyOf, read-counted}
+use Rattle.sheet.proofs.Counted.{read-counted}
 
 -- the names of a point, of a body, of a method and of a step are below the numbers of conditions, points and methods
 pub record PointNamed (conditions : ℕ) (x : Point) : Type 0 where
@@ -151,7 +151,7 @@ pub record Named (S : Sheet) : Type 0 where
   pub methods-named : Each (MethodNamed (length (S .conditions)) (length (S .points))) (S .methods)
   pub steps-named : Each (StepNamed (length (S .points)) (length (S .methods))) (S .steps)
 
-in-sheet : (s : List ℕ) (f : Offsets) → NamedIn s (tallyOf f) f → Named (sheetAt s f)
+in-sheet : (s : List ℕ) (f : Offsets) → NamedIn s (countsOf f) f → Named (sheetAt s f)
 unfolding sheetAt
 in-sheet s f h =
     let conditions = length-map (f .conditions) (λ o. conditionAt s o) in

@@ -28,6 +28,17 @@ pub record Offsets : Type 0 where
   pub steps : List ℕ
   pub certificates : List ℕ
 
+-- how many of each there are
+abbrev pub countsOf : Offsets → Tally
+countsOf f =
+    record {
+      conditions = length (f .conditions);
+      points = length (f .points);
+      methods = length (f .methods);
+      steps = length (f .steps);
+      certificates = length (f .certificates);
+    }
+
 -- what was begun and not yet ended
 pub data Unended : Type 0 where
   nothing : Unended

@@ -16,7 +16,7 @@ use Rattle.sheet.specs.Decode.{sheetOf}
 use Rattle.runs.specs.Runs.{return, by-step, run}
 use Rattle.runs.proofs.Alike.{visits, to-first}
 use Rattle.verdict.specs.Verdict.{accepted, verdictOf}
-use Rattle.verdict.specs.Cases.{start}
+use Rattle.verdict.specs.Cases.{startOnly}
 use Rattle.verdict.proofs.Loads.{loads}
 
 -- The bytes -------------------------------------------------------------------------------------------------------------
@@ -64,7 +64,7 @@ three =
 abbrev certificates : List ℕ
 certificates =
     two ++ two ++ two
-    ++ two ++ two ++ start ++ two ++ two
+    ++ two ++ two ++ startOnly ++ two ++ two
     ++ two ++ three ++ three ++ two ++ three
     ++ two ++ two ++ two
     ++ three ++ three ++ three

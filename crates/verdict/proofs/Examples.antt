@@ -10,7 +10,7 @@ use Rattle.sheet.specs.Model.{large}
 use Rattle.verdict.specs.Verdict.{verdictOf}
 use Rattle.verdict.specs.WordTest.{Answer, untested, wordTest}
 use Rattle.verdict.specs.Line.{ascii, line}
-use Rattle.verdict.specs.Cases.{point0, method0, start, threeStarts, M, W}
+use Rattle.verdict.specs.Cases.{point0, method0, startOnly, threeStarts, M, W}
 
 -- Sheets ----------------------------------------------------------------------------------------------------------------
 
@@ -34,7 +34,7 @@ sheets =
     printed (take 20 M) "refused 10 at 20"
     ∷ printed (M ++ (0x0E ∷ [])) "refused 10 at 42"
     ∷ printed (passing threeStarts) "accepted 9"
-    ∷ printed (passing (start ++ (0x0E ∷ start))) "unproved rule 16 step 0 clause 1 pair 0 event 0 place 0"
+    ∷ printed (passing (startOnly ++ (0x0E ∷ startOnly))) "unproved rule 16 step 0 clause 1 pair 0 event 0 place 0"
     ∷ printed ((0x01 ∷ 0x01 ∷ 0 ∷ 0 ∷ 0 ∷ 0x06 ∷ []) ++ (point0 ++ (method0 0 ++ threeStarts))) "unproved rule 1 method 0 clause 5 pair 0 event 0 place 0"
     ∷ []
 

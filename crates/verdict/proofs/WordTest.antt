@@ -17,7 +17,7 @@ use Rattle.sheet.specs.Sheet.{condition}
 use Rattle.sheet.specs.Reading.{Reading, Outcome, whole, refusal, readSheet}
 use Rattle.sheet.specs.Decode.{sheetOf}
 use Rattle.verdict.specs.WordTest.{Answer, tested, untested, firstStray, testedAfter, wordTest}
-use Rattle.verdict.specs.Promise.{Takes, TestsWord}
+use Rattle.verdict.specs.Promise.{TakesWord, TestsWord}
 
 abbrev IsTested : Answer → Type 0
 IsTested (tested b) = Unit {0}
@@ -82,10 +82,10 @@ module _ (M : Model) (s : List ℕ) (c : ℕ) (w : Word) where
   unfolding testedAfter
   after-refusal n at = refl
 
-  taken-out : (b : Bool) → wordTest M s c w ≡ tested b → Takes M s c w × (said ≡ tested b)
+  taken-out : (b : Bool) → wordTest M s c w ≡ tested b → TakesWord M s c w × (said ≡ tested b)
   taken-out b h = go (readSheet M s) refl (sym test-is ∙ h)
     where
-      go : (x : Outcome) → readSheet M s ≡ x → testedAfter M s c w x ≡ tested b → Takes M s c w × (said ≡ tested b)
+      go : (x : Outcome) → readSheet M s ≡ x → testedAfter M s c w x ≡ tested b → TakesWord M s c w × (said ≡ tested b)
       go (refusal n at) e h = absurd (subst IsTested (sym (sym (after-refusal n at) ∙ h)) tt)
       go (whole r) e h =
           let (there, h14) = not-refused (leb (length (sheetOf M s .conditions)) c) 14 none _ b (sym (after-whole r) ∙ h) in
@@ -93,7 +93,7 @@ module _ (M : Model) (s : List ℕ) (c : ℕ) (w : Word) where
           let (events, x) = stray-out (M .events) 0 w said b h12 in
           (record { reading = r; read = e; exists = leb-false _ c there; short = ltb-false wordLimit _ short; events = events }, x)
 
-  taken-in : Takes M s c w → wordTest M s c w ≡ said
+  taken-in : TakesWord M s c w → wordTest M s c w ≡ said
   taken-in t =
       test-is
       ∙ (ap (testedAfter M s c w) (t .read)

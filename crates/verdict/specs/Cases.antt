@@ -37,11 +37,11 @@ abbrev pub method0 : ℕ → List ℕ
 method0 trace = 0x09 ∷ 0 ∷ 0 ∷ trace ∷ 0 ∷ 0 ∷ 0 ∷ 0 ∷ 0 ∷ 0 ∷ 0 ∷ []
 
 -- "three times 0D 00 01 00 00 00 0E"
-abbrev pub start : List ℕ
-start = 0x0D ∷ 0x00 ∷ 0x01 ∷ 0x00 ∷ 0x00 ∷ 0x00 ∷ 0x0E ∷ []
+abbrev pub startOnly : List ℕ
+startOnly = 0x0D ∷ 0x00 ∷ 0x01 ∷ 0x00 ∷ 0x00 ∷ 0x00 ∷ 0x0E ∷ []
 
 abbrev pub threeStarts : List ℕ
-threeStarts = start ++ (start ++ start)
+threeStarts = startOnly ++ (startOnly ++ startOnly)
 
 -- "M = 02 06, then 07 and six 00, then 09 and ten 00, then three times 0D 00 01 00 00 00 0E (41 bytes)"
 abbrev pub M : List ℕ

@@ -87,7 +87,7 @@ pub record Loads (M : Model) (s : List ℕ) (answer : Report) : Type 0 where
 -- Of the word test ------------------------------------------------------------------------------------------------------
 
 -- the words that the test takes: no refusal applies
-pub record Takes (M : Model) (s : List ℕ) (c : ℕ) (w : Word) : Type 0 where
+pub record TakesWord (M : Model) (s : List ℕ) (c : ℕ) (w : Word) : Type 0 where
   pub reading : Reading
   -- none of 1 to 9
   pub read : readSheet M s ≡ whole reading
@@ -101,5 +101,5 @@ pub record TestsWord (M : Model) (s : List ℕ) (c : ℕ) (w : Word) (answer : A
   -- the answer is the definition's
   pub stated : answer ≡ wordTest M s c w
   -- Demand 2: "The word test is exactly the regular language": it says yes or no of each word that it takes, and yes of the condition's words
-  pub tests-all : Takes M s c w ↔ ((b : Bool) × (answer ≡ tested b))
+  pub tests-all : TakesWord M s c w ↔ ((b : Bool) × (answer ≡ tested b))
   pub right : (b : Bool) → answer ≡ tested b → T b ↔ Holds (condition (sheetOf M s) c) w

@@ -10,28 +10,28 @@ use Rattle.condition.specs.Condition.{Condition}
 use Rattle.sheet.specs.Model.{Model, conditionLimit, methodLimit, stepLimit}
 use Rattle.sheet.specs.Sheet.{Point, Body, Method, Step, event-step, call-step, pass-step, Sheet, condition, conditionNamed, bodyIn, body}
 use Rattle.sheet.specs.Record.{byteAt, shortAt, pointAt, methodAt, stepAt}
-use Rattle.sheet.specs.Reading.{Tally, Reading, whole, readSheet}
+use Rattle.sheet.specs.Reading.{Tally, countsOf, Reading, whole, readSheet}
 use Rattle.sheet.specs.Decode.{conditionAt, sheetOf}
 use Rattle.sheet.proofs.Each.{each-zip, each-nth, each-get}
 use Rattle.sheet.proofs.SheetOf.{conditions-counted, points-counted, methods-counted, steps-counted, condition-is, point-is, method-is, step-is}
-use Rattle.sheet.proofs.Counted.{tallyOf, read-counted}
+use Rattle.sheet.proofs.Counted.{read-counted}
 use Rattle.sheet.proofs.Kept.{HasBody, EventBelow, events-below, first-has-body}
 use Rattle.sheet.proofs.Named.{PointNamed, MethodNamed, BodyNamed, StepNamed, NamedIn, names-at-offsets, names-exist}
 use Rattle.sheet.proofs.Symbols.{Stands, stands-symbols}
 use Rattle.sheet.proofs.Postfix.{conditions-stand}
 use Rattle.sheet.proofs.Bounded.{read-few, read-inside}
 use Rattle.places.specs.Tables.{StandsAt}
-use Rattle.walk.specs.Indexed.{Begins, Indexed, ConditionsHeld, MethodsHeld, StepsHeld, NamedAt, PointIn, MethodIn}
+use Rattle.walk.specs.Indexed.{HoldsOffsets, Indexed, ConditionsHeld, MethodsHeld, StepsHeld, NamedAt, PointIn, MethodIn}
 
 stands-at : (s : List ℕ) (o : ℕ) (c : Condition) → Stands s o c → StandsAt s o c
 stands-at s o c h = record { in-postfix = stands-symbols s o c h; few-symbols = h .few-symbols; few-leaves = h .few-leaves }
 
 module _ (M : Model) (s : List ℕ) (r : Reading) (h : readSheet M s ≡ whole r) where
   -- the names at the offsets, in numbers of offsets
-  names : NamedIn s (tallyOf (r .offsets)) (r .offsets)
+  names : NamedIn s (countsOf (r .offsets)) (r .offsets)
   names = subst (λ (t : Tally). NamedIn s t (r .offsets)) (read-counted M s r h) (names-at-offsets M s r h)
 
-  module _ (conditions : List ℕ) (held : Begins (r .offsets .conditions) conditions) where
+  module _ (conditions : List ℕ) (held : HoldsOffsets (r .offsets .conditions) conditions) where
     condition-stands : (c : ℕ) → c < length (r .offsets .conditions) → StandsAt s (getD conditions c 0) (condition (sheetOf M s) c)
     condition-stands c l =
         rw (held c l, condition-is M s r h c l)
@@ -45,7 +45,7 @@ module _ (M : Model) (s : List ℕ) (r : Reading) (h : readSheet M s ≡ whole r
         let named : shortAt s at < length (r .offsets .conditions) = omega arith in
         record { exists = omega arith; stands = rw is (rw e (condition-stands (shortAt s at) named)) }
 
-    module _ (points : List ℕ) (points-held : Begins (r .offsets .points) points) where
+    module _ (points : List ℕ) (points-held : HoldsOffsets (r .offsets .points) points) where
       point-in : (p : ℕ) → p < length (r .offsets .points) → PointIn M (sheetOf M s) s conditions points p
       unfolding pointAt
       point-in p l =
@@ -60,7 +60,7 @@ module _ (M : Model) (s : List ℕ) (r : Reading) (h : readSheet M s ≡ whole r
             due-named = field-named (λ (x : Point). x .due) _ _ _ is (ap (λ (o : ℕ). shortAt s (o + 5)) here) (n .due-exists);
           }
 
-    module _ (methods : List ℕ) (methods-held : Begins (r .offsets .methods) methods) where
+    module _ (methods : List ℕ) (methods-held : HoldsOffsets (r .offsets .methods) methods) where
       method-in : (m : ℕ) → m < length (r .offsets .methods) → MethodIn (sheetOf M s) s conditions methods m
       unfolding methodAt
       method-in m l =

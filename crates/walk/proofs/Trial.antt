@@ -10,7 +10,7 @@ use Rattle.sheet.proofs.Certified.{certified-length, Chain, no-certificate, a-c
 use Rattle.runs.specs.Rules.{Claim, _isIn_, holdsEmpty, Rule, _of_says_}
 use Rattle.verdict.specs.Verdict.{Report, testOf, needed, certificatesNeeded, leftAfter, nextOf, reported, firstFault}
 use Rattle.verdict.proofs.Judged.{needed-is, first-is}
-use Rattle.walk.specs.Trial.{Trial, passed, failed, behind, afterTest, tryRules, reportOn}
+use Rattle.walk.specs.Trial.{Trial, passed, failed, afterCertificate, afterTest, tryRules, reportOn}
 
 -- what a trial leads to: the trial of what is left, from the offset that it ends at, or its fault
 abbrev pub onward : Trial → (ℕ → Trial) → Trial
@@ -22,7 +22,7 @@ module _ (events : ℕ) (s : List ℕ) where
   trial xs at = tryRules events s xs at
 
   trial-is : (x : Rule) (xs : List Rule) (at : ℕ)
-      → trial (x ∷ xs) at ≡ afterTest x (testOf events (x .claim) (certificateAt s at)) (trial xs (behind s (x .claim) at))
+      → trial (x ∷ xs) at ≡ afterTest x (testOf events (x .claim) (certificateAt s at)) (trial xs (afterCertificate s (x .claim) at))
   unfolding tryRules
   trial-is x xs at = refl
 
@@ -39,13 +39,13 @@ module _ (events : ℕ) (s : List ℕ) where
   trial-append [] ys at = ap (λ (t : Trial). onward t (trial ys)) (sym (no-rules at))
   trial-append (x ∷ xs) ys at =
       trial-is x (xs ++ ys) at
-      ∙ ap (afterTest x (testOf events (x .claim) (certificateAt s at))) (trial-append xs ys (behind s (x .claim) at))
-      ∙ after-onward x (testOf events (x .claim) (certificateAt s at)) (trial xs (behind s (x .claim) at)) (trial ys)
+      ∙ ap (afterTest x (testOf events (x .claim) (certificateAt s at))) (trial-append xs ys (afterCertificate s (x .claim) at))
+      ∙ after-onward x (testOf events (x .claim) (certificateAt s at)) (trial xs (afterCertificate s (x .claim) at)) (trial ys)
       ∙ ap (λ (t : Trial). onward t (trial ys)) (sym (trial-is x xs at))
 
   -- one rule
-  pub trial-one : (x : Rule) (at : ℕ) → trial (x ∷ []) at ≡ afterTest x (testOf events (x .claim) (certificateAt s at)) (passed (behind s (x .claim) at))
-  trial-one x at = trial-is x [] at ∙ ap (afterTest x (testOf events (x .claim) (certificateAt s at))) (no-rules (behind s (x .claim) at))
+  pub trial-one : (x : Rule) (at : ℕ) → trial (x ∷ []) at ≡ afterTest x (testOf events (x .claim) (certificateAt s at)) (passed (afterCertificate s (x .claim) at))
+  trial-one x at = trial-is x [] at ∙ ap (afterTest x (testOf events (x .claim) (certificateAt s at))) (no-rules (afterCertificate s (x .claim) at))
 
 -- With certificates that stand one after the other, as many as the rules need, the first fault is the trial's.
 module _ (events : ℕ) (s : List ℕ) (otherwise : Report) where
@@ -63,13 +63,13 @@ module _ (events : ℕ) (s : List ℕ) (otherwise : Report) where
       -- the next rule takes the next certificate, if it needs one
       next-chained : (claim : Claim) {at : ℕ} {os : List ℕ} → Chain s end at os → length os ≡ needed claim + certificatesNeeded xs
           → reported (n of k says claim) (testOf events claim (nextOf (standing os))) (firstFault events xs (leftAfter claim (standing os)) otherwise)
-          ≡ reportOn otherwise (afterTest (n of k says claim) (testOf events claim (certificateAt s at)) (tryRules events s xs (behind s claim at)))
+          ≡ reportOn otherwise (afterTest (n of k says claim) (testOf events claim (certificateAt s at)) (tryRules events s xs (afterCertificate s claim at)))
       next-chained (a isIn b) no-certificate l = absurd (omega arith)
       next-chained (a isIn b) (a-certificate-more {at = at} {os = os} c t) l =
           let pairs : suc (at + 6 * c .pairs) ≡ suc (at + 6 * length (certificateAt s at)) = omega (arith, certified-length s at c) in
           ap (reported (n of k says a isIn b) (testOf events (a isIn b) (certificateAt s at)))
           (rest _ os t (omega arith) ∙ ap (λ (q : ℕ). reportOn otherwise (tryRules events s xs q)) pairs)
-          ∙ report-after (n of k says a isIn b) (testOf events (a isIn b) (certificateAt s at)) (tryRules events s xs (behind s (a isIn b) at))
+          ∙ report-after (n of k says a isIn b) (testOf events (a isIn b) (certificateAt s at)) (tryRules events s xs (afterCertificate s (a isIn b) at))
       next-chained (holdsEmpty a) {at} {os} t l =
           ap (reported (n of k says holdsEmpty a) (testOf events (holdsEmpty a) [])) (rest at os t (omega arith))
           ∙ report-after (n of k says holdsEmpty a) (testOf events (holdsEmpty a) []) (tryRules events s xs at)

@@ -11,22 +11,22 @@ use Rattle.sheet.specs.Reading.{Offsets, Reading, whole, readSheet}
 use Rattle.places.specs.Tables.{StandsAt}
 
 -- a table has these offsets, and behind them whatever it has
-abbrev pub Begins : List ℕ → List ℕ → Type 0
-Begins os table = (i : ℕ) → i < length os → getD table i 0 ≡ getD os i 0
+abbrev pub HoldsOffsets : List ℕ → List ℕ → Type 0
+HoldsOffsets os table = (i : ℕ) → i < length os → getD table i 0 ≡ getD os i 0
 
 -- s is read whole, and the tables have the offsets that reading found
 pub record Indexed (M : Model) (s conditions points methods : List ℕ) : Type 0 where
   pub reading : Reading
   pub read : readSheet M s ≡ whole reading
-  pub conditions-held : Begins (reading .offsets .conditions) conditions
-  pub points-held : Begins (reading .offsets .points) points
-  pub methods-held : Begins (reading .offsets .methods) methods
+  pub conditions-held : HoldsOffsets (reading .offsets .conditions) conditions
+  pub points-held : HoldsOffsets (reading .offsets .points) points
+  pub methods-held : HoldsOffsets (reading .offsets .methods) methods
 
 -- .. and one table has the offsets of a part of the sheet
 pub record Held (M : Model) (s : List ℕ) (part : Offsets → List ℕ) (table : List ℕ) : Type 0 where
   pub reading : Reading
   pub read : readSheet M s ≡ whole reading
-  pub held : Begins (part (reading .offsets)) table
+  pub held : HoldsOffsets (part (reading .offsets)) table
 
 abbrev pub ConditionsHeld : Model → List ℕ → List ℕ → Type 0
 ConditionsHeld M s = Held M s (λ f. f .conditions)

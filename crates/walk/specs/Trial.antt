@@ -15,9 +15,9 @@ pub data Trial : Type 0 where
   failed : (rule subject clause pair event place : ℕ) → Trial
 
 -- the offset behind the certificate of a claim, if it needs one: a pair is six bytes, the end of a certificate one
-abbrev pub behind : List ℕ → Claim → ℕ → ℕ
-behind s (a isIn b) at = suc (at + 6 * length (certificateAt s at))
-behind s (holdsEmpty a) at = at
+abbrev pub afterCertificate : List ℕ → Claim → ℕ → ℕ
+afterCertificate s (a isIn b) at = suc (at + 6 * length (certificateAt s at))
+afterCertificate s (holdsEmpty a) at = at
 
 abbrev pub afterTest : Rule → Finding → Trial → Trial
 afterTest x fine more = more
@@ -27,7 +27,7 @@ unfoldable pub tryRules : ℕ → List ℕ → List Rule → ℕ → Trial
 unfolding certificateAt check nullable
 tryRules events s [] at = passed at
 tryRules events s (x ∷ xs) at =
-    let more = tryRules events s xs (behind s (x .claim) at) in
+    let more = tryRules events s xs (afterCertificate s (x .claim) at) in
     afterTest x (testOf events (x .claim) (certificateAt s at)) more
 
 -- the report of a trial, and of one that passes the report `otherwise`

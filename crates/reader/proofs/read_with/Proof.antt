@@ -5,7 +5,7 @@ use native.Mathlib.Omega.{arith}
 use lib.Dec.{lit≤}
 use borrow.Author.Needs.{needs}
 use Rattle.tally.specs.declared.Tally.{Tally}
-use Rattle.reader.specs.Contract.{Tables}
+use Rattle.reader.specs.Contract.{TablesFilled}
 use Rattle.reader.specs.Left.{modelOf}
 use Rattle.reader.proofs.Whole.{Sofar, with-conditions, with-points, with-methods, with-steps, start-tables, refused-length, start-unread, goes-on, stops, points-next, methods-next, steps-next, no-certificates, all-read}
 use Rattle.reader.proofs.read_with.Statement.{statement}
@@ -15,7 +15,7 @@ use Rattle.reader.proofs.read_with.Tie as tie
 abbrev Next : tie.Start → ℕ → ℕ → Tally → List ℕ → List ℕ → List ℕ → List ℕ → Type 0
 Next a k at t c p m e =
     Sofar (modelOf (a .args .limits)) (a .args .s .now) k at t
-    (Tables (a .args .conditions .now) c (a .args .points .now) p (a .args .methods .now) m (a .args .steps .now) e)
+    (TablesFilled (a .args .conditions .now) c (a .args .points .now) p (a .args .methods .now) m (a .args .steps .now) e)
 
 conditions-read : (c : tie.After-known-told) → Next (c .before .before .before .before .before .before .before .before) 2 (c .before .first .given .0 .0) (c .before .first .given .0 .1 .0)
     (c .before .before .before .read-conditions .last .1 .0) (c .before .before .before .before .before .before .before .before .args .points .now) (c .before .before .before .before .before .before .before .before .args .methods .now) (c .before .before .before .before .before .before .before .before .args .steps .now)

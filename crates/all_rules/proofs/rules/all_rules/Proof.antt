@@ -3,7 +3,7 @@ use native.Mathlib.Omega.{arith}
 use Rattle.sheet.specs.Model.{large}
 use Rattle.sheet.specs.Decode.{sheetOf}
 use Rattle.runs.specs.Rules.{rules}
-use Rattle.rule_tests.specs.Tested.{Tries, Room}
+use Rattle.rule_tests.specs.Tested.{Tries, RoomToTest}
 use Rattle.rule_tests.specs.declared.Tested.{Tested}
 use Rattle.all_rules.proofs.Tried.{none-left}
 use Rattle.all_rules.proofs.Subjects.{rulesLeft, few-subjects, subject-exists, subject-stops, subject-passes, no-subject}
@@ -14,7 +14,7 @@ use Rattle.all_rules.proofs.rules.all_rules.Tie as tie
 abbrev Inv-loop : tie.InvT-loop
 Inv-loop s conditions points methods steps listed moves from nulls₀ firsts₀ lasts₀ lfollow₀ lsets₀ rfollow₀ rsets₀ missing₀ shared₀ start₀ number₀ nulls firsts lasts lfollow lsets rfollow rsets missing shared start number =
     (number ≤ suc (listed + moves))
-    × Room nulls firsts lasts lfollow lsets rfollow rsets missing shared
+    × RoomToTest nulls firsts lasts lfollow lsets rfollow rsets missing shared
     × ((u : Tested) → Tries s (rulesLeft (sheetOf large s) listed number) start u → Tries s (rules (sheetOf large s)) from u)
 
 abbrev μ-loop : tie.MeasureT-loop

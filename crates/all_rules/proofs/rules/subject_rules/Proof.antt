@@ -1,7 +1,7 @@
 use Prim.Native.Nat.{_-_, _≤_}
 use native.Mathlib.Omega.{arith}
 use lib.ListN.{length, drop}
-use Rattle.rule_tests.specs.Tested.{Tries, Room}
+use Rattle.rule_tests.specs.Tested.{Tries, RoomToTest}
 use Rattle.rule_tests.specs.declared.Tested.{Tested}
 use Rattle.all_rules.specs.Subjects.{rulesOf}
 use Rattle.all_rules.proofs.Tried.{none-left}
@@ -13,7 +13,7 @@ use Rattle.all_rules.proofs.rules.subject_rules.Tie as tie
 abbrev Inv-loop : tie.InvT-loop
 Inv-loop s conditions points methods steps subject from nulls₀ firsts₀ lasts₀ lfollow₀ lsets₀ rfollow₀ rsets₀ missing₀ shared₀ at₀ k₀ nulls firsts lasts lfollow lsets rfollow rsets missing shared at k =
     (k ≤ length (rulesOf s steps subject))
-    × Room nulls firsts lasts lfollow lsets rfollow rsets missing shared
+    × RoomToTest nulls firsts lasts lfollow lsets rfollow rsets missing shared
     × ((u : Tested) → Tries s (drop k (rulesOf s steps subject)) at u → Tries s (rulesOf s steps subject) from u)
 
 abbrev μ-loop : tie.MeasureT-loop
