@@ -7,18 +7,9 @@ use Rattle.condition.specs.Condition.{Word}
 use Rattle.sheet.specs.Each.{Each, nil, cons}
 use Rattle.sheet.proofs.Each.{each-map, each-head, each-tail}
 use Rattle.sheet.specs.Sheet.{Sheet}
-use Rattle.runs.specs.Runs.{Call, Returned, State, since, start, Move, newCall, run}
+use Rattle.runs.specs.Runs.{Call, Returned, State, since, Extends, Grown, start, Move, newCall, run}
 use Rattle.runs.proofs.Adds.{Adds, adds-word, adds-more, adds-nothing}
 use Rattle.runs.proofs.Moves.{Makes, event-made, pass-made, primitive-made, open-made, return-made, run-keeps}
-
--- the history h is b, then what it adds to b
-abbrev pub Extends : Word → Word → Type 0
-Extends b h = h ≡ b ++ since b h
-
-pub record Grown (s : State) : Type 0 where
-  pub since-beginning : Each (λ c. Extends (c .began) (s .history)) (s .open-calls)
-  pub while-open : Each (λ r. Extends (r .call .began) (r .at)) (s .returned-calls)
-  pub since-return : Each (λ r. Extends (r .at) (s .history)) (s .returned-calls)
 
 -- h goes on from b
 abbrev Grows : Word → Word → Type 0

@@ -12,20 +12,12 @@ use Rattle.sheet.specs.Each.{Each}
 use Rattle.sheet.proofs.Each.{each-zip, each-is-member, each-member}
 use Rattle.sheet.specs.Sheet.{Sheet}
 use Rattle.runs.specs.Runs.{Call, Returned, State, calls, Move, run}
-use Rattle.runs.specs.Owing.{InCaller, LiesInFuture, Owing, stateAfter, Begins, Began, at-start, by-move, ToldApart}
+use Rattle.runs.specs.Owing.{InCaller, LiesInFuture, Owing, stateAfter, Begins, Began, at-start, by-move, ToldApart, WasOpen, OwingWhenOpen}
 use Rattle.runs.proofs.Apart.{stays}
 
 module _ (S : Sheet) (m : ℕ) (ms : List Move) where
   abbrev now : State
   now = run S m ms
-
-  -- of the open calls cs, the innermost was open before move k
-  abbrev pub WasOpen : ℕ → List Call → Type 0
-  WasOpen k [] = ⊥
-  WasOpen k (d ∷ ds) = List·Memᴰ d (stateAfter S m ms k .open-calls)
-
-  abbrev pub OwingWhenOpen : Type 0
-  OwingWhenOpen = Each (λ r. (k : ℕ) → Begins S m ms k (r .call) → WasOpen k (now .open-calls) → LiesInFuture S now r) (now .returned-calls)
 
   -- A call begins once ----------------------------------------------------------------------------------------------------
 
@@ -45,7 +37,7 @@ module _ (S : Sheet) (m : ℕ) (ms : List Move) where
   innermost-is-call : {d : Call} {ds : List Call} → now .open-calls ≡ d ∷ ds → List·Memᴰ d (calls now)
   innermost-is-call {d} e = Memᴰ·append-left _ (subst (λ (cs : List Call). List·Memᴰ d cs) (sym e) (List·Memᴰ·head refl))
 
-  caller-if-open : {c : Call} → Began S m ms c → (k : ℕ) → Begins S m ms k c → (cs : List Call) → now .open-calls ≡ cs → WasOpen k cs → InCaller cs c
+  caller-if-open : {c : Call} → Began S m ms c → (k : ℕ) → Begins S m ms k c → (cs : List Call) → now .open-calls ≡ cs → WasOpen S m ms k cs → InCaller cs c
   caller-if-open g k b [] e w = w
   caller-if-open (at-start i none) k b (d ∷ ds) e w = absurd (b .not-before (stays-to 0 k zero-le i))
   caller-if-open (by-move j a) k b (d ∷ ds) e w =
@@ -53,7 +45,7 @@ module _ (S : Sheet) (m : ℕ) (ms : List Move) where
       (subst (λ (n : ℕ). List·Memᴰ d (stateAfter S m ms n .open-calls)) (le-antisymm (not-later (a .begins) b) (not-later b (a .begins))) w)
 
   open-if-caller : {c : Call} → Began S m ms c → (cs : List Call) → now .open-calls ≡ cs → InCaller cs c
-      → (k : ℕ) × Begins S m ms k c × WasOpen k cs
+      → (k : ℕ) × Begins S m ms k c × WasOpen S m ms k cs
   open-if-caller g [] e i = absurd i
   open-if-caller (at-start h none) (d ∷ ds) e i = absurd (none d i)
   open-if-caller (by-move k a) (d ∷ ds) e i = (k, a .begins, a .callers d (innermost-is-call e) .0 i)
@@ -64,7 +56,7 @@ module _ (S : Sheet) (m : ℕ) (ms : List Move) where
     began : {r : Returned} → List·Memᴰ r (now .returned-calls) → Began S m ms (r .call)
     began i = each-member (Began S m ms) (told .began) (Memᴰ·append-right (now .open-calls) (Memᴰ·map (λ (r : Returned). r .call) i))
 
-    pub owing-when-open : Owing S now ↔ OwingWhenOpen
+    pub owing-when-open : Owing S now ↔ OwingWhenOpen S m ms
     owing-when-open = (
       each-zip (λ r i h k b w. h (caller-if-open (began i) k b (now .open-calls) refl w)) (each-is-member (now .returned-calls)),
       each-zip

@@ -65,3 +65,15 @@ module _ (S : Sheet) (m : ℕ) (ms : List Move) where
     pub numbers : List·Nodup (map callNumber (calls (run S m ms)))
     -- each call's callers are the calls that were open when it began
     pub began : Each Began (calls (run S m ms))
+
+  -- What is owed, said with no numbers: of a returned call, whenever control is in a call that was open when that one began. By `ToldApart` it is
+  -- the same (proofs/WhenOpen).
+
+  -- of the open calls cs, the innermost was open before move k
+  abbrev pub WasOpen : ℕ → List Call → Type 0
+  WasOpen k [] = ⊥
+  WasOpen k (d ∷ ds) = List·Memᴰ d (stateAfter k .open-calls)
+
+  abbrev pub OwingWhenOpen : Type 0
+  OwingWhenOpen =
+      Each (λ r. (k : ℕ) → Begins k (r .call) → WasOpen k (run S m ms .open-calls) → LiesInFuture S (run S m ms) r) (run S m ms .returned-calls)

@@ -45,13 +45,23 @@ pub record State : Type 0 where
 abbrev pub calls : State → List Call
 calls s = s .open-calls ++ map (λ r. r .call) (s .returned-calls)
 
--- What a history adds to an earlier one, which it begins with: histories only grow (proofs/Grow).
+-- What a history adds to an earlier one, which it begins with: `Grown` says so of each that is asked of a state.
 abbrev pub since : Word → Word → Word
 since before after = drop (length before) after
 
 -- "The word it raised is what the second adds to the first."
 abbrev pub raised : Returned → Word
 raised r = since (r .call .began) (r .at)
+
+-- the history h is b, then what it adds to b
+abbrev pub Extends : Word → Word → Type 0
+Extends b h = h ≡ b ++ since b h
+
+-- histories only grow: a call's beginning begins the history at its return, and that begins the present one (proofs/Grow)
+pub record Grown (s : State) : Type 0 where
+  pub since-beginning : Each (λ c. Extends (c .began) (s .history)) (s .open-calls)
+  pub while-open : Each (λ r. Extends (r .call .began) (r .at)) (s .returned-calls)
+  pub since-return : Each (λ r. Extends (r .at) (s .history)) (s .returned-calls)
 
 -- "It starts at the entry of method 0 with no events, method 0 its one open call": here at the method m
 abbrev pub entryOf : Option Body → ℕ

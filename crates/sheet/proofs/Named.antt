@@ -14,33 +14,13 @@ use Rattle.sheet.specs.Sheet.{Point, Body, Method, Step, event-step, cal
 use Rattle.sheet.specs.Record.{Record, symbol-record, end-of-condition, point-record, method-record, step-record, pair-record, end-of-certificate, pointAt, methodAt, stepAt}
 use Rattle.sheet.specs.Reading.{Tally, Offsets, countsOf, Reading, fresh, bodyNamed, stepNamed, named, tallyPast, offsetsPast, whole, readSheet}
 use Rattle.sheet.specs.Decode.{conditionAt, sheetAt, sheetOf}
+use Rattle.sheet.specs.Names.{PointNamed, BodyNamed, MethodNamed, StepNamed, NamesExist}
 use Rattle.sheet.proofs.Each.{each-map, each-append, each-mapped}
 use Rattle.sheet.proofs.Kind.{Fits, fits}
 use Rattle.sheet.proofs.Take.{Took}
 use Rattle.sheet.proofs.ReadOn.{read-keeps}
 use Rattle.sheet.proofs.SheetOf.{sheet-is}
 use Rattle.sheet.proofs.Counted.{read-counted}
-
--- the names of a point, of a body, of a method and of a step are below the numbers of conditions, points and methods
-pub record PointNamed (conditions : ℕ) (x : Point) : Type 0 where
-  pub past-exists : x .past < conditions
-  pub own-exists : x .own < conditions
-  pub due-exists : x .due < conditions
-
-abbrev pub BodyNamed : ℕ → Option Body → Type 0
-BodyNamed points none = Unit {0}
-BodyNamed points (some b) = (b .entry < points) × (b .exit < points)
-
-pub record MethodNamed (conditions points : ℕ) (x : Method) : Type 0 where
-  pub pre-exists : x .pre < conditions
-  pub trace-exists : x .trace < conditions
-  pub future-exists : x .future < conditions
-  pub body-named : BodyNamed points (x .body)
-
-abbrev pub StepNamed : ℕ → ℕ → Step → Type 0
-StepNamed points methods (event-step p q a) = (p < points) × (q < points)
-StepNamed points methods (call-step p q m) = (p < points) × (q < points) × (m < methods)
-StepNamed points methods (pass-step p q) = (p < points) × (q < points)
 
 -- The names of a record that is taken ---------------------------------------------------------------------------------
 
@@ -146,12 +126,7 @@ named-past n s t f start at k end-of-certificate fit name h = h
 
 -- Of the sheet ---------------------------------------------------------------------------------------------------------
 
-pub record Named (S : Sheet) : Type 0 where
-  pub points-named : Each (PointNamed (length (S .conditions))) (S .points)
-  pub methods-named : Each (MethodNamed (length (S .conditions)) (length (S .points))) (S .methods)
-  pub steps-named : Each (StepNamed (length (S .points)) (length (S .methods))) (S .steps)
-
-in-sheet : (s : List ℕ) (f : Offsets) → NamedIn s (countsOf f) f → Named (sheetAt s f)
+in-sheet : (s : List ℕ) (f : Offsets) → NamedIn s (countsOf f) f → NamesExist (sheetAt s f)
 unfolding sheetAt
 in-sheet s f h =
     let conditions = length-map (f .conditions) (λ o. conditionAt s o) in
@@ -175,7 +150,7 @@ module _ (M : Model) (s : List ℕ) where
         let at-start : NamedIn s (fresh .tally) (fresh .offsets) = record { points-named = nil; methods-named = nil; steps-named = nil } in
         read-keeps M s (λ at (r : Reading). NamedIn s (r .tally) (r .offsets)) still-named r h at-start .holds
 
-    pub names-exist : Named (sheetOf M s)
+    pub names-exist : NamesExist (sheetOf M s)
     names-exist =
-        subst Named (sym (sheet-is M s r h))
+        subst NamesExist (sym (sheet-is M s r h))
         (in-sheet s (r .offsets) (subst (λ (t : Tally). NamedIn s t (r .offsets)) (read-counted M s r h) names-at-offsets))

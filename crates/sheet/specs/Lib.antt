@@ -4,3 +4,4 @@ pub mod Sheet
 pub mod Record
 pub mod Reading
 pub mod Decode
+pub mod Names

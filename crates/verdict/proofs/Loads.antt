@@ -17,9 +17,9 @@ use Rattle.sheet.proofs.Kept.{HasBody, events-below, first-has-body}
 use Rattle.sheet.proofs.Narrow.{conditions-below}
 use Rattle.runs.specs.Rules.{rules, rulesFrom, AllMet, count}
 use Rattle.runs.specs.Runs.{Move, run, Safe}
-use Rattle.runs.specs.Owing.{Owing}
+use Rattle.runs.specs.Owing.{Owing, OwingWhenOpen}
 use Rattle.runs.proofs.Apart.{told-apart}
-use Rattle.runs.proofs.WhenOpen.{OwingWhenOpen, owing-when-open}
+use Rattle.runs.proofs.WhenOpen.{owing-when-open}
 use Rattle.runs.proofs.Safe.{runs-are-safe}
 use Rattle.runs.proofs.Owing.{runs-owe}
 use Rattle.verdict.specs.Verdict.{Report, accepted, refused, unproved, certificatesNeeded, firstFault, judged, verdictAfter, verdictOf}
