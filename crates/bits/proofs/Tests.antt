@@ -40,6 +40,10 @@ pub T-true : (b : Bool) → T b → b ≡ true
 T-true true h = refl
 T-true false h = absurd h
 
+pub T-false : (b : Bool) → (T b → ⊥) → b ≡ false
+T-false true n = absurd (n tt)
+T-false false n = refl
+
 -- two tests that pass together are equal
 pub T-ext : (a b : Bool) → (T a → T b) → (T b → T a) → a ≡ b
 T-ext true true h k = refl

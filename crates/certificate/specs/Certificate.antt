@@ -10,7 +10,7 @@ use Rattle.bits.specs.Bits.{_⇒_, has, anyBelow, allBelow, setOf}
 use Rattle.condition.specs.Condition.{Condition}
 use Rattle.condition.specs.Places.{leaves, places, beside, leafSet, leafHolds, nullable, first, last, follow, follows, ends, step, someEnds}
 
--- "pair: left place (1), right set (4)"
+-- a pair: "left place (1), right set (4)"
 pub record Pair : Type 0 where
   pub place : ℕ
   pub set : ℕ
@@ -82,7 +82,7 @@ module _ (events : ℕ) (left right : Condition) (c : Certificate) where
       then unless (ends left (p .place) ⇒ someEnds right (p .set)) (fault 3 i 0 0)
       then inOrder events (λ e. clause4At i p e)
 
-  -- the first fault of the certificate for "left in right", over the events below `events`
+  -- the first fault of the certificate for the left in the right, over the events below `events`
   unfoldable pub check : Finding
   unfolding leaves places beside leafSet leafHolds nullable first last follow follows ends has anyBelow allBelow setOf step someEnds inOrder onlyPlaces within listed clause4At pairFinding
   check = unless (startsRight c) (fault 1 0 0 0) then inOrder (length c) (λ i. pairFinding i (pairOf c i))

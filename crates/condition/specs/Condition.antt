@@ -6,7 +6,7 @@ use Prim.Native.Nat.{ℕ, _-_, _^_}
 use lib.Dec.{T}
 use Rattle.bits.specs.Bits.{has}
 
--- "A word is a finite list of events."
+-- "A word is a finite list of events." An event here is any number: no condition holds a word with an event that is in no set of its leaves.
 abbrev pub Word : Type 0
 Word = List ℕ
 

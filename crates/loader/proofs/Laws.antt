@@ -1,26 +1,27 @@
 -- From a whole reading and its tables to the verdict and to the word test's answer.
 use mathlib.Core.Path.{_≡_, refl, sym, ap, _∙_, subst}
-use mathlib.Core.Bool.{Bool, cond}
+use mathlib.Core.Bool.{Bool}
 use mathlib.Core.Option.{none, some}
 use mathlib.Core.List.{List, [], _∷_}
 use Prim.Native.Nat.{ℕ, zero, suc, _+_, _*_, _≤_, _<_}
 use native.Mathlib.Nat.{not-suc-le-zero, le-of-suc-le-suc}
 use native.Mathlib.Omega.{arith}
 use lib.ListN.{length, getD}
-use borrow.Author.Tests.{lt-ltb, le-ltb, lt-leb, le-leb}
 use Rattle.condition.specs.Places.{accepts}
 use Rattle.sheet.specs.Model.{large}
 use Rattle.sheet.specs.Sheet.{condition}
-use Rattle.sheet.specs.Reading.{Tally, countsOf, Reading, whole, readSheet}
+use Rattle.sheet.specs.Reading.{Tally, countsOf}
 use Rattle.sheet.specs.Decode.{sheetOf}
+use Rattle.sheet.proofs.Each.{each-index}
 use Rattle.sheet.proofs.SheetOf.{conditions-counted, methods-counted, steps-counted}
 use Rattle.sheet.proofs.Counted.{read-counted}
 use Rattle.sheet.proofs.Certified.{certificates-chained}
 use Rattle.sheet.proofs.Bounded.{FewIn, read-few}
 use Rattle.runs.specs.Rules.{bodyCount, total, rules, count}
 use Rattle.verdict.specs.Verdict.{accepted, refused, unproved, verdictOf}
-use Rattle.verdict.specs.WordTest.{Answer, tested, untested, firstStray, testedAfter, wordTest}
-use Rattle.verdict.proofs.WordTest.{stray-is, test-is, after-whole, after-refusal, afterReading}
+use Rattle.verdict.specs.WordTest.{tested, untested, wordTest}
+use Rattle.verdict.specs.Promise.{FindsCondition, while-reading, no-such-condition, word-too-long, stray-event}
+use Rattle.verdict.proofs.WordTest.{refused-in, taken-in}
 use Rattle.records.specs.declared.Refusal.{Refusal}
 use Rattle.records.specs.Refusal.{numberOf, placeOf}
 use Rattle.answers.specs.declared.Rule.{Rule}
@@ -38,7 +39,7 @@ use Rattle.rule_tests.specs.Tested.{Tries, trialOf}
 use Rattle.rule_tests.specs.declared.Tested.{Tested}
 use Rattle.rule_tests.specs.declared.Tested.the-variants.{Passed, Failed}
 use Rattle.all_rules.proofs.Sums.{total-most, body-most, step-most}
-use Rattle.loader.specs.Stray.{FirstStray}
+use Rattle.loader.specs.Stray.{StrayOrEnd}
 
 -- Tables ----------------------------------------------------------------------------------------------------------------
 
@@ -137,58 +138,25 @@ module _ (s : List ℕ) (x : Refusal) (h : Refuses large s x) where
   refused-by = ap (refused (numberOf x)) (h .placed) ∙ sym (verdict-refused large s _ _ (h .outcome))
 
   pub untested-by : (c : ℕ) (w : List ℕ) → untested (numberOf x) (placeOf x) ≡ wordTest large s c w
-  untested-by c w =
-      ap (untested (numberOf x)) (h .placed)
-      ∙ sym (test-is large s c w ∙ ap (testedAfter large s c w) (h .outcome) ∙ after-refusal large s c w _ _)
+  untested-by c w = ap (untested (numberOf x)) (h .placed) ∙ sym (refused-in large s c w (while-reading (h .outcome)))
 
 -- The word test ---------------------------------------------------------------------------------------------------------
 
-word-whole : (s : List ℕ) (r : Reading) → readSheet large s ≡ whole r → (c : ℕ) (w : List ℕ) → wordTest large s c w ≡ afterReading large s c w
-word-whole s r h c w = test-is large s c w ∙ ap (testedAfter large s c w) h ∙ after-whole large s c w r
-
-module _ (n : ℕ) (a : Answer) where
-  one-past : (k e : ℕ) (w : List ℕ) → e < n → firstStray n k (e ∷ w) a ≡ firstStray n (suc k) w a
-  one-past k e w l = stray-is n k e w a ∙ ap (λ (b : Bool). cond b (firstStray n (suc k) w a) (untested 13 (some k))) (lt-ltb e n l)
-
-  stray-from : (k : ℕ) (w : List ℕ) (r : ℕ) → r < length w → ((i : ℕ) → i < r → getD w i 0 < n) → n ≤ getD w r 0 → firstStray n k w a ≡ untested 13 (some (k + r))
-  stray-from k [] r l below stops = absurd (not-suc-le-zero l)
-  stray-from k (e ∷ w) zero l below stops =
-      let here : k ≡ k + 0 = omega arith in
-      stray-is n k e w a
-      ∙ ap (λ (b : Bool). cond b (firstStray n (suc k) w a) (untested 13 (some k))) (le-ltb e n stops)
-      ∙ ap (λ (i : ℕ). untested 13 (some i)) here
-  stray-from k (e ∷ w) (suc r) l below stops =
-      let next : suc k + r ≡ k + suc r = omega arith in
-      one-past k e w (below 0 (omega arith))
-      ∙ stray-from (suc k) w r (le-of-suc-le-suc l) (λ i h. below (suc i) (omega arith)) stops
-      ∙ ap (λ (i : ℕ). untested 13 (some i)) next
-
-  none-from : (k : ℕ) (w : List ℕ) → ((i : ℕ) → i < length w → getD w i 0 < n) → firstStray n k w a ≡ a
-  unfolding firstStray
-  none-from k [] below = refl
-  none-from k (e ∷ w) below = one-past k e w (below 0 (omega arith)) ∙ none-from (suc k) w (λ i h. below (suc i) (omega arith))
-
-  stray-found : (w : List ℕ) (r : ℕ) → FirstStray n w r → r < length w → firstStray n 0 w a ≡ untested 13 (some r)
-  stray-found w r f l = let here : 0 + r ≡ r = omega arith in stray-from 0 w r l (f .before) (f .stops l) ∙ ap (λ (i : ℕ). untested 13 (some i)) here
-
-  no-stray : (w : List ℕ) → ((i : ℕ) → i < length w → getD w i 0 < n) → firstStray n 0 w a ≡ a
-  no-stray w below = none-from 0 w below
-
 module _ (s conditions : List ℕ) (x : ConditionsHeld large s conditions) (c : ℕ) (w : List ℕ) where
-  is-whole : wordTest large s c w ≡ afterReading large s c w
-  is-whole = word-whole s (x .reading) (x .read) c w
-
-  pub no-condition : length (sheetOf large s .conditions) ≤ c → untested 14 none ≡ wordTest large s c w
-  no-condition h = rw is-whole (simp (le-leb _ _ h))
+  pub condition-missing : length (sheetOf large s .conditions) ≤ c → untested 14 none ≡ wordTest large s c w
+  condition-missing h = sym (refused-in large s c w (no-such-condition (x .read) h))
 
   module _ (there : c < length (sheetOf large s .conditions)) where
-    pub word-too-long : 4096 < length w → untested 12 none ≡ wordTest large s c w
-    word-too-long h = rw is-whole (simp (lt-leb _ _ there, lt-ltb _ _ h))
+    finds : FindsCondition large s c
+    finds = record { reading = x .reading; read = x .read; exists = there }
+
+    pub too-long : 4096 < length w → untested 12 none ≡ wordTest large s c w
+    too-long h = sym (refused-in large s c w (word-too-long finds h))
 
     module _ (short : length w ≤ 4096) where
-      pub stray-event : (r : ℕ) → FirstStray 32 w r → r < length w → untested 13 (some r) ≡ wordTest large s c w
-      stray-event r f l = rw is-whole (simp (lt-leb _ _ there, le-ltb _ _ short) (sym (stray-found 32 _ w r f l)))
+      pub stray-at : (r : ℕ) → StrayOrEnd 32 w r → r < length w → untested 13 (some r) ≡ wordTest large s c w
+      stray-at r f l = sym (refused-in large s c w (stray-event finds short (record { inside = l; before = f .before; stray = f .stops l })))
 
       pub word-tested : ((i : ℕ) → i < length w → getD w i 0 < 32) → (b : Bool) → b ≡ accepts (condition (sheetOf large s) c) w
           → tested b ≡ wordTest large s c w
-      word-tested below b e = rw is-whole (simp (lt-leb _ _ there, le-ltb _ _ short) (ap tested e ∙ sym (no-stray 32 _ w below)))
+      word-tested below b e = ap tested e ∙ sym (taken-in large s c w (record { found = finds; short = short; events = each-index _ 0 w below }))

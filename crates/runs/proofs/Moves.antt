@@ -1,16 +1,17 @@
 -- What a move does: nothing, or one of five things. An invariant of runs is shown by what it says of each of them.
-use mathlib.Core.Path.{_≡_, refl, sym, subst}
+use mathlib.Core.Path.{_≡_, refl, sym, ap, _∙_, subst}
 use Prim.Native.Nat.{ℕ}
 use mathlib.Core.Bool.{Bool, true, false, cond}
 use mathlib.Core.Option.{Option, none, some}
 use mathlib.Core.List.{List, [], _∷_, _++_}
 use lib.ListN.{getElem?}
-use lib.Dec.{T, eqb, eqb→eq}
+use lib.Dec.{T, eqb, eqb→eq, eqb-refl}
+use Rattle.bits.proofs.Tests.{T-true, T-false}
 use Rattle.condition.specs.Condition.{Word, Condition, Holds}
 use Rattle.condition.specs.Places.{accepts}
 use Rattle.condition.proofs.Words.{words}
 use Rattle.sheet.specs.Sheet.{Body, Step, event-step, call-step, pass-step, Sheet, trace, body}
-use Rattle.runs.specs.Runs.{Call, State, start, Move, return, by-step, raise, newCall, openCall, returnedNow, makeCall, makeStep, fromOf, tryStep, close, exitsAt, tryReturn, tryMove, move, runOn, run}
+use Rattle.runs.specs.Runs.{Call, State, start, Move, return, by-step, raise, newCall, openCall, returnedNow, makeCall, makeStep, fromOf, tryStep, close, exitsAt, tryReturn, tryMove, move, MadeByTrace, runOn, run}
 
 -- what holds of both sides holds of the choice
 by-test : {A : Type 0} (P : A → Type 0) (b : Bool) {x y : A} → (b ≡ true → P x) → (b ≡ false → P y) → P (cond b x y)
@@ -91,3 +92,23 @@ module _ (S : Sheet) where
 
     pub run-keeps : (m : ℕ) → P (start S m) → (ms : List Move) → P (run S m ms)
     run-keeps m h ms = subst P (run-is m ms) (run-on-keeps (start S m) ms h)
+
+-- A primitive's step is made with exactly the words of its trace -----------------------------------------------------------
+
+module _ (S : Sheet) (t : State) (i q m : ℕ) (w : Word) (going : t .ended ≡ false) (found : getElem? (S .steps) i ≡ some (call-step (t .point) q m))
+    (primitive : body S m ≡ none) where
+  by-trace : (b : Bool) → accepts (trace S m) w ≡ b → move S t (by-step i w) ≡ cond b (returnedNow (newCall t i m) (raise w q t)) t
+  unfolding move
+  by-trace b e =
+      ap (λ (x : Bool). cond x t (tryMove S t (by-step i w))) going
+      ∙ (ap (tryStep S t i w) found
+      ∙ (ap (λ (x : Bool). cond x (makeStep S t i w (call-step (t .point) q m)) t) (T-true (eqb (t .point) (t .point)) (eqb-refl (t .point)))
+      ∙ (ap (makeCall t (newCall t i m) w q (trace S m)) primitive
+      ∙ ap (λ (x : Bool). cond x (returnedNow (newCall t i m) (raise w q t)) t) e)))
+
+  pub made-by-trace : MadeByTrace S t i q m w
+  made-by-trace =
+      record {
+        made = λ h. by-trace true (T-true (accepts (trace S m) w) (words (trace S m) w .1 h));
+        not-made = λ n. by-trace false (T-false (accepts (trace S m) w) (λ a. n (words (trace S m) w .0 a)));
+      }

@@ -80,7 +80,8 @@ start S m =
 
 -- Moves -----------------------------------------------------------------------------------------------------------------
 
--- "A move is a return, or names a step, with a word if the step calls a primitive." A word given with another step is not read.
+-- "A move is a return, or names a step, with a word if the step calls a primitive." A word given with another step is not read. A step that calls a
+-- primitive always comes with a word here: [] is the empty word, not the lack of one.
 pub data Move : Type 0 where
   return : Move
   by-step : (step : ℕ) (word : Word) → Move
@@ -193,6 +194,12 @@ tryMove S s (by-step i w) = tryStep S s i w (getElem? (S .steps) i)
 -- "A move that cannot be made, and any move after the end, changes nothing."
 unfoldable pub move : Sheet → State → Move → State
 move S s m = cond (s .ended) s (tryMove S s m)
+
+-- "A call of a primitive needs a word of the primitive's trace, whichever it is", said with the language: in the state t a step i that calls the
+-- primitive m and leads to q is made with exactly the words that the trace holds (proofs/Moves).
+pub record MadeByTrace (S : Sheet) (t : State) (i q m : ℕ) (w : Word) : Type 0 where
+  pub made : Holds (trace S m) w → move S t (by-step i w) ≡ returnedNow (newCall t i m) (raise w q t)
+  pub not-made : (Holds (trace S m) w → ⊥) → move S t (by-step i w) ≡ t
 
 -- "Each move starts from what the last one left, and nothing else changes a run or its sheet."
 unfoldable pub runOn : Sheet → State → List Move → State

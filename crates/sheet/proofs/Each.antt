@@ -5,6 +5,7 @@ use mathlib.Core.Logic.{⊎-elim}
 use mathlib.Core.Option.{Option, none, some}
 use Prim.Native.Nat.{ℕ, zero, suc, _<_}
 use native.Mathlib.Nat.{le-of-suc-le-suc, not-suc-le-zero}
+use native.Mathlib.Omega.{arith}
 use lib.ListN.{length, getD, getElem?}
 use Rattle.sheet.specs.Each.{Each, nil, cons}
 
@@ -69,3 +70,8 @@ pub each-get : {A : Type 0} (P : Option A → Type 0) → P none → {xs : List 
 each-get P n nil i = n
 each-get P n (cons h t) zero = h
 each-get P n (cons h t) (suc i) = each-get P n t i
+
+-- from what holds of the element of each number
+pub each-index : {A : Type 0} (P : A → Type 0) (d : A) (xs : List A) → ((i : ℕ) → i < length xs → P (getD xs i d)) → Each P xs
+each-index P d [] h = nil
+each-index P d (x ∷ xs) h = cons (h 0 (omega arith)) (each-index P d xs (λ i l. h (suc i) (omega (arith, l))))

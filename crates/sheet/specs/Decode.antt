@@ -53,6 +53,7 @@ unfoldable pub symbolsOn : List ℕ → ℕ → ℕ → List Symbol
 symbolsOn s zero at = []
 symbolsOn s (suc fuel) at = let more = symbolsOn s fuel (nextAt s at) in inFront (symbolIn (recordAt s at)) more
 
+-- a record has a byte or more, so as much fuel as there are bytes is enough
 unfoldable pub symbolsAt : List ℕ → ℕ → List Symbol
 unfolding recordAt nextAt symbolsOn
 symbolsAt s at = symbolsOn s (length s) at
@@ -90,6 +91,7 @@ unfoldable pub pairsOn : List ℕ → ℕ → ℕ → Certificate
 pairsOn s zero at = []
 pairsOn s (suc fuel) at = let more = pairsOn s fuel (nextAt s at) in inFront (pairIn (recordAt s at)) more
 
+-- a record has a byte or more, so as much fuel as there are bytes is enough
 unfoldable pub certificateAt : List ℕ → ℕ → Certificate
 unfolding recordAt nextAt pairsOn
 certificateAt s at = pairsOn s (length s) at

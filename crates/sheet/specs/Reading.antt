@@ -294,7 +294,7 @@ readOn M s (suc fuel) at r =
     let more = onward at (takeAt M s at r) (λ t. readOn M s fuel (nextAt s at) t) in
     cond (leb (length s) at) (atEnd s r) more
 
--- "1, place 65,536: longer than 65,536 bytes"; "Refusal 1 comes before reading."
+-- 1, "place 65,536": "longer than 65,536 bytes"; "Refusal 1 comes before reading."
 unfoldable pub readFrom : Model → Reading → List ℕ → Outcome
 unfolding takeAt readOn
 readFrom M r s = let rest = readOn M s (length s) 0 r in cond (ltb (M .bytes) (length s)) (refusal 1 (M .bytes)) rest

@@ -66,7 +66,7 @@ unfoldable pub pairAt : List ℕ → ℕ → Pair
 unfolding setAt
 pairAt s at = pair (byteAt s (at + 1)) (setAt s (at + 2))
 
--- kinds 1 to 5, the symbols of a condition's postfix form: "leaf, EMPTY, JOIN, EITHER, STAR"
+-- kinds 1 to 5, the symbols of a condition's postfix form: "leaf" and "EMPTY, JOIN, EITHER, STAR"
 pub data Symbol : Type 0 where
   leaf-symbol : (set : ℕ) → Symbol
   empty-symbol : Symbol

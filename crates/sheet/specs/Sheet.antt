@@ -6,7 +6,7 @@ use lib.ListN.{getD, getElem?}
 use Rattle.condition.specs.Condition.{Condition, noWord}
 use Rattle.certificate.specs.Certificate.{Certificate}
 
--- "point: conditions past, own, due"
+-- a point: "conditions past, own, due"
 pub record Point : Type 0 where
   pub past : ℕ
   pub own : ℕ
@@ -17,14 +17,14 @@ pub record Body : Type 0 where
   pub entry : ℕ
   pub exit : ℕ
 
--- "primitive: conditions pre, trace, future"; "method with body: pre, trace, future, entry point, exit point"
+-- a primitive: "conditions pre, trace, future"; a method with body: "pre, trace, future, entry point, exit point"
 pub record Method : Type 0 where
   pub pre : ℕ
   pub trace : ℕ
   pub future : ℕ
   pub body : Option Body
 
--- "event step: from, to, event"; "call step: from, to, method"; "pass step: from, to"
+-- an event step: "from, to (2 each), event (1)"; a call step: "from, to, method"; a pass step: "from, to"
 pub data Step : Type 0 where
   event-step : (from to event : ℕ) → Step
   call-step : (from to method : ℕ) → Step

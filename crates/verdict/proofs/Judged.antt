@@ -1,5 +1,5 @@
 -- Testing the rules in order finds nothing wrong exactly where each passes, and else the first fault; the verdict of a whole reading.
-use mathlib.Core.Path.{_≡_, refl, sym, ap, _∙_}
+use mathlib.Core.Path.{_≡_, refl, sym, ap, ap₂, _∙_}
 use mathlib.Core.List.{List, [], _∷_, _++_, append-assoc}
 use Prim.Native.Nat.{ℕ, _+_}
 use native.Mathlib.Omega.{arith}
@@ -105,6 +105,26 @@ module _ (events : ℕ) (otherwise : Report) where
       ap (λ (v : Finding). reported (n of k says holdsEmpty a) v (firstFault events xs cs otherwise)) p ∙ pass-all t
   pass-all (certified {n = n} {k = k} {a = a} {b = b} {c = c} {xs = xs} {cs = cs} p t) =
       ap (λ (v : Finding). reported (n of k says a isIn b) v (firstFault events xs cs otherwise)) p ∙ pass-all t
+
+  -- and the first fault is what is found
+  first-found : {ys : List Rule} {used : List Certificate} → EachCertified (Passes events) ys used
+      → (n k : ℕ) (claim : Claim) (after : List Rule) (unused : List Certificate) (c i e l : ℕ) → testOf events claim (nextOf unused) ≡ fault c i e l
+      → firstFault events (ys ++ ((n of k says claim) ∷ after)) (used ++ unused) otherwise ≡ unproved n k c i e l
+  unfolding firstFault
+  first-found done n k claim after unused c i e l h =
+      ap (λ (v : Finding). reported (n of k says claim) v (firstFault events after (leftAfter claim unused) otherwise)) h
+  first-found (bare {n = m} {k = j} {a = a} {xs = xs} {cs = cs} p t) n k claim after unused c i e l h =
+      ap (λ (v : Finding). reported (m of j says holdsEmpty a) v (firstFault events (xs ++ ((n of k says claim) ∷ after)) (cs ++ unused) otherwise)) p
+      ∙ first-found t n k claim after unused c i e l h
+  first-found (certified {n = m} {k = j} {a = a} {b = b} {c = d} {xs = xs} {cs = cs} p t) n k claim after unused c i e l h =
+      ap (λ (v : Finding). reported (m of j says a isIn b) v (firstFault events (xs ++ ((n of k says claim) ∷ after)) (cs ++ unused) otherwise)) p
+      ∙ first-found t n k claim after unused c i e l h
+
+  pub fault-found : {xs : List Rule} {cs : List Certificate} {r k c i e l : ℕ} → FirstFault events xs cs r k c i e l
+      → firstFault events xs cs otherwise ≡ unproved r k c i e l
+  fault-found {r = r} {k = k} {c = c} {i = i} {e = e} {l = l} f =
+      ap₂ (λ (ys : List Rule) (ds : List Certificate). firstFault events ys ds otherwise) (f .rules-are) (f .certificates-are)
+      ∙ first-found (f .before-pass) r k (f .failing) (f .after) (f .unused) c i e l (f .fails)
 
 -- each rule that needs a certificate has one of the list
 pub enough-certified : {P : Claim → Certificate → Type 0} {xs : List Rule} {cs : List Certificate} → EachCertified P xs cs → length cs ≡ certificatesNeeded xs

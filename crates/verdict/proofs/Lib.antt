@@ -1,6 +1,8 @@
+pub mod Reply
 pub mod Judged
 pub mod RulesMet
 pub mod Loads
+pub mod Facts
 pub mod Loop
 pub mod Activations
 pub mod WordTest

@@ -2,11 +2,12 @@
 -- of an accepted sheet are safe and meet what they owe.
 use mathlib.Core.Path.{_≡_, refl, sym, ap, _∙_, subst}
 use mathlib.Core.Bool.{Bool, true, false, cond}
-use mathlib.Core.Option.{Option, some}
+use mathlib.Core.Option.{Option, none, some}
 use mathlib.Core.List.{List}
 use Prim.Native.Nat.{ℕ, _≤_}
 use lib.ListN.{length}
 use lib.Dec.{T, eqb, eqb→eq, eqb-refl}
+use borrow.Author.Tests.{eqb-false, ne-eqb}
 use Rattle.bits.proofs.Tests.{T-true}
 use Rattle.sheet.specs.Model.{Model}
 use Rattle.sheet.specs.Sheet.{Sheet, body}
@@ -23,8 +24,10 @@ use Rattle.runs.proofs.WhenOpen.{owing-when-open}
 use Rattle.runs.proofs.Safe.{runs-are-safe}
 use Rattle.runs.proofs.Owing.{runs-owe}
 use Rattle.verdict.specs.Verdict.{Report, accepted, refused, unproved, certificatesNeeded, firstFault, judged, verdictAfter, verdictOf}
-use Rattle.verdict.specs.Promise.{WellFormed, EachCertified, Passes, FirstFault, Loads}
-use Rattle.verdict.proofs.Judged.{Tried, all-pass, one-fails, tried, pass-all}
+use Rattle.verdict.specs.Reply.{replyOf}
+use Rattle.verdict.specs.Promise.{WellFormed, EachCertified, Passes, FirstFault, RefusedFor, while-reading, wrong-count, Loads, LoadsAsPromised}
+use Rattle.verdict.proofs.Reply.{reply-refused, reply-unproved}
+use Rattle.verdict.proofs.Judged.{Tried, all-pass, one-fails, tried, pass-all, fault-found}
 use Rattle.verdict.proofs.RulesMet.{all-met, all-pass as exact-pass, rules-below}
 
 -- Reports told apart ----------------------------------------------------------------------------------------------------
@@ -73,9 +76,26 @@ module _ (M : Model) (s : List ℕ) where
   abbrev Passing : Type 0
   Passing = EachCertified (Passes (M .events)) (rules (sheetOf M s)) (sheetOf M s .certificates)
 
+  -- the refusal that a report names
+  abbrev RefusalIn : Report → Type 0
+  RefusalIn (accepted n) = ⊥
+  RefusalIn (refused n none) = ⊥
+  RefusalIn (refused n (some at)) = RefusedFor M s n at
+  RefusalIn (unproved r k c i e l) = ⊥
+
+  not-both : (x : Report) → RefusalIn x → IsAccepted x → ⊥
+  not-both (accepted n) f a = f
+  not-both (refused n at) f a = a
+  not-both (unproved r k c i e l) f a = f
+
+  nor-unproved : (x : Report) → RefusalIn x → IsUnproved x → ⊥
+  nor-unproved (accepted n) f u = f
+  nor-unproved (refused n at) f u = u
+  nor-unproved (unproved r k c i e l) f u = f
+
   -- refused, or well formed and then what the tests of the rules come to
   data Decided (report : Report) : Type 0 where
-    refuses : (n : ℕ) (at : Option ℕ) → report ≡ refused n at → Decided report
+    refuses : (x : Report) → RefusalIn x → report ≡ x → Decided report
     tests : WellFormed M s → Tried (M .events) (accepted (count (sheetOf M s))) (rules (sheetOf M s)) (sheetOf M s .certificates) report → Decided report
 
   decided : Decided (verdictOf M s)
@@ -88,10 +108,10 @@ module _ (M : Model) (s : List ℕ) where
       by-number r read true e =
           let same = eqb→eq _ _ (subst T (sym e) tt) in
           tests (record { reading = r; read = read; enough = same }) (tried (M .events) (accepted (count S)) (rules S) (S .certificates) same)
-      by-number r read false e = refuses 10 (some (length s)) refl
+      by-number r read false e = refuses _ (wrong-count read (eqb-false _ _ e)) refl
 
       by-reading : (x : Outcome) → readSheet M s ≡ x → Decided (verdictAfter M s x)
-      by-reading (refusal n at) read = subst Decided (sym (after-refusal n at)) (refuses n (some at) refl)
+      by-reading (refusal n at) read = subst Decided (sym (after-refusal n at)) (refuses _ (while-reading read) refl)
       by-reading (whole r) read = subst Decided (sym (after-whole r ∙ judged-is S)) (by-number r read (enough S) refl)
 
   -- Demand 2 ------------------------------------------------------------------------------------------------------------
@@ -100,24 +120,30 @@ module _ (M : Model) (s : List ℕ) where
   accepted-out n h = go decided
     where
       go : Decided (verdictOf M s) → WellFormed M s × Passing × (n ≡ count (sheetOf M s))
-      go (refuses k at e) = absurd (subst IsAccepted (sym h ∙ e) tt)
+      go (refuses x f e) = absurd (not-both x f (subst IsAccepted (sym h ∙ e) tt))
       go (tests w (all-pass p e)) = (w, p, ap countIn (sym h ∙ e))
       go (tests w (one-fails r k c i d l f e)) = absurd (subst IsAccepted (sym h ∙ e) tt)
 
-  accepted-in : WellFormed M s → Passing → verdictOf M s ≡ accepted (count (sheetOf M s))
-  accepted-in w p =
+  -- of a sheet that is read whole, by whether it has as many certificates as its rules need
+  whole-is : {r : Reading} → readSheet M s ≡ whole r → (b : Bool) → enough (sheetOf M s) ≡ b
+      → verdictOf M s ≡ cond b (first (sheetOf M s)) (refused 10 (some (length s)))
+  whole-is {r} read b e =
       verdict-is
-      ∙ (ap (verdictAfter M s) (w .read)
-      ∙ (after-whole (w .reading)
-      ∙ (judged-is (sheetOf M s)
-      ∙ (ap (λ b. cond b (first (sheetOf M s)) (refused 10 (some (length s)))) is-enough
-      ∙ pass-all (M .events) (accepted (count (sheetOf M s))) p))))
+      ∙ (ap (verdictAfter M s) read
+      ∙ (after-whole r
+      ∙ (judged-is (sheetOf M s) ∙ ap (λ b. cond b (first (sheetOf M s)) (refused 10 (some (length s)))) e)))
+
+  well-formed-is : WellFormed M s → verdictOf M s ≡ first (sheetOf M s)
+  well-formed-is w = whole-is (w .read) true is-enough
     where
       certificates : ℕ
       certificates = length (sheetOf M s .certificates)
 
       is-enough : enough (sheetOf M s) ≡ true
       is-enough = T-true (enough (sheetOf M s)) (subst (λ k. T (eqb certificates k)) (w .enough) (eqb-refl certificates))
+
+  accepted-in : WellFormed M s → Passing → verdictOf M s ≡ accepted (count (sheetOf M s))
+  accepted-in w p = well-formed-is w ∙ pass-all (M .events) (accepted (count (sheetOf M s))) p
 
   -- the first fault that a report names
   abbrev FaultIn : Report → Type 0
@@ -129,9 +155,24 @@ module _ (M : Model) (s : List ℕ) where
   unproved-out r k c i e l h = go decided
     where
       go : Decided (verdictOf M s) → WellFormed M s × FaultIn (unproved r k c i e l)
-      go (refuses n at x) = absurd (subst IsUnproved (sym h ∙ x) tt)
+      go (refuses x g y) = absurd (nor-unproved x g (subst IsUnproved (sym h ∙ y) tt))
       go (tests w (all-pass p x)) = absurd (subst IsUnproved (sym h ∙ x) tt)
       go (tests w (one-fails r′ k′ c′ i′ e′ l′ f x)) = (w, subst FaultIn (sym x ∙ h) f)
+
+  unproved-in : (r k c i e l : ℕ) → WellFormed M s → FaultIn (unproved r k c i e l) → verdictOf M s ≡ unproved r k c i e l
+  unproved-in r k c i e l w f = well-formed-is w ∙ fault-found (M .events) (accepted (count (sheetOf M s))) f
+
+  refused-out : (n at : ℕ) → verdictOf M s ≡ refused n (some at) → RefusedFor M s n at
+  refused-out n at h = go decided
+    where
+      go : Decided (verdictOf M s) → RefusedFor M s n at
+      go (refuses x f e) = subst RefusalIn (sym e ∙ h) f
+      go (tests w (all-pass p e)) = absurd (subst IsAccepted (sym (sym h ∙ e)) tt)
+      go (tests w (one-fails r k c i d l f e)) = absurd (subst IsUnproved (sym (sym h ∙ e)) tt)
+
+  refused-in : {n at : ℕ} → RefusedFor M s n at → verdictOf M s ≡ refused n (some at)
+  refused-in {n} {at} (while-reading e) = verdict-is ∙ (ap (verdictAfter M s) e ∙ after-refusal n at)
+  refused-in (wrong-count read others) = whole-is read false (ne-eqb _ _ others)
 
   -- Demand 3 ------------------------------------------------------------------------------------------------------------
 
@@ -162,13 +203,18 @@ module _ (M : Model) (s : List ℕ) where
         record {
           stated = refl;
           accepted-iff = λ n. (accepted-out n, λ x. accepted-in (x .0) (x .1) ∙ ap (λ k. accepted k) (sym (x .2)));
-          unproved-first = unproved-out;
+          refused-iff = λ n at. (λ e. refused-out n at (reply-refused (verdictOf M s) n at e), λ f. ap replyOf (refused-in f));
+          unproved-iff =
+              λ r k c i e l. (λ x. unproved-out r k c i e l (reply-unproved (verdictOf M s) r k c i e l x), λ x. ap replyOf (unproved-in r k c i e l (x .0) (x .1)));
           rules-met = accepted-met;
           sound = accepted-safe;
           owing = accepted-owing;
           told-apart = told-apart (sheetOf M s) 0;
           complete = λ w h c. accepted-in w (exact-pass (M .events) c h);
         }
+
+pub loads-as-promised : (M : Model) → LoadsAsPromised M
+loads-as-promised M wide s bytes = loads M s wide bytes
 
 -- what is owed, said with no numbers, follows from the promise alone
 pub promised-when-open : {M : Model} {s : List ℕ} {answer : Report} → Loads M s answer → (n : ℕ) → answer ≡ accepted n → (ms : List Move)

@@ -1,4 +1,4 @@
--- Document 01's last sheet to try, of bytes and the verdict: a primitive "close" with the future "nothing more, or next an advance", called last
+-- Document 01's last sheet to try, of bytes and the verdict: a primitive "close" whose future is nothing more, or next an advance, called last
 -- in a loop whose body starts with event 0. If some run that ends goes round twice, the sheet is not accepted.
 use mathlib.Core.Path.{_≡_, subst}
 use mathlib.Core.List.{List, _∷_}

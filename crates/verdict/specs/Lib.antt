@@ -3,4 +3,5 @@ pub mod WordTest
 pub mod Reply
 pub mod Line
 pub mod Promise
+pub mod Facts
 pub mod Cases

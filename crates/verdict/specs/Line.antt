@@ -33,7 +33,7 @@ labelled [] values = []
 labelled (text ∷ texts) [] = []
 labelled (text ∷ texts) (n ∷ values) = text ++ (decimal n ++ labelled texts values)
 
--- "refused 9 at 0", and without a place "refused 12"
+-- "refused 9 at 0", and where a refusal has no place its number alone
 abbrev pub refusedLine : ℕ → Option ℕ → List ℕ
 refusedLine n at = ascii "refused " ++ (decimal n ++ labelled (ascii " at " ∷ []) (replyOf (refused n at) .values))
 

@@ -1,25 +1,27 @@
 -- What is promised of the loader's and of the word test's answers: the three demands and what document 02's requests add, as one record each over
--- the bytes and the answer.
+-- the bytes and the answer. Of an answer's number and values it speaks by specs/Reply.
 use Prim.Native.Nat.{ℕ, _≤_, _<_}
 use mathlib.Core.Path.{_≡_}
 use mathlib.Core.Bool.{Bool}
 use mathlib.Core.Logic.{_↔_}
-use mathlib.Core.Option.{none}
+use mathlib.Core.Option.{Option, none, some}
 use mathlib.Core.List.{List, [], _∷_, _++_}
-use lib.ListN.{length}
+use lib.ListN.{length, getD}
 use lib.Dec.{T}
 use Rattle.condition.specs.Condition.{Condition, Word, Holds}
 use Rattle.certificate.specs.Certificate.{Certificate, fine, fault, Exact}
 use Rattle.sheet.specs.Model.{Model, wordLimit}
 use Rattle.sheet.specs.Each.{Each}
+use Rattle.sheet.specs.Record.{Bytes}
 use Rattle.sheet.specs.Sheet.{condition}
 use Rattle.sheet.specs.Reading.{Reading, whole, refusal, readSheet}
 use Rattle.sheet.specs.Decode.{sheetOf}
 use Rattle.runs.specs.Rules.{Claim, _isIn_, holdsEmpty, Rule, _of_says_, rules, AllMet, count}
 use Rattle.runs.specs.Runs.{Move, run, Safe}
 use Rattle.runs.specs.Owing.{Owing, ToldApart}
-use Rattle.verdict.specs.Verdict.{Report, accepted, unproved, testOf, certificatesNeeded, nextOf, verdictOf}
+use Rattle.verdict.specs.Verdict.{Report, accepted, testOf, certificatesNeeded, nextOf, verdictOf}
 use Rattle.verdict.specs.WordTest.{Answer, tested, wordTest}
+use Rattle.verdict.specs.Reply.{_giving_, placeValue, replyOf, answerReply}
 
 -- Of a sheet's bytes ----------------------------------------------------------------------------------------------------
 
@@ -60,18 +62,29 @@ pub record FirstFault (events : ℕ) (xs : List Rule) (cs : List Certificate) (r
   pub before-pass : EachCertified (Passes events) before used
   pub fails : testOf events failing (nextOf unused) ≡ fault clause pair event place
 
+-- one of the refusals 1 to 10 applies, and the first of them has this number and place
+pub data RefusedFor (M : Model) (s : List ℕ) : ℕ → ℕ → Type 0 where
+  -- 1 to 9: reading ends with it
+  while-reading : {n at : ℕ} → readSheet M s ≡ refusal n at → RefusedFor M s n at
+  -- 10, "length": "certificates are more or fewer than the rules need"
+  wrong-count : {r : Reading} → readSheet M s ≡ whole r
+      → (length (sheetOf M s .certificates) ≡ certificatesNeeded (rules (sheetOf M s)) → ⊥) → RefusedFor M s 10 (length s)
+
 -- Of the loader ---------------------------------------------------------------------------------------------------------
 
--- What the loader promises of its answer to the bytes s, for every s. S is the sheet that they stand for.
+-- What the loader promises of its answer to the bytes s, for every s, on an instrument that has at least the 32 events of a leaf's four-byte set
+-- (`LoadsAsPromised` below). With fewer events clause 4 would leave some events of a leaf untested.
 pub record Loads (M : Model) (s : List ℕ) (answer : Report) : Type 0 where
   -- the answer is the definition's
   pub stated : answer ≡ verdictOf M s
   -- Demand 2: "A sheet is accepted exactly if it is well formed and passes all rule tests", with the count of the formula
   pub accepted-iff : (n : ℕ) → (answer ≡ accepted n)
       ↔ (WellFormed M s × EachCertified (Passes (M .events)) (rules (sheetOf M s)) (sheetOf M s .certificates) × (n ≡ count (sheetOf M s)))
-  -- "else the first fault is named"
-  pub unproved-first : (r k c i e l : ℕ) → answer ≡ unproved r k c i e l
-      → WellFormed M s × FirstFault (M .events) (rules (sheetOf M s)) (sheetOf M s .certificates) r k c i e l
+  -- "else the first fault is named": a refusal's number and place exactly if it is the first that applies,
+  pub refused-iff : (n at : ℕ) → (replyOf answer ≡ n giving (at ∷ [])) ↔ RefusedFor M s n at
+  -- and "11, rule, subject, clause, pair, event, place" exactly if the sheet is "well formed, and this is the first fault"
+  pub unproved-iff : (r k c i e l : ℕ) → (replyOf answer ≡ 11 giving (r ∷ k ∷ c ∷ i ∷ e ∷ l ∷ []))
+      ↔ (WellFormed M s × FirstFault (M .events) (rules (sheetOf M s)) (sheetOf M s .certificates) r k c i e l)
   -- the rules of an accepted sheet are true, whoever wrote its point conditions and certificates
   pub rules-met : (n : ℕ) → answer ≡ accepted n → AllMet (rules (sheetOf M s))
   -- Demand 3: "If a sheet is accepted .. then after EVERY list of moves" the state of the run is safe
@@ -84,22 +97,44 @@ pub record Loads (M : Model) (s : List ℕ) (answer : Report) : Type 0 where
   pub complete : WellFormed M s → AllMet (rules (sheetOf M s)) → EachCertified (ExactFor (M .events)) (rules (sheetOf M s)) (sheetOf M s .certificates)
       → answer ≡ accepted (count (sheetOf M s))
 
+-- the definition's answer keeps the promise
+abbrev pub LoadsAsPromised : Model → Type 0
+LoadsAsPromised M = 32 ≤ M .events → (s : List ℕ) → Bytes s → Loads M s (verdictOf M s)
+
 -- Of the word test ------------------------------------------------------------------------------------------------------
+
+-- the word test reads the sheet whole and finds the condition: none of 1 to 9, nor 14
+pub record FindsCondition (M : Model) (s : List ℕ) (c : ℕ) : Type 0 where
+  pub reading : Reading
+  pub read : readSheet M s ≡ whole reading
+  pub exists : c < length (sheetOf M s .conditions)
+
+-- i is the "first such index" of "an event above 31": of one that is not below `events`
+pub record FirstStray (events : ℕ) (w : Word) (i : ℕ) : Type 0 where
+  pub inside : i < length w
+  pub before : (j : ℕ) → j < i → getD w j 0 < events
+  pub stray : events ≤ getD w i 0
+
+-- one of the refusals applies, and the first of them, in the order "1 to 9, then 14, 12, 13", has this number and place
+pub data WordRefusedFor (M : Model) (s : List ℕ) (c : ℕ) (w : Word) : ℕ → Option ℕ → Type 0 where
+  while-reading : {n at : ℕ} → readSheet M s ≡ refusal n at → WordRefusedFor M s c w n (some at)
+  no-such-condition : {r : Reading} → readSheet M s ≡ whole r → length (sheetOf M s .conditions) ≤ c → WordRefusedFor M s c w 14 none
+  word-too-long : FindsCondition M s c → wordLimit < length w → WordRefusedFor M s c w 12 none
+  stray-event : {i : ℕ} → FindsCondition M s c → length w ≤ wordLimit → FirstStray (M .events) w i → WordRefusedFor M s c w 13 (some i)
 
 -- the words that the test takes: no refusal applies
 pub record TakesWord (M : Model) (s : List ℕ) (c : ℕ) (w : Word) : Type 0 where
-  pub reading : Reading
-  -- none of 1 to 9
-  pub read : readSheet M s ≡ whole reading
-  -- nor 14, 12, 13
-  pub exists : c < length (sheetOf M s .conditions)
+  pub found : FindsCondition M s c
+  -- nor 12, 13
   pub short : length w ≤ wordLimit
   pub events : Each (λ e. e < M .events) w
 
--- What the word test promises of its answer to the bytes s, the condition's number c and the word w, for every s, c and w.
+-- What the word test promises of its answer to the bytes s, the condition's number c and the word w, for every s, c and w, on every instrument.
 pub record TestsWord (M : Model) (s : List ℕ) (c : ℕ) (w : Word) (answer : Answer) : Type 0 where
   -- the answer is the definition's
   pub stated : answer ≡ wordTest M s c w
   -- Demand 2: "The word test is exactly the regular language": it says yes or no of each word that it takes, and yes of the condition's words
   pub tests-all : TakesWord M s c w ↔ ((b : Bool) × (answer ≡ tested b))
   pub right : (b : Bool) → answer ≡ tested b → T b ↔ Holds (condition (sheetOf M s) c) w
+  -- and else names the first refusal that applies
+  pub refused-iff : (n : ℕ) (at : Option ℕ) → (answerReply answer ≡ n giving placeValue at) ↔ WordRefusedFor M s c w n at

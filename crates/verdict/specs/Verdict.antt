@@ -57,14 +57,14 @@ abbrev pub reported : Rule → Finding → Report → Report
 reported x fine after = after
 reported x (fault c i e l) after = unproved (x .number) (x .subject) c i e l
 
--- "11, ..: well formed, and this is the first fault"; with no fault, the report `otherwise`
+-- 11: "well formed, and this is the first fault"; with no fault, the report `otherwise`
 unfoldable pub firstFault : ℕ → List Rule → List Certificate → Report → Report
 firstFault events [] cs otherwise = otherwise
 firstFault events (x ∷ xs) cs otherwise =
     let after = firstFault events xs (leftAfter (x .claim) cs) otherwise in
     reported x (testOf events (x .claim) (nextOf cs)) after
 
--- "10, length: certificates are more or fewer than the rules need"; "accepted, count: every rule is met"
+-- 10, "length": "certificates are more or fewer than the rules need"; "accepted, count": "every rule is met"
 unfoldable pub judged : Model → List ℕ → Sheet → Report
 unfolding rules count certificatesNeeded check nullable firstFault
 judged M s S =

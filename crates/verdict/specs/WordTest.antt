@@ -18,20 +18,20 @@ pub data Answer : Type 0 where
   -- a refusal's number, and its place where it has one
   untested : (number : ℕ) (at : Option ℕ) → Answer
 
--- "13, index: an event above 31, first such index", from the index i on; without one, the answer `otherwise`
-unfoldable pub firstStray : ℕ → ℕ → Word → Answer → Answer
-firstStray events i [] otherwise = otherwise
-firstStray events i (e ∷ w) otherwise =
-    let after = firstStray events (suc i) w otherwise in
+-- 13, "index": "an event above 31, first such index", from the index i on; without one, the answer `otherwise`
+unfoldable pub unlessStray : ℕ → ℕ → Word → Answer → Answer
+unlessStray events i [] otherwise = otherwise
+unlessStray events i (e ∷ w) otherwise =
+    let after = unlessStray events (suc i) w otherwise in
     cond (ltb e events) after (untested 13 (some i))
 
--- "it first applies 1 to 9, then 14, 12, 13": "14: no such condition", "12: word longer than 4,096"
+-- "it first applies 1 to 9, then 14, 12, 13": 14 "no such condition", 12 "word longer than 4,096"
 unfoldable pub testedAfter : Model → List ℕ → ℕ → Word → Outcome → Answer
-unfolding sheetOf firstStray accepts
+unfolding sheetOf unlessStray accepts
 testedAfter M s c w (refusal n at) = untested n (some at)
 testedAfter M s c w (whole r) =
     let S = sheetOf M s in
-    let answer = firstStray (M .events) 0 w (tested (accepts (condition S c) w)) in
+    let answer = unlessStray (M .events) 0 w (tested (accepts (condition S c) w)) in
     cond (leb (length (S .conditions)) c) (untested 14 none) (cond (ltb wordLimit (length w)) (untested 12 none) answer)
 
 -- what the word test returns for the bytes s, the condition c and the word w

@@ -3,22 +3,22 @@ use mathlib.Core.Bool.{true, false}
 use native.Mathlib.Omega.{arith}
 use Rattle.sheet.specs.Model.{large}
 use Rattle.walk.proofs.Indexed.{condition-at}
-use Rattle.loader.proofs.Laws.{no-condition, word-too-long, stray-event, word-tested}
+use Rattle.loader.proofs.Laws.{condition-missing, too-long, stray-at, word-tested}
 use borrow.Author.Needs.{needs}
 use Rattle.loader.proofs.answer.Statement.{statement}
 use Rattle.loader.proofs.answer.Tie as tie
 
 returns : tie.Need-returns
-returns c = no-condition _ _ (c .before .before .before .pre .0) _ _ (omega (arith, c .before .before .before .pre .1))
+returns c = condition-missing _ _ (c .before .before .before .pre .0) _ _ (omega (arith, c .before .before .before .pre .1))
 
 returns-2 : tie.Need-returns-2
-returns-2 c = word-too-long _ _ (c .before .before .before .before .pre .0) _ _ (omega (arith, c .before .before .before .before .pre .1)) (c .if2 .taken)
+returns-2 c = too-long _ _ (c .before .before .before .before .pre .0) _ _ (omega (arith, c .before .before .before .before .pre .1)) (c .if2 .taken)
 
 first-stray-requires : tie.Need-first-stray-requires
 first-stray-requires c κs = search needs
 
 returns-3 : tie.Need-returns-3
-returns-3 c = stray-event _ _ (c .before .before .before .before .before .before .pre .0) _ _ (omega (arith, c .before .before .before .before .before .before .pre .1)) (c .before .before .if2 .left) _ (c .before .first-stray .ensures) (c .if3 .taken)
+returns-3 c = stray-at _ _ (c .before .before .before .before .before .before .pre .0) _ _ (omega (arith, c .before .before .before .before .before .before .pre .1)) (c .before .before .if2 .left) _ (c .before .first-stray .ensures) (c .if3 .taken)
 
 mul-holds-word : tie.Need-mul-holds-word
 mul-holds-word c = omega (arith, condition-at large _ _ (c .before .before .before .before .before .before .pre .0) (c .before .before .before .before .before .before .args .condition) (omega (arith, c .before .before .before .before .before .before .pre .1)) .0)

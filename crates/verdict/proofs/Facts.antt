@@ -1,0 +1,24 @@
+-- The facts of the definitions hold.
+use Rattle.condition.proofs.Words.{nullable-holds, words}
+use Rattle.sheet.specs.Model.{Model}
+use Rattle.sheet.specs.Decode.{sheetOf}
+use Rattle.sheet.proofs.Postfix.{conditions-in-postfix}
+use Rattle.sheet.proofs.Named.{names-exist}
+use Rattle.runs.proofs.Count.{counted}
+use Rattle.runs.proofs.Moves.{made-by-trace}
+use Rattle.runs.proofs.Grow.{histories-grow}
+use Rattle.verdict.specs.Facts.{FactsHold}
+use Rattle.verdict.proofs.Loads.{loads, promised-when-open}
+
+pub facts : (M : Model) → FactsHold M
+facts M wide s bytes =
+    record {
+      words = words;
+      empty-word = nullable-holds;
+      in-postfix = conditions-in-postfix M s;
+      names-exist = names-exist M s;
+      counted = counted (sheetOf M s);
+      made-by-trace = made-by-trace (sheetOf M s);
+      histories-grow = histories-grow (sheetOf M s) 0;
+      owing-when-open = promised-when-open (loads M s wide bytes);
+    }

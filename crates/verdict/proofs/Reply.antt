@@ -1,0 +1,57 @@
+-- An answer is told by its number and values.
+use mathlib.Core.Path.{_≡_, refl, sym, ap, ap₂, _∙_, subst}
+use mathlib.Core.Option.{Option, none, some}
+use mathlib.Core.List.{List, [], _∷_}
+use Prim.Native.Nat.{ℕ}
+use native.Mathlib.Omega.{arith}
+use lib.ListN.{length, getD}
+use Rattle.verdict.specs.Verdict.{Report, accepted, refused, unproved}
+use Rattle.verdict.specs.WordTest.{Answer, tested, untested}
+use Rattle.verdict.specs.Reply.{Reply, _giving_, placeValue, replyOf, answerReply}
+
+abbrev IsSome : Option ℕ → Type 0
+IsSome none = ⊥
+IsSome (some n) = Unit {0}
+
+abbrev orZero : Option ℕ → ℕ
+orZero none = 0
+orZero (some n) = n
+
+-- of two equal replies: both have a number or none, and the numbers, the values and how many there are agree
+has-number : {r t : Reply} → r ≡ t → IsSome (t .number) → IsSome (r .number)
+has-number e h = subst (λ (x : Reply). IsSome (x .number)) (sym e) h
+
+same-number : {r t : Reply} → r ≡ t → orZero (r .number) ≡ orZero (t .number)
+same-number e = ap (λ (x : Reply). orZero (x .number)) e
+
+same-length : {r t : Reply} → r ≡ t → length (r .values) ≡ length (t .values)
+same-length e = ap (λ (x : Reply). length (x .values)) e
+
+same-value : {r t : Reply} (i : ℕ) → r ≡ t → getD (r .values) i 0 ≡ getD (t .values) i 0
+same-value i e = ap (λ (x : Reply). getD (x .values) i 0) e
+
+-- a refusal's place by its value
+same-place : (n : ℕ) (a b : Option ℕ) → length (placeValue a) ≡ length (placeValue b) → getD (placeValue a) 0 0 ≡ getD (placeValue b) 0 0 → a ≡ b
+same-place n none none l e = refl
+same-place n none (some b) l e = absurd (omega (arith, l))
+same-place n (some a) none l e = absurd (omega (arith, l))
+same-place n (some a) (some b) l e = ap (λ k. some k) e
+
+pub reply-refused : (x : Report) (n at : ℕ) → replyOf x ≡ n giving (at ∷ []) → x ≡ refused n (some at)
+reply-refused (accepted k) n at e = absurd (has-number e tt)
+reply-refused (refused k a) n at e = ap₂ (λ m p. refused m p) (same-number e) (same-place n a (some at) (same-length e) (same-value 0 e))
+reply-refused (unproved r k c i d l) n at e = absurd (omega (arith, same-length e))
+
+few-values : (a : Option ℕ) → length (placeValue a) ≡ 6 → ⊥
+few-values none e = omega (arith, e)
+few-values (some k) e = omega (arith, e)
+
+pub reply-unproved : (x : Report) (r k c i d l : ℕ) → replyOf x ≡ 11 giving (r ∷ k ∷ c ∷ i ∷ d ∷ l ∷ []) → x ≡ unproved r k c i d l
+reply-unproved (accepted n) r k c i d l e = absurd (has-number e tt)
+reply-unproved (refused n a) r k c i d l e = absurd (few-values a (same-length e))
+reply-unproved (unproved r′ k′ c′ i′ d′ l′) r k c i d l e =
+    rw (same-value 0 e, same-value 1 e, same-value 2 e, same-value 3 e, same-value 4 e, same-value 5 e) refl
+
+pub reply-untested : (x : Answer) (n : ℕ) (at : Option ℕ) → answerReply x ≡ n giving placeValue at → x ≡ untested n at
+reply-untested (tested b) n at e = absurd (has-number e tt)
+reply-untested (untested k a) n at e = ap₂ (λ m p. untested m p) (same-number e) (same-place n a at (same-length e) (same-value 0 e))

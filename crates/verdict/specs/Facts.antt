@@ -1,0 +1,44 @@
+-- Facts of the definitions. Each ties what is computed to what it stands for, so that a reader need not take it from the text of a definition alone.
+use Prim.Native.Nat.{ℕ, _≤_}
+use mathlib.Core.Path.{_≡_}
+use mathlib.Core.Bool.{false}
+use mathlib.Core.Logic.{_↔_}
+use mathlib.Core.Option.{none, some}
+use mathlib.Core.List.{List, []}
+use lib.ListN.{length, getElem?}
+use lib.Dec.{T}
+use Rattle.condition.specs.Condition.{Condition, Word, Holds}
+use Rattle.condition.specs.Places.{nullable, accepts}
+use Rattle.sheet.specs.Model.{Model}
+use Rattle.sheet.specs.Each.{Each}
+use Rattle.sheet.specs.Sheet.{call-step, body}
+use Rattle.sheet.specs.Record.{Bytes}
+use Rattle.sheet.specs.Reading.{Reading, whole, readSheet}
+use Rattle.sheet.specs.Decode.{InPostfix, sheetOf}
+use Rattle.sheet.specs.Names.{NamesExist}
+use Rattle.runs.specs.Rules.{rules, count}
+use Rattle.runs.specs.Runs.{State, Grown, Move, MadeByTrace, run}
+use Rattle.runs.specs.Owing.{OwingWhenOpen}
+use Rattle.verdict.specs.Verdict.{accepted, verdictOf}
+
+pub record Facts (M : Model) (s : List ℕ) : Type 0 where
+  -- the word test by places, and the test of the empty word, are the language: of every condition and every word, however long
+  pub words : (r : Condition) (w : Word) → T (accepts r w) ↔ Holds r w
+  pub empty-word : (r : Condition) → T (nullable r) ↔ Holds r []
+  -- of a sheet that is read whole: the records of each condition are the postfix form of the condition that they stand for,
+  pub in-postfix : (r : Reading) → readSheet M s ≡ whole r → Each (InPostfix s) (r .offsets .conditions)
+  -- and every name exists
+  pub names-exist : (r : Reading) → readSheet M s ≡ whole r → NamesExist (sheetOf M s)
+  -- the count of the formula is the number of rules
+  pub counted : length (rules (sheetOf M s)) ≡ count (sheetOf M s)
+  -- a call of a primitive is made with exactly the words of its trace
+  pub made-by-trace : (t : State) (i q m : ℕ) (w : Word) → t .ended ≡ false → getElem? (sheetOf M s .steps) i ≡ some (call-step (t .point) q m)
+      → body (sheetOf M s) m ≡ none → MadeByTrace (sheetOf M s) t i q m w
+  -- histories only grow, so that what a history adds to an earlier one is what was raised since
+  pub histories-grow : (ms : List Move) → Grown (run (sheetOf M s) 0 ms)
+  -- request 12 of an accepted sheet, said with no numbers: what a returned call is owed binds wherever control is in a call that was open when it began
+  pub owing-when-open : (n : ℕ) → verdictOf M s ≡ accepted n → (ms : List Move) → OwingWhenOpen (sheetOf M s) 0 ms
+
+-- they hold of every sheet, on an instrument with at least the 32 events of a leaf's set
+abbrev pub FactsHold : Model → Type 0
+FactsHold M = 32 ≤ M .events → (s : List ℕ) → Bytes s → Facts M s
