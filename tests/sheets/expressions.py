@@ -15,6 +15,7 @@ TOKEN = re.compile(r"\s*([A-Za-z_][A-Za-z0-9_]*|[0-9]+|.)")
 NAME = re.compile(r"[A-Za-z_][A-Za-z0-9_]*\Z")
 RESERVED = {"any", "none", "empty", "not", "finally", "globally", "next"}
 ANY_LEAF = (LEAF, ANY)
+MAX_DEPTH = 100
 
 
 class ExpressionError(Exception):
@@ -56,6 +57,7 @@ class Parser:
     def __init__(self, text, names):
         self.tokens = tokens_of(text)
         self.at = 0
+        self.depth = 0
         self.names = names
 
     def peek(self):
@@ -100,6 +102,15 @@ class Parser:
         return tree
 
     def item(self):
+        self.depth += 1
+        if self.depth > MAX_DEPTH:
+            raise ExpressionError(f"the expression is nested more than "
+                                  f"{MAX_DEPTH} deep")
+        tree = self.item_inside()
+        self.depth -= 1
+        return tree
+
+    def item_inside(self):
         token = self.take()
         if token == "(":
             tree = self.either()
