@@ -700,6 +700,52 @@ class Examples(unittest.TestCase):
             self.assertEqual(load_line(case.data), case.line, case.label)
 
 
+class Documents(unittest.TestCase):
+    """What docs/SHEETS.md shows is so."""
+
+    SHOWN = (HERE.parent / "docs" / "SHEETS.md").read_text(encoding="utf-8")
+    SECTIONS = ("event", "condition", "point", "method", "primitive", "step")
+
+    def section(self, title):
+        return re.search(rf"^##+ {title}$(.*?)^##", self.SHOWN, re.M | re.S)[1]
+
+    def test_from_nothing(self):
+        """Each answer is that of the text up to it; points are replaced."""
+        start_, steps = self.section("A sheet from nothing").split("\n1.  ")
+        statements, answers = {}, []
+        for line in (re.findall(r"^ {4}(\w.*)", start_, re.M)
+                     + re.findall(r"^ {8}(\w.*)", steps, re.M)):
+            words = line.split()
+            if words[0] in self.SECTIONS:
+                key = line if words[0] == "step" else (words[0], words[1])
+                statements[key] = line
+                continue
+            data = assemble("\n".join(sorted(
+                statements.values(),
+                key=lambda one: self.SECTIONS.index(one.split()[0]))))
+            self.assertEqual(load_line(data), line)
+            answers.append(line)
+        self.assertEqual((len(answers), answers[-1]), (8, "accepted 21"))
+        self.assertEqual(data, (EXAMPLES / "one_round.sheet").read_bytes())
+
+    def test_loop(self):
+        """The lines for three choices of due in the loop with open."""
+        shown = re.findall(r"^ {4}(unproved .*)$",
+                           self.section("A loop that cannot be accepted"), re.M)
+        source = (EXAMPLES / "close_loop_open.txt").read_text(encoding="utf-8")
+        lines = []
+        for top, mid in (("body", "rest"), ("all", "all"),
+                         ("then_advance", "all")):
+            changed = source.replace("due body", f"due {top}")
+            changed = changed.replace("due rest", f"due {mid}")
+            lines.append(load_line(assemble(changed)))
+        self.assertEqual(lines, shown)
+
+    def test_least_sheet(self):
+        shown = re.findall(r"^ {4}([ a].*)$", self.section("Bytes"), re.M)
+        self.assertEqual(disassemble(M), shown)
+
+
 class Proofs(unittest.TestCase):
     """What the proofs say of an example is of its bytes."""
 
