@@ -12,7 +12,7 @@ from generate import faults
 from generate.draws import Draws
 from generate.refusals import reading_cases
 from generate.special import (EXAMPLES, M, closing_loops, examples, last_cases,
-                              listed_examples, special_cases)
+                              listed_examples, special_cases, starred)
 from generate.trees import random_tree
 from generate.plans import recursion, repeated_calls
 from generate.true_sheets import true_sheets
@@ -740,6 +740,16 @@ class Documents(unittest.TestCase):
             changed = changed.replace("due rest", f"due {mid}")
             lines.append(load_line(assemble(changed)))
         self.assertEqual(lines, shown)
+
+    def test_sheets_to_try(self):
+        rows = re.findall(r"^\| (?!bytes|--)(.*) \| `(.*)` \|$",
+                          self.section("Sheets to try"), re.M)
+        self.assertEqual([line for _, line in rows],
+                         [case.line for case in starred()])
+        for (shown, line), case in zip(rows, starred()):
+            if re.fullmatch(r"[0-9A-F ]+", shown):
+                self.assertEqual(bytes.fromhex(shown), case.data)
+            self.assertEqual(load_line(case.data), line)
 
     def test_least_sheet(self):
         shown = re.findall(r"^ {4}([ a].*)$", self.section("Bytes"), re.M)

@@ -169,6 +169,8 @@ def parse_expression(text, names):
 def show_set(events):
     if events == ANY:
         return "any"
+    if events.bit_count() > EVENTS // 2:
+        return "not " + show_set(ANY & ~events)
     return "{" + ",".join(str(event) for event in bits(events)) + "}"
 
 
@@ -176,7 +178,8 @@ def show(tree, strength=0):
     """The expression of a tree; parse_expression gives the tree back."""
     kind = tree[0]
     if kind == LEAF:
-        return show_set(tree[1])
+        text = show_set(tree[1])
+        return f"({text})" if strength == 2 and " " in text else text
     if kind == EMPTY:
         return "empty"
     if kind == STAR:
