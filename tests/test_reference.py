@@ -5,13 +5,14 @@ import sys
 import unittest
 from collections import Counter
 from functools import lru_cache
-from itertools import product
+from itertools import chain, product
 from pathlib import Path
 
 from generate import faults
 from generate.draws import Draws
 from generate.refusals import reading_cases
-from generate.special import M, special_cases
+from generate.special import (EXAMPLES, M, closing_loops, examples, last_cases,
+                              listed_examples, special_cases, starred)
 from generate.trees import random_tree
 from generate.plans import recursion, repeated_calls
 from generate.true_sheets import true_sheets
@@ -22,7 +23,7 @@ from reference.conditions import (ANY, EITHER, EMPTY, JOIN, LEAF, STAR, holds,
                                   parse_postfix, places_of, postfix, step)
 from reference.inclusion import missing_word
 from reference.loader import load_line, verdict, word_line, word_line_of
-from reference.reading import Point, Refusal, Sheet, read_sheet, reading_line
+from reference.reading import Refusal, read_sheet, reading_line
 from reference.rules import all_rules, certificates_needed, rule_count
 from reference.runs import (RETURN, Move, first_break, first_owed_break,
                             in_caller, make_move, missing, start)
@@ -73,8 +74,7 @@ def is_true(rule):
 
 
 def example(name):
-    path = HERE.parent / "examples" / name
-    return read_sheet(assemble(path.read_text(encoding="utf-8")))
+    return read_sheet(assemble((EXAMPLES / name).read_text(encoding="utf-8")))
 
 
 class SheetsToTry(unittest.TestCase):
@@ -123,18 +123,8 @@ class SheetsToTry(unittest.TestCase):
 
     def test_close_in_a_loop(self):
         """No point conditions get the loop with open accepted."""
-        sheet = example("close_loop_open.txt")
-        draws = Draws(2)
-        for _ in range(300):
-            trees = [random_tree(draws, draws.between(1, 4), [0, 1, 2])
-                     for _ in range(4)] + [ALL, NOTHING]
-            conditions = sheet.conditions + trees
-            points = [Point(*(draws.below(len(conditions)) for _ in range(3)))
-                      for _ in sheet.points]
-            methods = [sheet.methods[0]._replace(trace=1), sheet.methods[1]]
-            tried = r.with_certificates(Sheet(conditions, points, methods,
-                                              sheet.steps, []))
-            self.assertIn("unproved", load_line(r.encode(tried)))
+        for case in closing_loops(2, 300):
+            self.assertTrue(load_line(case.data).startswith(case.line))
 
 
 class Conditions(unittest.TestCase):
@@ -331,7 +321,7 @@ def witness(left_tree, right_tree):
 
 class Loader(unittest.TestCase):
     def test_special_sheets(self):
-        for case in special_cases():
+        for case in chain(special_cases(), last_cases()):
             line = load_line(case.data)
             self.assertTrue(faults.agrees(case, line), f"{case.label}: {line}")
 
@@ -600,7 +590,8 @@ class Texts(unittest.TestCase):
             self.assertEqual(parse_expression(show(tree), {}), tree)
 
     def test_errors_have_lines(self):
-        head = ["condition a = empty", "point p past a own a due a"]
+        head = ["condition a = empty", "point p past a own a due a",
+                "event e = 7"]
         for line, message in (
                 ("poinr", "unknown statement 'poinr'"),
                 ("condition a = any", "'a' is already defined"),
@@ -612,12 +603,19 @@ class Texts(unittest.TestCase):
                  "the first method is a primitive"),
                 ("step p -> p event 32", "event 32 is above 31"),
                 ("step p -> p call f", "unknown method 'f'"),
+                ("event f = 7", "event 7 is already named 'e'"),
+                ("condition deep = " + "(" * 5000 + "a" + ")" * 5000,
+                 "the expression is nested more than 100 deep"),
+                ("condition stars = a" + "*" * 5000,
+                 "the condition has 5001 records, more than 96"),
                 ("condition long = " + "any " * 32,
                  "the condition has 32 leaves, more than 31")):
             with self.assertRaises(TextError) as caught:
                 assemble("\n".join(head + [line]))
             self.assertEqual((caught.exception.line, str(caught.exception)),
-                             (3, message))
+                             (4, message))
+        with self.assertRaisesRegex(TextError, "byte order mark"):
+            assemble("\ufeff" + "\n".join(head))
 
     def test_disassemble(self):
         lines = disassemble(M)
@@ -633,10 +631,35 @@ class Texts(unittest.TestCase):
 
 
 class Programs(unittest.TestCase):
-    def run_module(self, *arguments, data=b""):
-        result = subprocess.run([sys.executable, "-m", *arguments], cwd=HERE,
+    def run_python(self, *arguments, data=b"", folder=HERE):
+        result = subprocess.run([sys.executable, *arguments], cwd=folder,
                                 input=data, capture_output=True, check=False)
         return result.returncode, result.stdout, result.stderr.decode()
+
+    def run_module(self, *arguments, data=b""):
+        return self.run_python("-m", *arguments, data=data)
+
+    def test_any_folder(self):
+        """The assembler and the disassembler are run as files, too."""
+        programs = HERE / "sheets"
+        self.assertEqual(self.run_python(
+            programs / "assemble.py", "minimal.txt", folder=EXAMPLES),
+            (0, M, ""))
+        code, out, _ = self.run_python(
+            programs / "disassemble.py", "minimal.sheet", folder=EXAMPLES)
+        self.assertEqual((code, out.splitlines()[-1]), (0, b"accepted 6"))
+        code, out, error = self.run_python(
+            programs / "disassemble.py", "no_such_sheet", folder=EXAMPLES)
+        self.assertEqual((code, out, error[:15]), (1, b"", "no_such_sheet: "))
+
+    def test_reader_that_stops(self):
+        """`disassemble | head` ends without a message."""
+        lines = [sys.executable, "-m", "sheets.disassemble",
+                 EXAMPLES / "gate.sheet"]
+        with subprocess.Popen(lines, cwd=HERE, stdout=subprocess.PIPE,
+                              stderr=subprocess.PIPE) as program:
+            program.stdout.close()
+            self.assertEqual((program.stderr.read(), program.wait()), (b"", 0))
 
     def test_programs(self):
         self.assertEqual(self.run_module("reference.loader", data=M),
@@ -653,6 +676,86 @@ class Programs(unittest.TestCase):
                          (0, b"refused 1 at 65536\n", ""))
 
 
+class Examples(unittest.TestCase):
+    """examples/: the texts, the sheets and the table of its README agree."""
+
+    def test_every_file_is_listed(self):
+        names = [case.label for case in listed_examples()]
+        self.assertEqual(len(names), len(set(names)))
+        sheets = {f"{name}.sheet" for name in names}
+        texts = {f"{name}.txt" for name in names} - {"cut.txt"}
+        self.assertEqual({path.name for path in EXAMPLES.iterdir()},
+                         sheets | texts | {"README.md"})
+
+    def test_texts(self):
+        """Each text gives its sheet, and has the line of the table."""
+        listed = {f"{case.label}.txt": case for case in listed_examples()}
+        for case in examples():
+            self.assertEqual((case.data, case.line), listed[case.label][1:],
+                             case.label)
+        self.assertEqual(listed["cut.txt"].data, M[:-1])
+
+    def test_lines(self):
+        for case in listed_examples():
+            self.assertEqual(load_line(case.data), case.line, case.label)
+
+
+class Documents(unittest.TestCase):
+    """What docs/SHEETS.md shows is so."""
+
+    SHOWN = (HERE.parent / "docs" / "SHEETS.md").read_text(encoding="utf-8")
+    SECTIONS = ("event", "condition", "point", "method", "primitive", "step")
+
+    def section(self, title):
+        return re.search(rf"^##+ {title}$(.*?)^##", self.SHOWN, re.M | re.S)[1]
+
+    def test_from_nothing(self):
+        """Each answer is that of the text up to it; points are replaced."""
+        start_, steps = self.section("A sheet from nothing").split("\n1.  ")
+        statements, answers = {}, []
+        for line in (re.findall(r"^ {4}(\w.*)", start_, re.M)
+                     + re.findall(r"^ {8}(\w.*)", steps, re.M)):
+            words = line.split()
+            if words[0] in self.SECTIONS:
+                key = line if words[0] == "step" else (words[0], words[1])
+                statements[key] = line
+                continue
+            data = assemble("\n".join(sorted(
+                statements.values(),
+                key=lambda one: self.SECTIONS.index(one.split()[0]))))
+            self.assertEqual(load_line(data), line)
+            answers.append(line)
+        self.assertEqual((len(answers), answers[-1]), (8, "accepted 21"))
+        self.assertEqual(data, (EXAMPLES / "one_round.sheet").read_bytes())
+
+    def test_loop(self):
+        """The lines for three choices of due in the loop with open."""
+        shown = re.findall(r"^ {4}(unproved .*)$",
+                           self.section("A loop that cannot be accepted"), re.M)
+        source = (EXAMPLES / "close_loop_open.txt").read_text(encoding="utf-8")
+        lines = []
+        for top, mid in (("body", "rest"), ("all", "all"),
+                         ("then_advance", "all")):
+            changed = source.replace("due body", f"due {top}")
+            changed = changed.replace("due rest", f"due {mid}")
+            lines.append(load_line(assemble(changed)))
+        self.assertEqual(lines, shown)
+
+    def test_sheets_to_try(self):
+        rows = re.findall(r"^\| (?!bytes|--)(.*) \| `(.*)` \|$",
+                          self.section("Sheets to try"), re.M)
+        self.assertEqual([line for _, line in rows],
+                         [case.line for case in starred()])
+        for (shown, line), case in zip(rows, starred()):
+            if re.fullmatch(r"[0-9A-F ]+", shown):
+                self.assertEqual(bytes.fromhex(shown), case.data)
+            self.assertEqual(load_line(case.data), line)
+
+    def test_least_sheet(self):
+        shown = re.findall(r"^ {4}([ a].*)$", self.section("Bytes"), re.M)
+        self.assertEqual(disassemble(M), shown)
+
+
 class Proofs(unittest.TestCase):
     """What the proofs say of an example is of its bytes."""
 
@@ -666,7 +769,7 @@ class Proofs(unittest.TestCase):
                         for word in re.findall(r"\w+", body))
 
     def test_activations(self):
-        sheet = (HERE.parent / "examples" / "activations.sheet").read_bytes()
+        sheet = (EXAMPLES / "activations.sheet").read_bytes()
         self.assertEqual(sheet, self.bytes_of(
             "sheet", "verdict/proofs/Activations.antt",
             "verdict/specs/Cases.antt"))
@@ -692,6 +795,12 @@ class Vectors(unittest.TestCase):
     def test_sheets(self):
         self.assertEqual([load_line(data) for data in self.cases("sheet_cases")],
                          self.lines("sheet_cases"))
+
+    def test_examples(self):
+        """Every sheet of examples/ is a stored case, with its line."""
+        stored = dict(zip(self.cases("sheet_cases"), self.lines("sheet_cases")))
+        for case in listed_examples():
+            self.assertEqual(stored.get(case.data), case.line, case.label)
 
     def test_words(self):
         data, at = (CRATES / "word_cases" / "stdin").read_bytes(), 0

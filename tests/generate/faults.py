@@ -130,6 +130,18 @@ def certificate_faults(seed, sheets, each):
                 made += 1
 
 
+def clauses_2_and_3(sheet):
+    """For each certificate, one more pair that fails clauses 2 and 3: its place
+    ends a word, and its set has just one place, which the right side lacks."""
+    for index, rule in enumerate(certified(sheet)):
+        place = max(bits(places_of(rule.left).ending))
+        pair = (place, 1 << places_of(rule.right).leaves + 1)
+        pairs = sheet.certificates[index] + [pair]
+        yield Case(f"rule {rule.number} clauses 2 and 3",
+                   encode(with_certificate(sheet, index, pairs)),
+                   unproved(rule, 2, len(pairs) - 1))
+
+
 def subjects(plan, number):
     """The methods or steps of a plan that have the rule."""
     if number < 3:

@@ -16,7 +16,7 @@ from sheets.records import encode
 
 from . import faults
 from .refusals import Case, reading_cases, without_repeats
-from .special import special_cases, wide_sides
+from .special import last_cases, special_cases, wide_sides
 from .true_sheets import large_true_sheets, true_sheets
 from .words import word_groups
 
@@ -60,6 +60,7 @@ def all_sheet_cases():
     yield from faults.changed_records(62, sheets[:80])
     yield from faults.near_record_changes(63, sheets[:80])
     yield from faults.random_bytes(64, 60)
+    yield from last_cases()
 
 
 def write_cases(folder, name, cases, line_of):

@@ -1,4 +1,5 @@
 """Single sheets of document 01 that no random choice is likely to make."""
+import re
 from pathlib import Path
 
 from reference.conditions import ANY, EITHER, EMPTY, JOIN, LEAF, STAR
@@ -9,10 +10,13 @@ from sheets.assemble import assemble
 from sheets.records import encode, with_certificates
 
 from .draws import Draws
+from .faults import clauses_2_and_3
 from .refusals import Case
 from .trees import random_tree
 
 EXAMPLES = Path(__file__).resolve().parent.parent.parent / "examples"
+# Examples that stand behind all other stored cases.
+LATER_EXAMPLES = {"one_round.txt"}
 ANY_STAR = (STAR, (LEAF, ANY))
 EMPTY_TREE = (EMPTY,)
 M = bytes.fromhex("0206" "07000000000000" "0900000000000000000000"
@@ -25,6 +29,13 @@ def examples():
         text = path.read_text(encoding="utf-8")
         line = text.splitlines()[0].removeprefix("# loader: ")
         yield Case(path.name, assemble(text), line)
+
+
+def listed_examples():
+    """The sheets that the table of examples/README.md lists, with its lines."""
+    readme = (EXAMPLES / "README.md").read_text(encoding="utf-8")
+    for name, line in re.findall(r"^\| (\w+) \|.*\| `(.*)` \|$", readme, re.M):
+        yield Case(name, (EXAMPLES / f"{name}.sheet").read_bytes(), line)
 
 
 def starred():
@@ -153,7 +164,7 @@ def event_edges():
 
 
 def closing_loops(seed, count):
-    """The loop with close last and event 0 first, with random point conditions
+    """The loop with close last and open first, with random point conditions
     and all reachable pairs: never accepted."""
     text = (EXAMPLES / "close_loop_open.txt").read_text(encoding="utf-8")
     sheet, draws = read_sheet(assemble(text)), Draws(seed)
@@ -170,9 +181,9 @@ def closing_loops(seed, count):
 
 
 def special_cases():
-    """All single sheets."""
+    """All single sheets but those of last_cases."""
     yield from starred()
-    yield from examples()
+    yield from (case for case in examples() if case.label not in LATER_EXAMPLES)
     yield full_limits()
     yield many_calls()
     yield from wide_sides()
@@ -181,3 +192,10 @@ def special_cases():
     yield from truncations()
     yield from event_edges()
     yield from closing_loops(66, 60)
+
+
+def last_cases():
+    """What came later: the stored cases before it stay as they are."""
+    yield from listed_examples()
+    for data in (M, (EXAMPLES / "close_loop.sheet").read_bytes()):
+        yield from clauses_2_and_3(read_sheet(data))

@@ -58,12 +58,15 @@ def parse_postfix(records):
 
 def postfix(tree):
     """The list of (kind, set) of a tree, in postfix order."""
-    if tree[0] == LEAF:
-        return [(LEAF, tree[1])]
-    records = []
-    for item in tree[1:]:
-        records += postfix(item)
-    return records + [(tree[0], 0)]
+    records, todo = [], [tree]
+    while todo:
+        kind, *items = todo.pop()
+        if kind == LEAF:
+            records.append((kind, items[0]))
+        else:
+            records.append((kind, 0))
+            todo += items
+    return records[::-1]
 
 
 def _visit(tree, sets, follow):

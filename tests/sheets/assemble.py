@@ -1,8 +1,9 @@
-"""Assembler for the sheets of document 01: python3 -m sheets.assemble FILE > sheet
+"""Assembler for the sheets of document 01: python3 sheets/assemble.py FILE > sheet
 
 One statement a line; # starts a comment; names are defined before use.
+docs/SHEETS.md has the whole form.
 
-    event open = 0
+    event NAME = NUMBER
     condition NAME = EXPRESSION
     point NAME past CONDITION own CONDITION due CONDITION
     primitive NAME pre CONDITION trace CONDITION future CONDITION
@@ -14,15 +15,19 @@ One statement a line; # starts a comment; names are defined before use.
 The certificates are all reachable pairs, breadth first.
 """
 import sys
+from pathlib import Path
+
+if not __package__:  # run as a file, from any folder
+    sys.path[0] = str(Path(__file__).resolve().parent.parent)
 
 from reference.conditions import LEAF, postfix
 from reference.reading import (CALL_STEP, EVENT_STEP, MAX_BYTES, MAX_CONDITIONS,
                                MAX_LEAVES, MAX_METHODS, MAX_POINTS, MAX_RECORDS,
                                MAX_STEPS, PASS_STEP, Method, Point, Sheet, Step)
 
-from .expressions import (NAME, RESERVED, ExpressionError, event_number,
-                          parse_expression)
-from .records import TooManyPairs, encode, with_certificates
+from sheets.expressions import (NAME, RESERVED, ExpressionError, event_number,
+                                parse_expression)
+from sheets.records import TooManyPairs, encode, with_certificates
 
 
 class TextError(Exception):
@@ -89,7 +94,11 @@ class Assembler:
         if not words[2].isdecimal():
             self.fail(f"'{words[2]}' is not a number")
         name = self.new_name(words[0], self.words)
-        self.words[name] = event_number(words[2], {})
+        number = event_number(words[2], {})
+        for other, value in self.words.items():
+            if value == number:
+                self.fail(f"event {number} is already named '{other}'")
+        self.words[name] = number
 
     def condition(self, words):
         if len(words) < 3 or words[1] != "=":
@@ -179,6 +188,9 @@ class Assembler:
 
 def assemble(text):
     """The bytes of the sheet that the text stands for."""
+    if text.startswith("\ufeff"):
+        raise TextError(1, "the text starts with a byte order mark (BOM); "
+                        "save it without one")
     assembler = Assembler()
     for number, line in enumerate(text.splitlines(), 1):
         assembler.statement(number, line)
@@ -191,7 +203,7 @@ def assemble(text):
 
 def main(arguments):
     if len(arguments) != 1:
-        return "usage: python3 -m sheets.assemble FILE > sheet"
+        return "usage: assemble.py FILE > sheet"
     try:
         with open(arguments[0], encoding="utf-8") as file:
             data = assemble(file.read())

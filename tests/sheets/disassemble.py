@@ -1,9 +1,15 @@
-"""Disassembler for the sheets of document 01: python3 -m sheets.disassemble < sheet
+"""Disassembler for the sheets of document 01: python3 sheets/disassemble.py SHEET
 
+Without SHEET, standard input is read.
 Prints a sheet record by record: offset, kind, what it is. The last line is
 the loader's. A sheet that reading refuses is printed up to the refusal.
 """
+import os
 import sys
+from pathlib import Path
+
+if not __package__:  # run as a file, from any folder
+    sys.path[0] = str(Path(__file__).resolve().parent.parent)
 
 from reference.loader import load_line
 from reference.reading import (CALL_STEP, END_CERTIFICATE, END_CONDITION,
@@ -13,7 +19,7 @@ from reference.reading import (CALL_STEP, END_CERTIFICATE, END_CONDITION,
 from reference.conditions import LEAF
 from reference.rules import all_rules
 
-from .expressions import show, show_set
+from sheets.expressions import show, show_set
 
 ITEM_NAMES = ("leaf", "EMPTY", "JOIN", "EITHER", "STAR")
 KEYS = {POINT: ("past", "own", "due"), PRIMITIVE: ("pre", "trace", "future"),
@@ -97,5 +103,23 @@ def disassemble(data):
     return list(Printer().lines(data)) + [load_line(data)]
 
 
+def main(arguments):
+    if len(arguments) > 1:
+        return "usage: disassemble.py [SHEET]"
+    try:
+        if arguments:
+            data = Path(arguments[0]).read_bytes()
+        else:
+            data = sys.stdin.buffer.read()
+    except OSError as error:
+        return f"{arguments[0] if arguments else 'standard input'}: {error}"
+    try:
+        print("\n".join(disassemble(data)), flush=True)
+    except BrokenPipeError:
+        # Who reads has enough; what is left to write goes nowhere.
+        os.dup2(os.open(os.devnull, os.O_WRONLY), sys.stdout.fileno())
+    return None
+
+
 if __name__ == "__main__":
-    print("\n".join(disassemble(sys.stdin.buffer.read())))
+    sys.exit(main(sys.argv[1:]))

@@ -15,6 +15,7 @@ TOKEN = re.compile(r"\s*([A-Za-z_][A-Za-z0-9_]*|[0-9]+|.)")
 NAME = re.compile(r"[A-Za-z_][A-Za-z0-9_]*\Z")
 RESERVED = {"any", "none", "empty", "not", "finally", "globally", "next"}
 ANY_LEAF = (LEAF, ANY)
+MAX_DEPTH = 100
 
 
 class ExpressionError(Exception):
@@ -56,6 +57,7 @@ class Parser:
     def __init__(self, text, names):
         self.tokens = tokens_of(text)
         self.at = 0
+        self.depth = 0
         self.names = names
 
     def peek(self):
@@ -100,6 +102,15 @@ class Parser:
         return tree
 
     def item(self):
+        self.depth += 1
+        if self.depth > MAX_DEPTH:
+            raise ExpressionError(f"the expression is nested more than "
+                                  f"{MAX_DEPTH} deep")
+        tree = self.item_inside()
+        self.depth -= 1
+        return tree
+
+    def item_inside(self):
         token = self.take()
         if token == "(":
             tree = self.either()
@@ -158,6 +169,8 @@ def parse_expression(text, names):
 def show_set(events):
     if events == ANY:
         return "any"
+    if events.bit_count() > EVENTS // 2:
+        return "not " + show_set(ANY & ~events)
     return "{" + ",".join(str(event) for event in bits(events)) + "}"
 
 
@@ -165,7 +178,8 @@ def show(tree, strength=0):
     """The expression of a tree; parse_expression gives the tree back."""
     kind = tree[0]
     if kind == LEAF:
-        return show_set(tree[1])
+        text = show_set(tree[1])
+        return f"({text})" if strength == 2 and " " in text else text
     if kind == EMPTY:
         return "empty"
     if kind == STAR:
