@@ -1,4 +1,4 @@
--- A run of a small sheet by evaluation, move by move; and a sheet whose rules are true.
+-- A run of a small sheet by evaluation, move by move, and its rules' numbers and subjects; and a sheet whose rules are true.
 use mathlib.Core.Path.{_≡_, refl}
 use Prim.Native.Nat.{ℕ}
 use mathlib.Core.Bool.{true, false}
@@ -97,6 +97,18 @@ states before (x ∷ xs) = let now = before ++ (x .made ∷ []) in run sheet 0 n
 pub rows-are-so : states [] rows ≡ map (λ x. x .leaves) rows
 unfolding run
 rows-are-so = refl
+
+-- Its rules, in the order of testing: of the first method, of methods 0 and 1, and of the steps 0 to 4 ----------------------
+
+rule-numbers : map (λ x. x .number) (rules sheet)
+    ≡ 1 ∷ 2 ∷ 3 ∷ 4 ∷ 5 ∷ 6 ∷ 3 ∷ 4 ∷ 5 ∷ 6 ∷ 7 ∷ 8 ∷ 9 ∷ 10 ∷ 11 ∷ 12 ∷ 13 ∷ 14 ∷ 15 ∷ 16 ∷ 17 ∷ 10 ∷ 11 ∷ 12 ∷ 13 ∷ 14 ∷ 7 ∷ 8 ∷ 9 ∷ []
+unfolding rules
+rule-numbers = refl
+
+rule-subjects : map (λ x. x .subject) (rules sheet)
+    ≡ 0 ∷ 0 ∷ 0 ∷ 0 ∷ 0 ∷ 0 ∷ 1 ∷ 1 ∷ 1 ∷ 1 ∷ 0 ∷ 0 ∷ 0 ∷ 1 ∷ 1 ∷ 1 ∷ 1 ∷ 1 ∷ 2 ∷ 2 ∷ 2 ∷ 3 ∷ 3 ∷ 3 ∷ 3 ∷ 3 ∷ 4 ∷ 4 ∷ 4 ∷ []
+unfolding rules
+rule-subjects = refl
 
 -- Document 01's sheet M ---------------------------------------------------------------------------------------------------
 
