@@ -1,5 +1,6 @@
 -- More sheets and words by evaluation: refusal 10, rules of steps and of the empty word, the word test's own refusals and their order.
 use mathlib.Core.Path.{_≡_, refl}
+use mathlib.Core.Bool.{true, false}
 use mathlib.Core.Option.{none, some}
 use mathlib.Core.List.{List, [], _∷_, _++_, map}
 use Prim.Native.Nat.{ℕ}
@@ -8,7 +9,7 @@ use lib.ListN.{take, replicate}
 use Rattle.condition.specs.Condition.{Word}
 use Rattle.sheet.specs.Model.{large}
 use Rattle.verdict.specs.Verdict.{verdictOf}
-use Rattle.verdict.specs.WordTest.{Answer, untested, wordTest}
+use Rattle.verdict.specs.WordTest.{Answer, tested, untested, wordTest}
 use Rattle.verdict.specs.Line.{ascii, line}
 use Rattle.verdict.specs.Cases.{point0, method0, startOnly, threeStarts, M, W}
 
@@ -70,6 +71,8 @@ words-asked =
     ∷ asked 1 (replicate 4097 32) (untested 14 none)
     ∷ asked 0 (replicate 4097 32) (untested 12 none)
     ∷ asked 0 (0 ∷ 32 ∷ 33 ∷ []) (untested 13 (some 1))
+    ∷ asked 0 (2 ∷ 31 ∷ []) (tested true)
+    ∷ asked 0 (31 ∷ []) (tested false)
     ∷ []
 
 words-answered : map (λ x. wordTest large W (x .number) (x .word)) words-asked ≡ map (λ x. x .answer) words-asked
