@@ -21,13 +21,16 @@ use Rattle.verdict.proofs.Loads.{loads}
 
 -- For every list of rules -----------------------------------------------------------------------------------------------
 
+-- certificates that are exact for the rules
+abbrev pub HaveExact : ℕ → List Rule → Type 0
+HaveExact events xs = (cs : List Certificate) × EachCertified (ExactFor events) xs cs
+
 -- EXACT CERTIFICATES EXIST, whether or not the rules are true. They may be more than a sheet's bytes hold.
-pub exact-exist : (events : ℕ) (xs : List Rule) → (cs : List Certificate) × EachCertified (ExactFor events) xs cs
+pub exact-exist : (events : ℕ) (xs : List Rule) → HaveExact events xs
 exact-exist events [] = ([], done)
 exact-exist events (x ∷ xs) = go (x .claim) (exact-exist events xs)
   where
-    go : (claim : Claim) → (cs : List Certificate) × EachCertified (ExactFor events) xs cs
-        → (cs : List Certificate) × EachCertified (ExactFor events) ((x .number of x .subject says claim) ∷ xs) cs
+    go : (claim : Claim) → HaveExact events xs → HaveExact events ((x .number of x .subject says claim) ∷ xs)
     go (a isIn b) (cs, h) = let (c, e) = exact-exists events a b in (c ∷ cs, certified e h)
     go (holdsEmpty a) (cs, h) = (cs, bare tt h)
 
