@@ -34,12 +34,12 @@ listed-in right c q t l h =
     any-in (length c) _ j m (rw f (and-in (eqb q q) (within right t t) (eqb-refl q) (within-itself right t l)))
 
 module _ (events : ℕ) (left right : Condition) where
-  reach-place : {p : Pair} → Reachable events left right p → p .place < places left
+  pub reach-place : {p : Pair} → Reachable events left right p → p .place < places left
   unfolding places
   reach-place start = suc-le-suc zero-le
   reach-place (onward {l = l} e q r h n t) = suc-le-suc (follows-leaf left l q n .1)
 
-  reach-set : {p : Pair} → Reachable events left right p → p .set < 2 ^ places right
+  pub reach-set : {p : Pair} → Reachable events left right p → p .set < 2 ^ places right
   reach-set start = start-lt right
   reach-set (onward {s = s} e q r h n t) = step-lt right s e
 

@@ -33,6 +33,7 @@ cases =
     ∷ case (event 2) emptyOrTwoFirst (pair 0 1 ∷ []) (fault 4 0 2 1)
     ∷ case (event 2) emptyOrTwoFirst (pair 0 1 ∷ pair 1 6 ∷ []) (fault 4 0 2 1)
     ∷ case (event 2) emptyOrTwoFirst (pair 0 1 ∷ pair 1 2 ∷ pair 2 2 ∷ []) (fault 2 2 0 0)
+    -- of that set no place ends a word, so clause 3 fails at the same pair
     ∷ case (event 2) emptyOrTwoFirst (pair 0 1 ∷ pair 1 2 ∷ pair 1 8 ∷ []) (fault 2 2 0 0)
     -- the last event, 31, is tested too
     ∷ case (event 31) (any 32) (pair 0 1 ∷ []) (fault 4 0 31 1)

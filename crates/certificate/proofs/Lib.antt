@@ -2,4 +2,5 @@ pub mod Findings
 pub mod Valid
 pub mod Sound
 pub mod Complete
+pub mod Exists
 pub mod Examples

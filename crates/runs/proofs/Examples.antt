@@ -1,4 +1,4 @@
--- A run of a small sheet by evaluation, move by move; and a sheet whose rules are true.
+-- A run of a small sheet by evaluation, move by move, and its rules' numbers and subjects; and a sheet whose rules are true.
 use mathlib.Core.Path.{_≡_, refl}
 use Prim.Native.Nat.{ℕ}
 use mathlib.Core.Bool.{true, false}
@@ -17,13 +17,13 @@ abbrev with-body : ℕ → ℕ → Method
 with-body entry exit = record { pre = 0; trace = 0; future = 0; body = some (record { entry = entry; exit = exit }) }
 
 -- Method 0 goes from point 0 to 3: it raises 2, calls method 1 and passes. Method 1 goes from point 4 to 5: it calls the primitive 2, whose
--- trace is the one word 7.
+-- trace is the one word 7. Step 4 leads out of the exit of method 0.
 abbrev sheet : Sheet
 sheet = record {
   conditions = star (any 32) ∷ event 7 ∷ [];
   points = anywhere ∷ anywhere ∷ anywhere ∷ anywhere ∷ anywhere ∷ anywhere ∷ [];
   methods = with-body 0 3 ∷ with-body 4 5 ∷ record { pre = 0; trace = 1; future = 0; body = none } ∷ [];
-  steps = event-step 0 1 2 ∷ call-step 1 2 1 ∷ pass-step 2 3 ∷ call-step 4 5 2 ∷ [];
+  steps = event-step 0 1 2 ∷ call-step 1 2 1 ∷ pass-step 2 3 ∷ call-step 4 5 2 ∷ event-step 3 3 5 ∷ [];
   certificates = [];
 }
 
@@ -83,9 +83,10 @@ rows =
     ∷ (by-step 2 [] leaves midway (2 ∷ 7 ∷ []) 3 (of-0 ∷ []) ((of-1 returned-at (2 ∷ 7 ∷ [])) ∷ (of-2 returned-at (2 ∷ 7 ∷ [])) ∷ []))
     -- method 0 returns, and the run ends
     ∷ (return leaves at-end)
-    -- moves after the end
+    -- moves after the end, also by a step whose from is the point where control is
     ∷ (return leaves at-end)
     ∷ (by-step 2 [] leaves at-end)
+    ∷ (by-step 4 [] leaves at-end)
     ∷ []
 
 -- the states of a run of the moves before, then each row's
@@ -96,6 +97,18 @@ states before (x ∷ xs) = let now = before ++ (x .made ∷ []) in run sheet 0 n
 pub rows-are-so : states [] rows ≡ map (λ x. x .leaves) rows
 unfolding run
 rows-are-so = refl
+
+-- Its rules, in the order of testing: of the first method, of methods 0 and 1, and of the steps 0 to 4 ----------------------
+
+rule-numbers : map (λ x. x .number) (rules sheet)
+    ≡ 1 ∷ 2 ∷ 3 ∷ 4 ∷ 5 ∷ 6 ∷ 3 ∷ 4 ∷ 5 ∷ 6 ∷ 7 ∷ 8 ∷ 9 ∷ 10 ∷ 11 ∷ 12 ∷ 13 ∷ 14 ∷ 15 ∷ 16 ∷ 17 ∷ 10 ∷ 11 ∷ 12 ∷ 13 ∷ 14 ∷ 7 ∷ 8 ∷ 9 ∷ []
+unfolding rules
+rule-numbers = refl
+
+rule-subjects : map (λ x. x .subject) (rules sheet)
+    ≡ 0 ∷ 0 ∷ 0 ∷ 0 ∷ 0 ∷ 0 ∷ 1 ∷ 1 ∷ 1 ∷ 1 ∷ 0 ∷ 0 ∷ 0 ∷ 1 ∷ 1 ∷ 1 ∷ 1 ∷ 1 ∷ 2 ∷ 2 ∷ 2 ∷ 3 ∷ 3 ∷ 3 ∷ 3 ∷ 3 ∷ 4 ∷ 4 ∷ 4 ∷ []
+unfolding rules
+rule-subjects = refl
 
 -- Document 01's sheet M ---------------------------------------------------------------------------------------------------
 

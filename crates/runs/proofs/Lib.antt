@@ -1,5 +1,6 @@
 pub mod Alike
 pub mod Amiss
+pub mod Unsafe
 pub mod Rules
 pub mod Count
 pub mod Adds

@@ -13,3 +13,4 @@ pub mod Symbols
 pub mod Postfix
 pub mod Certified
 pub mod Bounded
+pub mod Examples

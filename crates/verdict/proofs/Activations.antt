@@ -1,22 +1,18 @@
 -- The sheet of examples/activations, from its bytes: it is accepted, so what its runs owe is promised.
 use mathlib.Core.Path.{_≡_, refl}
-use mathlib.Core.Bool.{Bool, true, _&&_}
 use mathlib.Core.List.{List, [], _∷_, _++_, List·Memᴰ·head, List·Memᴰ·tail}
-use Prim.Native.Nat.{ℕ, _<_}
+use Prim.Native.Nat.{ℕ}
 use native.Mathlib.Omega.{arith}
-use lib.Dec.{T, ltb, ltb→lt}
-use Rattle.bits.proofs.Tests.{and-out}
 use Rattle.condition.specs.Condition.{Word, Holds}
 use Rattle.sheet.specs.Model.{large}
-use Rattle.sheet.specs.Each.{Each, nil, cons}
-use Rattle.sheet.proofs.Each.{each-getD, each-head, each-tail}
-use Rattle.sheet.specs.Record.{Bytes}
+use Rattle.sheet.proofs.Each.{each-head, each-tail}
 use Rattle.sheet.specs.Sheet.{condition}
 use Rattle.sheet.specs.Decode.{sheetOf}
 use Rattle.runs.specs.Runs.{return, by-step, run}
 use Rattle.runs.proofs.Alike.{visits, to-first}
 use Rattle.verdict.specs.Verdict.{accepted, verdictOf}
 use Rattle.verdict.specs.Cases.{startOnly}
+use Rattle.verdict.proofs.Bytes.{small, are-bytes}
 use Rattle.verdict.proofs.Loads.{loads}
 
 -- The bytes -------------------------------------------------------------------------------------------------------------
@@ -76,20 +72,6 @@ is-accepted : verdictOf large sheet ≡ accepted 22
 unfolding sheet verdictOf
 is-accepted = refl
 
--- each is a byte
-small : List ℕ → Bool
-small [] = true
-small (b ∷ s) = ltb b 256 && small s
-
-all-small : (s : List ℕ) → T (small s) → Each (λ b. b < 256) s
-unfolding small
-all-small [] h = nil
-all-small (b ∷ s) h = let (x, y) = and-out (ltb b 256) (small s) h in cons (ltb→lt b 256 x) (all-small s y)
-
-are-bytes : Bytes sheet
-unfolding sheet small
-are-bytes = each-getD (λ b. b < 256) (all-small sheet tt) 0 (omega arith)
-
 -- What it owes ----------------------------------------------------------------------------------------------------------
 
 -- the sheet that the bytes stand for, whose runs are looked at in runs/proofs/Alike
@@ -103,7 +85,7 @@ stands-for = (refl, refl, refl, refl)
 -- The promise, where the first activation returns after event 2 and control is in the outermost: 2 and any word of the due there lie in what the
 -- primitive asked.
 met-in-outermost : (v : Word) → Holds (condition visits 2) v → Holds (condition visits 3) (2 ∷ v)
-unfolding sheet sheetOf run
+unfolding sheet sheetOf run small
 met-in-outermost v h =
     let ms = to-first ++ (by-step 3 [] ∷ return ∷ []) in
-    each-head (each-tail (loads large sheet (omega arith) are-bytes .owing 22 is-accepted ms)) (List·Memᴰ·tail (List·Memᴰ·head refl)) v h
+    each-head (each-tail (loads large sheet (omega arith) (are-bytes sheet tt) .owing 22 is-accepted ms)) (List·Memᴰ·tail (List·Memᴰ·head refl)) v h

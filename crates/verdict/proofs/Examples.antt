@@ -1,5 +1,6 @@
 -- More sheets and words by evaluation: refusal 10, rules of steps and of the empty word, the word test's own refusals and their order.
 use mathlib.Core.Path.{_≡_, refl}
+use mathlib.Core.Bool.{true, false}
 use mathlib.Core.Option.{none, some}
 use mathlib.Core.List.{List, [], _∷_, _++_, map}
 use Prim.Native.Nat.{ℕ}
@@ -8,7 +9,7 @@ use lib.ListN.{take, replicate}
 use Rattle.condition.specs.Condition.{Word}
 use Rattle.sheet.specs.Model.{large}
 use Rattle.verdict.specs.Verdict.{verdictOf}
-use Rattle.verdict.specs.WordTest.{Answer, untested, wordTest}
+use Rattle.verdict.specs.WordTest.{Answer, tested, untested, wordTest}
 use Rattle.verdict.specs.Line.{ascii, line}
 use Rattle.verdict.specs.Cases.{point0, method0, startOnly, threeStarts, M, W}
 
@@ -29,6 +30,10 @@ pass0 = 0x0C ∷ 0 ∷ 0 ∷ 0 ∷ 0 ∷ []
 abbrev passing : List ℕ → List ℕ
 passing certificates = (0x02 ∷ 0x06 ∷ []) ++ (point0 ++ (method0 0 ++ (pass0 ++ (threeStarts ++ certificates))))
 
+-- an event step from point 0 to itself
+abbrev event0 : List ℕ
+event0 = 0x0A ∷ 0 ∷ 0 ∷ 0 ∷ 0 ∷ 0 ∷ []
+
 sheets : List Printed
 sheets =
     printed (take 20 M) "refused 10 at 20"
@@ -36,6 +41,13 @@ sheets =
     ∷ printed (passing threeStarts) "accepted 9"
     ∷ printed (passing (startOnly ++ (0x0E ∷ startOnly))) "unproved rule 16 step 0 clause 1 pair 0 event 0 place 0"
     ∷ printed ((0x01 ∷ 0x01 ∷ 0 ∷ 0 ∷ 0 ∷ 0x06 ∷ []) ++ (point0 ++ (method0 0 ++ threeStarts))) "unproved rule 1 method 0 clause 5 pair 0 event 0 place 0"
+    -- the last rule of a method: its future, 0 any number of times, is not in the due of its exit, which is EMPTY
+    ∷ printed
+    ((0x02 ∷ 0x06 ∷ 0x01 ∷ 0x01 ∷ 0 ∷ 0 ∷ 0 ∷ 0x05 ∷ 0x06 ∷ []) ++ (point0 ++ ((0x09 ∷ 0 ∷ 0 ∷ 0 ∷ 0 ∷ 1 ∷ 0 ∷ 0 ∷ 0 ∷ 0 ∷ 0 ∷ []) ++ threeStarts)))
+    "unproved rule 6 method 0 clause 4 pair 0 event 0 place 1"
+    -- the first rule of a step
+    ∷ printed ((0x02 ∷ 0x06 ∷ []) ++ (point0 ++ (method0 0 ++ (event0 ++ (threeStarts ++ threeStarts)))))
+    "unproved rule 7 step 0 clause 4 pair 0 event 0 place 1"
     ∷ []
 
 sheets-print : map (λ x. line (verdictOf large (x .bytes))) sheets ≡ map (λ x. ascii (x .prints)) sheets
@@ -59,6 +71,8 @@ words-asked =
     ∷ asked 1 (replicate 4097 32) (untested 14 none)
     ∷ asked 0 (replicate 4097 32) (untested 12 none)
     ∷ asked 0 (0 ∷ 32 ∷ 33 ∷ []) (untested 13 (some 1))
+    ∷ asked 0 (2 ∷ 31 ∷ []) (tested true)
+    ∷ asked 0 (31 ∷ []) (tested false)
     ∷ []
 
 words-answered : map (λ x. wordTest large W (x .number) (x .word)) words-asked ≡ map (λ x. x .answer) words-asked

@@ -3,8 +3,10 @@ pub mod Judged
 pub mod RulesMet
 pub mod Loads
 pub mod Facts
+pub mod Bytes
 pub mod Loop
 pub mod Activations
 pub mod WordTest
 pub mod Cases
 pub mod Examples
+pub mod Witnesses

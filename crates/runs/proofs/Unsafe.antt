@@ -1,0 +1,150 @@
+-- Runs that are not safe, one for each thing that demand 3 asks: pre, trace and future, of the outermost call and of an inner one. Each sheet
+-- differs in one condition of one method from a sheet whose same runs are safe.
+use mathlib.Core.Path.{_≡_, refl}
+use mathlib.Core.Bool.{false≢true}
+use mathlib.Core.Option.{some}
+use mathlib.Core.List.{List, [], _∷_, _++_}
+use Prim.Native.Nat.{ℕ}
+use Rattle.condition.specs.Condition.{Condition, empty, join, event}
+use Rattle.condition.proofs.Words.{words}
+use Rattle.sheet.specs.Each.{nil, cons}
+use Rattle.sheet.proofs.Each.{each-head, each-tail}
+use Rattle.sheet.specs.Sheet.{Point, Method, event-step, call-step, Sheet}
+use Rattle.runs.specs.Runs.{Move, return, by-step, run, Safe}
+
+-- The sheets --------------------------------------------------------------------------------------------------------------
+
+-- a method by its conditions pre, trace and future, and its entry and exit
+abbrev method : ℕ → ℕ → ℕ → ℕ → ℕ → Method
+method pre trace future entry exit =
+    record { pre = pre; trace = trace; future = future; body = some (record { entry = entry; exit = exit }) }
+
+-- runs don't look at a point's conditions
+abbrev somewhere : Point
+somewhere = record { past = 0; own = 0; due = 0 }
+
+abbrev all-three : Condition
+all-three = join (event 0) (join (event 1) (event 2))
+
+-- Method 0 goes from point 0 to 3: it raises 0, calls method 1 and raises 2. Method 1 goes from point 4 to 5 and raises 1. Each condition holds
+-- one word: the empty word, 0, 1, 2, and 0 1 2. The methods' conditions are given by their numbers, the outer method's first.
+abbrev sheet : ℕ → ℕ → ℕ → ℕ → ℕ → ℕ → Sheet
+sheet pre0 trace0 future0 pre1 trace1 future1 = record {
+  conditions = empty ∷ event 0 ∷ event 1 ∷ event 2 ∷ all-three ∷ [];
+  points = somewhere ∷ somewhere ∷ somewhere ∷ somewhere ∷ somewhere ∷ somewhere ∷ [];
+  methods = method pre0 trace0 future0 0 3 ∷ method pre1 trace1 future1 4 5 ∷ [];
+  steps = event-step 0 1 0 ∷ call-step 1 2 1 ∷ event-step 4 5 1 ∷ event-step 2 3 2 ∷ [];
+  certificates = [];
+}
+
+-- the moves to where method 1 is open, to where it has returned, and to the end
+abbrev to-inner : List Move
+to-inner = by-step 0 [] ∷ by-step 1 [] ∷ []
+
+abbrev to-return : List Move
+to-return = to-inner ++ (by-step 2 [] ∷ return ∷ [])
+
+abbrev to-end : List Move
+to-end = to-return ++ (by-step 3 [] ∷ return ∷ [])
+
+-- Runs that are not safe --------------------------------------------------------------------------------------------------
+
+-- Each sheet differs from `kept`, below, in one condition of one method; of `kept` the same runs are safe.
+
+-- the pre of method 0 lacks the empty word: while it is open, and when it has returned
+abbrev pre-outer : Sheet
+pre-outer = sheet 1 4 0 1 2 3
+
+pub pre-of-open-outermost : Safe pre-outer (run pre-outer 0 []) → ⊥
+unfolding run
+pre-of-open-outermost s = words (event 0) [] .1 (each-head (s .began-well))
+
+pub pre-of-returned-outermost : Safe pre-outer (run pre-outer 0 to-end) → ⊥
+unfolding run
+pre-of-returned-outermost s = words (event 0) [] .1 (each-head (s .began-well))
+
+-- the pre of method 1 lacks the word 0: while it is open, and when it has returned
+abbrev pre-inner : Sheet
+pre-inner = sheet 0 4 0 0 2 3
+
+pub pre-of-open-inner : Safe pre-inner (run pre-inner 0 to-inner) → ⊥
+unfolding run
+pre-of-open-inner s = words empty (0 ∷ []) .1 (each-head (s .began-well))
+
+pub pre-of-returned-inner : Safe pre-inner (run pre-inner 0 to-return) → ⊥
+unfolding run
+pre-of-returned-inner s = words empty (0 ∷ []) .1 (each-head (each-tail (s .began-well)))
+
+-- the trace of method 0 lacks the word 0 1 2
+abbrev trace-outer : Sheet
+trace-outer = sheet 0 0 0 1 2 3
+
+pub trace-of-outermost : Safe trace-outer (run trace-outer 0 to-end) → ⊥
+unfolding run
+trace-of-outermost s = words empty (0 ∷ 1 ∷ 2 ∷ []) .1 (each-head (s .raised-well))
+
+-- the trace of method 1 lacks the word 1
+abbrev trace-inner : Sheet
+trace-inner = sheet 0 4 0 1 0 3
+
+pub trace-of-inner : Safe trace-inner (run trace-inner 0 to-return) → ⊥
+unfolding run
+trace-of-inner s = words empty (1 ∷ []) .1 (each-head (s .raised-well))
+
+-- the future of method 0 lacks the empty word
+abbrev future-outer : Sheet
+future-outer = sheet 0 4 1 1 2 3
+
+pub future-of-outermost : Safe future-outer (run future-outer 0 to-end) → ⊥
+unfolding run
+future-of-outermost s = words (event 0) [] .1 (each-head (s .ended-well refl))
+
+-- the future of method 1 lacks the word 2
+abbrev future-inner : Sheet
+future-inner = sheet 0 4 0 1 2 0
+
+pub future-of-inner : Safe future-inner (run future-inner 0 to-end) → ⊥
+unfolding run
+future-of-inner s = words empty (2 ∷ []) .1 (each-head (each-tail (s .ended-well refl)))
+
+-- The same runs, safe ------------------------------------------------------------------------------------------------------
+
+-- method 0 begins with no events, raises 0 1 2, and nothing follows; method 1 begins after 0 and raises 1, and 2 follows
+abbrev kept : Sheet
+kept = sheet 0 4 0 1 2 3
+
+-- the methods' conditions change nothing in these runs
+pub same-runs : (a b c d e f : ℕ)
+    → (run (sheet a b c d e f) 0 [] ≡ run kept 0 [])
+    × (run (sheet a b c d e f) 0 to-inner ≡ run kept 0 to-inner)
+    × (run (sheet a b c d e f) 0 to-return ≡ run kept 0 to-return)
+    × (run (sheet a b c d e f) 0 to-end ≡ run kept 0 to-end)
+unfolding run
+same-runs a b c d e f = (refl, refl, refl, refl)
+
+pub kept-at-start : Safe kept (run kept 0 [])
+unfolding run
+kept-at-start = record { began-well = cons refl nil; raised-well = nil; ended-well = λ e. absurd (false≢true e) }
+
+pub kept-in-inner : Safe kept (run kept 0 to-inner)
+unfolding run
+kept-in-inner =
+    record { began-well = cons (words (event 0) (0 ∷ []) .0 tt) (cons refl nil); raised-well = nil; ended-well = λ e. absurd (false≢true e) }
+
+pub kept-at-return : Safe kept (run kept 0 to-return)
+unfolding run
+kept-at-return =
+    record {
+      began-well = cons refl (cons (words (event 0) (0 ∷ []) .0 tt) nil);
+      raised-well = cons (words (event 1) (1 ∷ []) .0 tt) nil;
+      ended-well = λ e. absurd (false≢true e);
+    }
+
+pub kept-at-end : Safe kept (run kept 0 to-end)
+unfolding run
+kept-at-end =
+    record {
+      began-well = cons refl (cons (words (event 0) (0 ∷ []) .0 tt) nil);
+      raised-well = cons (words all-three (0 ∷ 1 ∷ 2 ∷ []) .0 tt) (cons (words (event 1) (1 ∷ []) .0 tt) nil);
+      ended-well = λ e. cons refl (cons (words (event 2) (2 ∷ []) .0 tt) nil);
+    }

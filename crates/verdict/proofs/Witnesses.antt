@@ -1,0 +1,87 @@
+-- The second half of demand 3 is not empty: exact certificates exist for every list of rules, so for each sheet with true rules there are
+-- certificates that pass all its tests; and document 01's sheet M is such a sheet, with exact certificates.
+use mathlib.Core.Path.{_≡_, refl, sym}
+use mathlib.Core.List.{List, [], _∷_}
+use Prim.Native.Nat.{ℕ, zero, suc, _<_}
+use native.Mathlib.Omega.{arith}
+use Rattle.condition.specs.Condition.{empty, _⊆_}
+use Rattle.condition.specs.Places.{first, follow, follows}
+use Rattle.certificate.specs.Certificate.{Pair, pair, Certificate, pairOf, Reachable, start, onward, Exact}
+use Rattle.certificate.proofs.Exists.{exact-exists}
+use Rattle.sheet.specs.Model.{Model, large}
+use Rattle.sheet.specs.Each.{nil, cons}
+use Rattle.sheet.specs.Decode.{sheetOf}
+use Rattle.runs.specs.Rules.{Claim, _isIn_, holdsEmpty, Rule, _of_says_, rules, AllMet, count}
+use Rattle.verdict.specs.Verdict.{Report, accepted, certificatesNeeded, verdictOf}
+use Rattle.verdict.specs.Promise.{WellFormed, EachCertified, done, bare, certified, Passes, ExactFor, Loads}
+use Rattle.verdict.specs.Cases.{M}
+use Rattle.verdict.proofs.RulesMet.{all-pass}
+use Rattle.verdict.proofs.Bytes.{small, are-bytes}
+use Rattle.verdict.proofs.Loads.{loads}
+
+-- For every list of rules -----------------------------------------------------------------------------------------------
+
+-- certificates that are exact for the rules
+abbrev pub HaveExact : ℕ → List Rule → Type 0
+HaveExact events xs = (cs : List Certificate) × EachCertified (ExactFor events) xs cs
+
+-- EXACT CERTIFICATES EXIST, whether or not the rules are true. They may be more than a sheet's bytes hold.
+pub exact-exist : (events : ℕ) (xs : List Rule) → HaveExact events xs
+exact-exist events [] = ([], done)
+exact-exist events (x ∷ xs) = go (x .claim) (exact-exist events xs)
+  where
+    go : (claim : Claim) → HaveExact events xs → HaveExact events ((x .number of x .subject says claim) ∷ xs)
+    go (a isIn b) (cs, h) = let (c, e) = exact-exists events a b in (c ∷ cs, certified e h)
+    go (holdsEmpty a) (cs, h) = (cs, bare tt h)
+
+-- so for true rules there are certificates with which each passes its test
+pub passing-exist : (events : ℕ) (xs : List Rule) → AllMet xs → (cs : List Certificate) × EachCertified (Passes events) xs cs
+passing-exist events xs met = let (cs, h) = exact-exist events xs in (cs, all-pass events h met)
+
+-- Document 01's sheet M ---------------------------------------------------------------------------------------------------
+
+-- the premises of the second half of demand 3, of the bytes s
+pub record Premises (I : Model) (s : List ℕ) : Type 0 where
+  pub well-formed : WellFormed I s
+  pub true-rules : AllMet (rules (sheetOf I s))
+  pub exact : EachCertified (ExactFor (I .events)) (rules (sheetOf I s)) (sheetOf I s .certificates)
+
+-- EMPTY has place 0 alone, which nothing follows
+only-start : {p : Pair} → Reachable 32 empty empty p → p ≡ pair 0 1
+unfolding first follow follows
+only-start start = refl
+only-start (onward {l = zero} e q r h n t) = absurd n
+only-start (onward {l = suc l} e q r h n t) = absurd n
+
+in-itself : empty ⊆ empty
+in-itself w h = h
+
+start-is-exact : Exact 32 empty empty (pair 0 1 ∷ [])
+start-is-exact =
+    record {
+      start-first = tt;
+      only-reachable = reached;
+      all-reachable = λ p r. (0, omega arith, sym (only-start r));
+    }
+  where
+    reached : (i : ℕ) → i < 1 → Reachable 32 empty empty (pairOf (pair 0 1 ∷ []) i)
+    reached zero l = start
+    reached (suc i) l = absurd (omega arith)
+
+pub M-premises : Premises large M
+unfolding sheetOf rules certificatesNeeded
+M-premises =
+    record {
+      well-formed = record { reading = _; read = refl; enough = refl };
+      true-rules = cons refl (cons refl (cons in-itself (cons refl (cons in-itself (cons in-itself nil)))));
+      exact = bare tt (bare tt (certified start-is-exact (bare tt (certified start-is-exact (certified start-is-exact done)))));
+    }
+
+-- so whatever keeps the promise accepts M, and the definition does
+pub promised-M : {answer : Report} → Loads large M answer → answer ≡ accepted 6
+unfolding sheetOf count
+promised-M l = l .complete (M-premises .well-formed) (M-premises .true-rules) (M-premises .exact)
+
+pub M-accepted : verdictOf large M ≡ accepted 6
+unfolding small
+M-accepted = promised-M (loads large M (omega arith) (are-bytes M tt))
