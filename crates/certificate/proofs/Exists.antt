@@ -106,15 +106,15 @@ module _ (events : ℕ) (left right : Condition) where
   AllReachable c = (p : Pair) → List·Memᴰ p c → Reached p
 
   -- c is grown: each of the allowed pairs that comes next after a listed one is listed
-  record Grown (allowed : List Pair) (c : Certificate) : Type 0 where
+  record Closure (allowed : List Pair) (c : Certificate) : Type 0 where
     grown : Certificate
     keeps : (p : Pair) → List·Memᴰ p c → List·Memᴰ p grown
     reachable : AllReachable (fromStart grown)
     closed : (q : Pair) → List·Memᴰ q allowed → T (isNext (fromStart grown) q) → List·Memᴰ q (fromStart grown)
 
-  module _ (u : Pair) (allowed : List Pair) (again : (c : Certificate) → AllReachable (fromStart c) → Grown allowed c) where
+  module _ (u : Pair) (allowed : List Pair) (again : (c : Certificate) → AllReachable (fromStart c) → Closure allowed c) where
     -- one more pair u is allowed: where it comes next, it is listed, and the list is grown again
-    allow : (c : Certificate) (g : Grown allowed c) (b : Bool) → isNext (fromStart (g .grown)) u ≡ b → Grown (u ∷ allowed) c
+    allow : (c : Certificate) (g : Closure allowed c) (b : Bool) → isNext (fromStart (g .grown)) u ≡ b → Closure (u ∷ allowed) c
     allow c g false e =
         record {
           grown = g .grown;
@@ -151,10 +151,10 @@ module _ (events : ℕ) (left right : Condition) where
             (List·Memᴰ·cases-cons k))
             (List·Memᴰ·cases-cons m)
 
-        more : Grown allowed (u ∷ g .grown)
+        more : Closure allowed (u ∷ g .grown)
         more = again (u ∷ g .grown) with-u
 
-  grow : (allowed : List Pair) (c : Certificate) → AllReachable (fromStart c) → Grown allowed c
+  grow : (allowed : List Pair) (c : Certificate) → AllReachable (fromStart c) → Closure allowed c
   grow [] c h = record { grown = c; keeps = λ p m. m; reachable = h; closed = λ q m. absurd (List·Memᴰ·not-nil m) }
   grow (u ∷ allowed) c h = let g = grow allowed c h in allow u allowed (grow allowed) c g (isNext (fromStart (g .grown)) u) refl
 
@@ -164,7 +164,7 @@ module _ (events : ℕ) (left right : Condition) where
   abbrev every : List Pair
   every = pairsBelow (places left) (2 ^ places right)
 
-  all-grown : Grown every []
+  all-grown : Closure every []
   all-grown = grow every [] (λ p m. subst Reached (sym (List·Memᴰ·eq-of-singleton m)) start)
 
   all-listed : {p : Pair} → Reached p → List·Memᴰ p (fromStart (all-grown .grown))

@@ -4,11 +4,13 @@ use Rattle.sheet.specs.Model.{Model}
 use Rattle.sheet.specs.Decode.{sheetOf}
 use Rattle.sheet.proofs.Postfix.{conditions-in-postfix}
 use Rattle.sheet.proofs.Named.{names-exist}
+use Rattle.runs.specs.Rules.{rules}
 use Rattle.runs.proofs.Count.{counted}
 use Rattle.runs.proofs.Moves.{made-by-trace}
 use Rattle.runs.proofs.Grow.{histories-grow}
 use Rattle.verdict.specs.Facts.{FactsHold}
 use Rattle.verdict.proofs.Loads.{loads, promised-when-open}
+use Rattle.verdict.proofs.Witnesses.{exact-exist}
 
 pub facts : (M : Model) → FactsHold M
 facts M wide s bytes =
@@ -20,5 +22,6 @@ facts M wide s bytes =
       counted = counted (sheetOf M s);
       made-by-trace = made-by-trace (sheetOf M s);
       histories-grow = histories-grow (sheetOf M s) 0;
+      exact-exist = exact-exist (M .events) (rules (sheetOf M s));
       owing-when-open = promised-when-open (loads M s wide bytes);
     }

@@ -9,6 +9,7 @@ use lib.ListN.{length, getElem?}
 use lib.Dec.{T}
 use Rattle.condition.specs.Condition.{Condition, Word, Holds}
 use Rattle.condition.specs.Places.{nullable, accepts}
+use Rattle.certificate.specs.Certificate.{Certificate}
 use Rattle.sheet.specs.Model.{Model}
 use Rattle.sheet.specs.Each.{Each}
 use Rattle.sheet.specs.Sheet.{call-step, body}
@@ -20,6 +21,7 @@ use Rattle.runs.specs.Rules.{rules, count}
 use Rattle.runs.specs.Runs.{State, Grown, Move, MadeByTrace, run}
 use Rattle.runs.specs.Owing.{OwingWhenOpen}
 use Rattle.verdict.specs.Verdict.{accepted, verdictOf}
+use Rattle.verdict.specs.Promise.{EachCertified, ExactFor}
 
 pub record Facts (M : Model) (s : List ℕ) : Type 0 where
   -- the word test by places, and the test of the empty word, are the language: of every condition and every word, however long
@@ -36,6 +38,9 @@ pub record Facts (M : Model) (s : List ℕ) : Type 0 where
       → body (sheetOf M s) m ≡ none → MadeByTrace (sheetOf M s) t i q m w
   -- histories only grow, so that what a history adds to an earlier one is what was raised since
   pub histories-grow : (ms : List Move) → Grown (run (sheetOf M s) 0 ms)
+  -- exact certificates exist for the rules of every sheet, so none with true rules is beyond the second half of demand 3 (they may be more than a
+  -- sheet's bytes hold)
+  pub exact-exist : (cs : List Certificate) × EachCertified (ExactFor (M .events)) (rules (sheetOf M s)) cs
   -- request 12 of an accepted sheet, said with no numbers: what a returned call is owed binds wherever control is in a call that was open when it began
   pub owing-when-open : (n : ℕ) → verdictOf M s ≡ accepted n → (ms : List Move) → OwingWhenOpen (sheetOf M s) 0 ms
 
