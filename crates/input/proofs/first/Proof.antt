@@ -1,10 +1,10 @@
--- `line::first` meets its contract.
+-- `input::first` meets its contract.
 use mathlib.Core.Path.{sym}
 use native.Mathlib.Omega.{arith}
 use borrow.Author.Needs.{needs}
 use lib.Seq.{length-take-le, take-all}
-use Rattle.line.proofs.first.Statement.{statement}
-use Rattle.line.proofs.first.Tie as tie
+use Rattle.input.proofs.first.Statement.{statement}
+use Rattle.input.proofs.first.Tie as tie
 
 slice-aggregate-result : tie.Need-slice-aggregate-result
 slice-aggregate-result c = sym (length-take-le _ (c .before .before .args .room .now) (c .before .if1 .taken))

@@ -1,11 +1,11 @@
--- `line::write_answer` meets its contract: in each arm the answer is known, and so is its line.
+-- `line::put_answer` meets its contract: in each arm the answer is known, and so is its line.
 use native.Mathlib.Omega.{arith}
 use borrow.Author.Needs.{needs}
 use Rattle.verdict.specs.Line.{ascii}
 use Rattle.line.proofs.Lines.{yes-line, no-line, untested-line}
 use Rattle.line.proofs.Put.{begins}
-use Rattle.line.proofs.write_answer.Statement.{statement}
-use Rattle.line.proofs.write_answer.Tie as tie
+use Rattle.line.proofs.put_answer.Statement.{statement}
+use Rattle.line.proofs.put_answer.Tie as tie
 
 enum-told : tie.Need-enum-told
 enum-told c = search needs
@@ -48,8 +48,8 @@ returns-3 c =
     let arm = c .before .before .before in
     rw (arm .a .given .1, untested-line) (begins (arm .before .before .pre) (omega arith) (c .put-refusal .ensures .0))
 
-pub write-answer-spec : {M : Type 1} → statement M
-write-answer-spec =
+pub put-answer-spec : {M : Type 1} → statement M
+put-answer-spec =
     tie.close
     (tie.spec
     enum-told

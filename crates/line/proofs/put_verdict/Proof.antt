@@ -1,11 +1,11 @@
--- `line::write_line` meets its contract: in each arm the verdict is known, and so is its line.
+-- `line::put_verdict` meets its contract: in each arm the verdict is known, and so is its line.
 use native.Mathlib.Omega.{arith}
 use borrow.Author.Needs.{needs}
 use Rattle.verdict.specs.Line.{ascii}
 use Rattle.line.proofs.Lines.{accepted-line, refused-line}
 use Rattle.line.proofs.Put.{begins}
-use Rattle.line.proofs.write_line.Statement.{statement}
-use Rattle.line.proofs.write_line.Tie as tie
+use Rattle.line.proofs.put_verdict.Statement.{statement}
+use Rattle.line.proofs.put_verdict.Tie as tie
 
 enum-known-v : tie.Need-enum-known-v
 enum-known-v c = search needs
@@ -44,8 +44,8 @@ returns-3 c =
     let arm = c .before .before .before in
     rw (arm .v3 .given .1) (begins (arm .before .before .pre) (omega arith) (c .put-unproved .ensures .0))
 
-pub write-line-spec : {M : Type 1} → statement M
-write-line-spec =
+pub put-verdict-spec : {M : Type 1} → statement M
+put-verdict-spec =
     tie.close
     (tie.spec
     enum-known-v
