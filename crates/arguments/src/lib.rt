@@ -1,7 +1,9 @@
 // The arguments of a program, the files that they name, and what is said on standard error about them. The kit has no contract for what is read
 // and written, so the functions that only print have none.
 ghost use mathlib.Core.Path.{_≡_};
+ghost use mathlib.Core.Bool.{true};
 ghost use Prim.Native.Nat.{_≤_};
+ghost use lib.ListN.{length};
 ghost use Rattle.input.specs.Input.{ReadInto};
 ghost use Rattle.arguments.specs.Decimal.{atMost, numberIn};
 ghost use Rattle.arguments.specs.Arguments.{NumberAtMost, EventsIn};
@@ -62,8 +64,10 @@ pub fn number_at(i: usize) -> Argument
     number_in(&room[..n])
 }
 
-// Whether argument i is this text.
-pub fn is_argument(i: usize, text: &[u8]) -> bool {
+// Whether argument i is this text. There is room for 4,096 bytes of it.
+pub fn is_argument(i: usize, text: &[u8]) -> bool
+    ensures { λ r. ⌜ (r ≡ true → length (now (text .entry)) ≤ 4096) ⌝ }
+{
     let mut room = io::buffer();
     let n = os::arg(i, &mut room);
     check::same(&room[..n], text)

@@ -1,4 +1,5 @@
 // Cases on standard input: a number of bytes, then as many bytes. The kit has no contract for what is read.
+ghost use mathlib.Core.Path.{_≡_};
 ghost use Prim.Native.Nat.{_≤_};
 ghost use lib.ListN.{length};
 ghost use Rattle.cases.specs.Bounds.{AtMost};
@@ -48,6 +49,7 @@ pub fn next_number() -> Number
 pub fn next_bytes(n: usize, room: &mut [u8]) -> usize
     ensures { λ r. ⌜ r ≤ n ⌝ }
     ensures { λ r. ⌜ r ≤ length (now (room .entry)) ⌝ }
+    ensures { λ _. ⌜ length (now (room .exit)) ≡ length (now (room .entry)) ⌝ }
 {
     if room.len() < n {
         return 0;
@@ -59,6 +61,7 @@ pub fn next_bytes(n: usize, room: &mut [u8]) -> usize
 // The next sheet: a number of four bytes and as many bytes; how many they are.
 pub fn next_sheet(room: &mut [u8]) -> Number
     ensures { λ r. ⌜ AtMost (length (now (room .entry))) r ⌝ }
+    ensures { λ _. ⌜ length (now (room .exit)) ≡ length (now (room .entry)) ⌝ }
 {
     let size = next_number();
     let Number::Value(n) = size else {
