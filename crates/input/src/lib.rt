@@ -1,5 +1,4 @@
 // Bytes from files and from standard input. No contract says which bytes a read gives: the kit has none for what is read.
-ghost use Prim.Native.Nat.{_≤_};
 ghost use mathlib.Core.Path.{_≡_};
 ghost use lib.ListN.{length, take};
 ghost use Rattle.input.specs.Input.{Within, ReadInto};

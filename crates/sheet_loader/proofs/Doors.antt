@@ -3,7 +3,6 @@ use mathlib.Core.Path.{_≡_, ap, subst, _∙_}
 use mathlib.Core.List.{List}
 use Prim.Native.Nat.{ℕ}
 use Rattle.sheet.specs.Model.{large}
-use Rattle.sheet.specs.Reading.{readSheet}
 use Rattle.verdict.specs.Verdict.{Report}
 use Rattle.verdict.specs.WordTest.{Answer}
 use Rattle.verdict.specs.Promise.{Loads, TestsWord}

@@ -2,7 +2,6 @@
 use mathlib.Core.Path.{_≡_, sym, ap}
 use mathlib.Core.List.{List}
 use Prim.Native.Nat.{ℕ}
-use lib.ListN.{getD}
 use Rattle.sheet.specs.Model.{Model}
 use Rattle.sheet.specs.Reading.{readSheet}
 use Rattle.reader.specs.declared.Read.{Read}

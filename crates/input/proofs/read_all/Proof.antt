@@ -1,6 +1,6 @@
 -- `input::read_all` meets its contract. The loop's invariant: what is read so far fits, and the slice is as long as it was.
 use mathlib.Core.Path.{_≡_, subst}
-use Prim.Native.Nat.{_+_, _-_, _≤_}
+use Prim.Native.Nat.{_-_, _≤_}
 use native.Mathlib.Omega.{arith}
 use borrow.Author.Needs.{needs}
 use lib.ListN.{length}
