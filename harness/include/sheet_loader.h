@@ -1,5 +1,16 @@
-/* The doors of the sheet loader. Slices are lent: the sheet and the word are
- * only read, and numbers are written to `out`, which holds at least 8. */
+/* The doors of the sheet loader.
+ *
+ * Slices are lent. The sheet and the word are only read. Where `out` has room
+ * for SHEET_LOADER_ROOM numbers, each door writes that many at its front:
+ *
+ *   out[0]     the status, which the door also returns
+ *   out[1]     document 01's number: 1 to 10 and 12 to 14 of a refusal, 11 of
+ *              an unproved sheet, 0 of any other answer
+ *   out[2]..   the values given below
+ *   the rest   0
+ *
+ * What `out` has behind them stays as it is. Where `out` is shorter, nothing
+ * is written, and SHEET_LOADER_NOT_WRITTEN is returned. */
 #ifndef SHEET_LOADER_H
 #define SHEET_LOADER_H
 
@@ -10,27 +21,38 @@
 extern "C" {
 #endif
 
+#define SHEET_LOADER_ROOM 8
+
+/* No answer has this status. */
+#define SHEET_LOADER_NOT_WRITTEN 0
+
 /* Stands for the place of a refusal that has none (12 and 14). */
 #define SHEET_LOADER_NO_PLACE SIZE_MAX
 
-/* Loads a sheet. Writes
- *   0, count                                          accepted
- *   1, number, place                                  refused
- *   2, rule, subject, clause, pair, event, place      unproved
+/* Loads a sheet.
+ *   ACCEPTED    count
+ *   REFUSED     place
+ *   UNPROVED    rule, subject, clause, pair, event, place
  * The subject is a method for rules 1 to 6 and a step from rule 7 on. */
-void api_load(const uint8_t *sheet, size_t sheet_len, size_t *out, size_t out_len);
+#define SHEET_LOADER_ACCEPTED 1
+#define SHEET_LOADER_REFUSED 2
+#define SHEET_LOADER_UNPROVED 3
+size_t sheet_loader_load(const uint8_t *sheet, size_t sheet_len, size_t *out, size_t out_len);
 
-/* Tests whether a condition of a sheet holds a word, one byte an event. Writes
- *   0                    no
- *   1                    yes
- *   2, number, place     refused */
-void api_word_test(const uint8_t *sheet, size_t sheet_len, size_t condition,
-                   const uint8_t *word, size_t word_len, size_t *out, size_t out_len);
+/* Tests whether a condition of a sheet holds a word, one byte an event.
+ *   YES
+ *   REFUSED     place
+ *   NO */
+#define SHEET_LOADER_YES 1
+#define SHEET_LOADER_NO 3
+size_t sheet_loader_word_test(const uint8_t *sheet, size_t sheet_len, size_t condition,
+                              const uint8_t *word, size_t word_len, size_t *out, size_t out_len);
 
-/* Reads a sheet, refusals 1 to 9 alone. Writes
- *   0, conditions, points, methods, steps, certificates     read
- *   1, number, place                                        refused */
-void api_read(const uint8_t *sheet, size_t sheet_len, size_t *out, size_t out_len);
+/* Reads a sheet, refusals 1 to 9 alone.
+ *   READ_WHOLE  conditions, points, methods, steps, certificates
+ *   REFUSED     place */
+#define SHEET_LOADER_READ_WHOLE 1
+size_t sheet_loader_read(const uint8_t *sheet, size_t sheet_len, size_t *out, size_t out_len);
 
 #ifdef __cplusplus
 }

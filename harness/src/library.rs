@@ -14,16 +14,24 @@ pub fn doors() -> Option<Doors> {
     Some(Doors { name: "library", load, word_test, read })
 }
 
+/// The numbers of include/sheet_loader.h.
 #[cfg(feature = "library")]
-mod linked {
-    use crate::answer::{Answer, Counts, Fault, Refusal, Verdict};
+#[allow(dead_code)]
+pub mod header {
+    include!(concat!(env!("OUT_DIR"), "/header.rs"));
+}
 
-    /// Every door writes at most this many numbers.
-    const NUMBERS: usize = 8;
-
+/// The doors as they are: a status, and numbers in `out`.
+#[cfg(feature = "library")]
+pub mod raw {
     extern "C" {
-        fn api_load(sheet: *const u8, sheet_len: usize, out: *mut usize, out_len: usize);
-        fn api_word_test(
+        fn sheet_loader_load(
+            sheet: *const u8,
+            sheet_len: usize,
+            out: *mut usize,
+            out_len: usize,
+        ) -> usize;
+        fn sheet_loader_word_test(
             sheet: *const u8,
             sheet_len: usize,
             condition: usize,
@@ -31,61 +39,84 @@ mod linked {
             word_len: usize,
             out: *mut usize,
             out_len: usize,
-        );
-        fn api_read(sheet: *const u8, sheet_len: usize, out: *mut usize, out_len: usize);
+        ) -> usize;
+        fn sheet_loader_read(
+            sheet: *const u8,
+            sheet_len: usize,
+            out: *mut usize,
+            out_len: usize,
+        ) -> usize;
     }
 
-    pub fn load(sheet: &[u8]) -> Verdict {
-        let mut out = [0; NUMBERS];
-        // The library reads the sheet and writes no more than `out` holds.
-        unsafe { api_load(sheet.as_ptr(), sheet.len(), out.as_mut_ptr(), NUMBERS) };
-        match out[0] {
-            0 => Verdict::Accepted(out[1]),
-            1 => Verdict::Refused(refusal(out[1], out[2])),
-            2 => {
-                let [_, rule, subject, clause, pair, event, place, _] = out;
-                let fault = Fault { clause, pair, event, place };
-                Verdict::Unproved { rule, subject, fault }
-            }
-            kind => panic!("api_load gave kind {kind}"),
-        }
+    // Each pointer comes with the length of its slice. The library reads the sheet
+    // and the word, and writes to `out` alone.
+
+    pub fn load(sheet: &[u8], out: &mut [usize]) -> usize {
+        unsafe { sheet_loader_load(sheet.as_ptr(), sheet.len(), out.as_mut_ptr(), out.len()) }
     }
 
-    pub fn word_test(sheet: &[u8], condition: usize, word: &[u8]) -> Answer {
-        let mut out = [0; NUMBERS];
-        // The library reads both slices and writes no more than `out` holds.
+    pub fn word_test(sheet: &[u8], condition: usize, word: &[u8], out: &mut [usize]) -> usize {
         unsafe {
-            api_word_test(
+            sheet_loader_word_test(
                 sheet.as_ptr(),
                 sheet.len(),
                 condition,
                 word.as_ptr(),
                 word.len(),
                 out.as_mut_ptr(),
-                NUMBERS,
+                out.len(),
             )
-        };
-        match out[0] {
-            0 => Answer::No,
-            1 => Answer::Yes,
-            2 => Answer::Refused(refusal(out[1], out[2])),
-            kind => panic!("api_word_test gave kind {kind}"),
+        }
+    }
+
+    pub fn read(sheet: &[u8], out: &mut [usize]) -> usize {
+        unsafe { sheet_loader_read(sheet.as_ptr(), sheet.len(), out.as_mut_ptr(), out.len()) }
+    }
+}
+
+#[cfg(feature = "library")]
+mod linked {
+    use super::{header, raw};
+    use crate::answer::{Answer, Counts, Fault, Refusal, Verdict};
+
+    pub fn load(sheet: &[u8]) -> Verdict {
+        let mut out = [0; header::ROOM];
+        match raw::load(sheet, &mut out) {
+            header::ACCEPTED => Verdict::Accepted(out[2]),
+            header::REFUSED => Verdict::Refused(refusal(&out)),
+            header::UNPROVED => {
+                let [_, _, rule, subject, clause, pair, event, place] = out;
+                let fault = Fault { clause, pair, event, place };
+                Verdict::Unproved { rule, subject, fault }
+            }
+            status => panic!("sheet_loader_load gave the status {status}"),
+        }
+    }
+
+    pub fn word_test(sheet: &[u8], condition: usize, word: &[u8]) -> Answer {
+        let mut out = [0; header::ROOM];
+        match raw::word_test(sheet, condition, word, &mut out) {
+            header::YES => Answer::Yes,
+            header::REFUSED => Answer::Refused(refusal(&out)),
+            header::NO => Answer::No,
+            status => panic!("sheet_loader_word_test gave the status {status}"),
         }
     }
 
     pub fn read(sheet: &[u8]) -> Result<Counts, Refusal> {
-        let mut out = [0; NUMBERS];
-        // The library reads the sheet and writes no more than `out` holds.
-        unsafe { api_read(sheet.as_ptr(), sheet.len(), out.as_mut_ptr(), NUMBERS) };
-        let [kind, conditions, points, methods, steps, certificates, _, _] = out;
-        match kind {
-            0 => Ok(Counts { conditions, points, methods, steps, certificates }),
-            1 => Err(refusal(out[1], out[2])),
-            kind => panic!("api_read gave kind {kind}"),
+        let mut out = [0; header::ROOM];
+        match raw::read(sheet, &mut out) {
+            header::READ_WHOLE => {
+                let [_, _, conditions, points, methods, steps, certificates, _] = out;
+                Ok(Counts { conditions, points, methods, steps, certificates })
+            }
+            header::REFUSED => Err(refusal(&out)),
+            status => panic!("sheet_loader_read gave the status {status}"),
         }
     }
 
-    fn refusal(number: usize, place: usize) -> Refusal {
-        Refusal { number, place: (place != usize::MAX).then_some(place) }
+    fn refusal(out: &[usize; header::ROOM]) -> Refusal {
+        let [_, number, place, ..] = *out;
+        Refusal { number, place: (place != header::NO_PLACE).then_some(place) }
     }
 }

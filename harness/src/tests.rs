@@ -1,5 +1,7 @@
 //! The starred cases of the document, and more.
 mod certificates;
+#[cfg(feature = "library")]
+mod doors;
 mod reading;
 mod runs;
 mod tools;

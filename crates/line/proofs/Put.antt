@@ -1,13 +1,13 @@
 -- What is put into a buffer, one piece behind the other.
-use mathlib.Core.Path.{_≡_, refl, _∙_}
+use mathlib.Core.Path.{_≡_, refl, sym, _∙_}
 use mathlib.Core.List.{List, [], _∷_, _++_, append-assoc}
 use Prim.Native.Nat.{ℕ, suc, _+_, _/_, _%_, _<_, _≤_}
 use native.Mathlib.Numerals.{add-one}
 use native.Mathlib.Omega.{arith}
-use lib.ListN.{length, length-append, set, take, getD}
-use lib.Seq.{sets, sets-eq, take-all, take-suc}
+use lib.ListN.{length, length-append, length-drop, set, take, drop, getD}
+use lib.Seq.{sets, sets-eq, take-all, take-at, take-suc}
 use Rattle.verdict.specs.Line.{decimal}
-use Rattle.line.specs.Put.{Put, Written}
+use Rattle.line.specs.Put.{Put, Written, Reads}
 use Rattle.line.proofs.Decimal.{one-digit, last-digit}
 
 sets-append : (l : List ℕ) (i : ℕ) (x y : List ℕ) → sets (sets l i x) (i + length x) y ≡ sets l i (x ++ y)
@@ -60,3 +60,12 @@ module _ {o : List ℕ} {i v : ℕ} (n : ℕ) where
 
   pub next-digit : {l : List ℕ} {j : ℕ} → 10 ≤ n → v ≡ 48 + n % 10 → Put o i (decimal (n / 10)) l j → Put o i (decimal n) (set l j v) (j + 1)
   next-digit {l} {j} h e p = rw (last-digit n h, e) (then p (byte l j (48 + n % 10)))
+
+-- The whole line --------------------------------------------------------------------------------------------------------
+
+pub reads : {a b x : List ℕ} {k : ℕ} → length a ≡ 160 → Written a x b k → Reads x b k
+reads {a} {x} l w = record {
+  front = rw (w .held) (take-at x (drop (length x) a) _ (sym (w .whole)));
+  short = w .short;
+  room = rw (w .held) (simp (length-append, length-drop) (omega (arith, w .whole, w .short)));
+}

@@ -2,7 +2,7 @@
 use Prim.Native.Nat.{ℕ, _+_, _≤_}
 use mathlib.Core.Path.{_≡_}
 use mathlib.Core.List.{List, _++_}
-use lib.ListN.{length, drop}
+use lib.ListN.{length, take, drop}
 use lib.Seq.{sets}
 
 -- `bytes` are stored from `at` on, and `next` is the place behind them
@@ -16,3 +16,9 @@ pub record Written (before : List ℕ) (line : List ℕ) (after : List ℕ) (siz
   pub whole : size ≡ length line
   -- 50 bytes of text, a rule's number of two digits and five numbers of 20 digits
   pub short : size ≤ 152
+
+-- the first `size` of 160 bytes are the line
+pub record Reads (line : List ℕ) (bytes : List ℕ) (size : ℕ) : Type 0 where
+  pub front : take size bytes ≡ line
+  pub short : size ≤ 152
+  pub room : length bytes ≡ 160

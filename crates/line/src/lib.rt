@@ -1,13 +1,13 @@
-// The line that a program prints, without the newline, written into a buffer.
+// The line that a program prints, without the newline.
 ghost use mathlib.Core.Path.{_≡_};
 ghost use mathlib.Core.List.{_++_};
 ghost use Prim.Native.Nat.{_+_, _≤_, _<_};
-ghost use lib.ListN.{length, take};
+ghost use lib.ListN.{length};
 ghost use Rattle.verdict.specs.Verdict.{unproved};
 ghost use Rattle.verdict.specs.Line.{ascii, decimal, subjectName, refusedLine, line, answerLine};
 ghost use Rattle.records.specs.Refusal.{numberOf, placeOf};
 ghost use Rattle.answers.specs.Answers.{ruleNumber, ruleSubject, reportOf, answerOf};
-ghost use Rattle.line.specs.Put.{Put, Written};
+ghost use Rattle.line.specs.Put.{Put, Written, Reads};
 use answers::Place;
 use answers::Rule;
 use answers::Verdict;
@@ -17,6 +17,12 @@ use answers::refusal_place;
 use answers::rule_number;
 use answers::rule_subject;
 use records::Refusal;
+
+// A line: the first bytes of a buffer, as many as `size` says.
+pub struct Line {
+    pub bytes: [u8; 160],
+    pub size: usize,
+}
 
 // A digit in ASCII.
 fn digit(n: usize) -> u8
@@ -121,9 +127,9 @@ fn put_unproved(
     put_value(b" place ", place, out, e)
 }
 
-// The line of the loading program. That the buffer's list has 160 elements is what its type says, and every caller knows it of its array;
-// behind a reference a contract has to say it.
-pub fn write_line(v: Verdict, out: &mut [u8; 160]) -> usize
+// That the buffer's list has 160 elements is what its type says, and the callers know it of their arrays; behind a reference a contract has to
+// say it.
+fn put_verdict(v: Verdict, out: &mut [u8; 160]) -> usize
     requires { ⌜ length (now out) ≡ 160 ⌝ }
     ensures { λ r. ⌜ Written (now (out .entry)) (line (reportOf v)) (now (out .exit)) r ⌝ }
 {
@@ -140,8 +146,7 @@ pub fn write_line(v: Verdict, out: &mut [u8; 160]) -> usize
     }
 }
 
-// The line of the word test's program.
-pub fn write_answer(a: WordAnswer, out: &mut [u8; 160]) -> usize
+fn put_answer(a: WordAnswer, out: &mut [u8; 160]) -> usize
     requires { ⌜ length (now out) ≡ 160 ⌝ }
     ensures { λ r. ⌜ Written (now (out .entry)) (answerLine (answerOf a)) (now (out .exit)) r ⌝ }
 {
@@ -152,9 +157,20 @@ pub fn write_answer(a: WordAnswer, out: &mut [u8; 160]) -> usize
     }
 }
 
-// The first n bytes of a buffer, or all where there are fewer.
-pub fn first<'a>(room: &'a [u8], n: usize) -> &'a [u8]
-    ensures { λ r. ⌜ now r ≡ take n (now (room .entry)) ⌝ }
+// The line of the loading program.
+pub fn verdict_line(v: Verdict) -> Line
+    ensures { λ r. ⌜ Reads (line (reportOf v)) (r .bytes) (r .size) ⌝ }
 {
-    if n <= room.len() { &room[..n] } else { room }
+    let mut bytes = [0u8; 160];
+    let size = put_verdict(v, &mut bytes);
+    Line { bytes, size }
+}
+
+// The line of the word test's program.
+pub fn answer_line(a: WordAnswer) -> Line
+    ensures { λ r. ⌜ Reads (answerLine (answerOf a)) (r .bytes) (r .size) ⌝ }
+{
+    let mut bytes = [0u8; 160];
+    let size = put_answer(a, &mut bytes);
+    Line { bytes, size }
 }

@@ -1,25 +1,27 @@
-// An answer's line on standard output.
+// An answer's line on standard output. Each function answers true where all was written; the kit has no contract for what is written.
+ghost use Prim.Native.Nat.{_≤_};
 use answers::Verdict;
 use answers::WordAnswer;
+use input::first;
 use libc::STDOUT_FILENO;
-use line::first;
-use line::write_answer;
-use line::write_line;
+use line::Line;
+use line::answer_line;
+use line::verdict_line;
 
-// The first n bytes of a buffer, and the end of the line.
-fn print_line(out: &[u8; 160], n: usize) {
-    io::write_all(STDOUT_FILENO, first(&out[..], n));
-    io::write_all(STDOUT_FILENO, b"\n");
+// The line and its end, in one piece.
+fn print_line(line: Line) -> bool
+    requires { ⌜ line .size ≤ 152 ⌝ }
+{
+    let mut bytes = line.bytes;
+    let end = line.size;
+    bytes[end] = b'\n';
+    io::write_all(STDOUT_FILENO, first(&bytes, end + 1))
 }
 
-pub fn print_verdict(v: Verdict) {
-    let mut out = [0u8; 160];
-    let n = write_line(v, &mut out);
-    print_line(&out, n);
+pub fn print_verdict(v: Verdict) -> bool {
+    print_line(verdict_line(v))
 }
 
-pub fn print_answer(a: WordAnswer) {
-    let mut out = [0u8; 160];
-    let n = write_answer(a, &mut out);
-    print_line(&out, n);
+pub fn print_answer(a: WordAnswer) -> bool {
+    print_line(answer_line(a))
 }

@@ -2,8 +2,8 @@
 use answers::Verdict;
 use cases::Number;
 use cases::next_sheet;
+use input::first;
 use libc::STDOUT_FILENO;
-use line::first;
 use printing::print_verdict;
 use reader::Read;
 use reader::read_sheet;
@@ -38,7 +38,9 @@ fn print_reading(sheet: &[u8]) {
     );
     match read {
         Read::Whole(contents) => print_tally(contents.tally),
-        Read::Refused(x) => print_verdict(Verdict::Refused(x)),
+        Read::Refused(x) => {
+            print_verdict(Verdict::Refused(x));
+        }
     }
 }
 

@@ -1,7 +1,7 @@
 // Loads the sheets on standard input and prints the line of each.
 use cases::Number;
 use cases::next_sheet;
-use line::first;
+use input::first;
 use loader::load;
 use printing::print_verdict;
 

@@ -4,7 +4,7 @@ use cases::next_bytes;
 use cases::next_number;
 use cases::next_sheet;
 use cases::next_short;
-use line::first;
+use input::first;
 use loader::word_test;
 use printing::print_answer;
 

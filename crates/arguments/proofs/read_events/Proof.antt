@@ -1,28 +1,28 @@
--- `arguments::read_events` ends: one argument fewer is left at each turn.
-use mathlib.Core.Path.{_≡_}
+-- `arguments::read_events` meets its contract. The loop's invariant: the events before argument i are stored.
 use Prim.Native.Nat.{_-_, _≤_}
+use native.Mathlib.Omega.{arith}
 use borrow.Author.Needs.{needs}
-use lib.ListN.{length}
+use Rattle.arguments.proofs.Storing.{Stored, none-yet, one-more}
 use Rattle.arguments.proofs.read_events.Statement.{statement}
 use Rattle.arguments.proofs.read_events.Tie as tie
 
 abbrev Inv-loop : tie.InvT-loop
-Inv-loop word₀ count i₀ word i = (3 ≤ i) × (length word ≡ length word₀)
+Inv-loop from word₀ count i₀ word i = (from ≤ i) × Stored word₀ word (i - from)
 
 abbrev μ-loop : tie.MeasureT-loop
-μ-loop word₀ count i₀ word i = count - i
+μ-loop from word₀ count i₀ word i = count - i
 
 arg-count-requires : tie.Need-arg-count-requires Inv-loop μ-loop
 arg-count-requires c κs = search needs
 
 loop-holds : tie.Need-loop-holds Inv-loop μ-loop
-loop-holds c = search needs
+loop-holds c = (search needs, none-yet _ (omega arith))
 
 sub-if1 : tie.Need-sub-if1 Inv-loop μ-loop
 sub-if1 c = search needs
 
-sub-t9 : tie.Need-sub-t9 Inv-loop μ-loop
-sub-t9 c = search needs
+sub-t10 : tie.Need-sub-t10 Inv-loop μ-loop
+sub-t10 c = search needs
 
 same-length : tie.Need-same-length Inv-loop μ-loop
 same-length c = search needs
@@ -61,10 +61,10 @@ loop-less : tie.Need-loop-less Inv-loop μ-loop
 loop-less c = search needs
 
 loop-again : tie.Need-loop-again Inv-loop μ-loop
-loop-again c = search needs
+loop-again c = (search needs, one-more (c .event-of .result) (c .before .before .before .before .before .before .before .loop .inv .1) (omega arith) (omega arith))
 
-sub-t12 : tie.Need-sub-t12 Inv-loop μ-loop
-sub-t12 c = search needs
+sub-t13 : tie.Need-sub-t13 Inv-loop μ-loop
+sub-t13 c = search needs
 
 same-length-3 : tie.Need-same-length-3 Inv-loop μ-loop
 same-length-3 c = search needs
@@ -81,7 +81,7 @@ read-events-spec =
     arg-count-requires
     loop-holds
     sub-if1
-    sub-t9
+    sub-t10
     same-length
     returns
     number-at-requires
@@ -95,6 +95,6 @@ read-events-spec =
     add-i
     loop-less
     loop-again
-    sub-t12
+    sub-t13
     same-length-3
     returns-3)

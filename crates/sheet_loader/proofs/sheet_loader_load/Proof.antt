@@ -1,0 +1,26 @@
+-- `sheet_loader::sheet_loader_load` meets its contract.
+use borrow.Author.Needs.{needs}
+use Rattle.sheet_loader.proofs.Doors.{loads-into}
+use Rattle.sheet_loader.proofs.sheet_loader_load.Statement.{statement}
+use Rattle.sheet_loader.proofs.sheet_loader_load.Tie as tie
+
+load-requires : tie.Need-load-requires
+load-requires c κs = search needs
+
+verdict-numbers-requires : tie.Need-verdict-numbers-requires
+verdict-numbers-requires c κs = search needs
+
+store-requires : tie.Need-store-requires
+store-requires c κs = search needs
+
+same-length : tie.Need-same-length
+same-length c = search needs
+
+returns : tie.Need-returns
+returns c =
+    let call = c .before .before .before .before in
+    loads-into (c .before .before .before .before .before .before .before .before .args .sheet .now) (c .before .before .store .ensures) (call .before .load .ensures) (call .verdict-numbers .ensures)
+
+pub sheet-loader-load-spec : {M : Type 1} → statement M
+sheet-loader-load-spec =
+    tie.close (tie.spec load-requires verdict-numbers-requires store-requires same-length returns)
