@@ -65,8 +65,8 @@ loop-again c = let a = c .before .before .before .before .before .before .before
     let Kept-on : List ℕ → Type 0 = λ rows. Keeping (certificateAt (a .pairs .now) 0) (a .m) (a .sets .now) (w .count + 1) rows in (
       omega (arith, pair-is c .0),
       ⊎-elim
-          (λ u. subst Kept-on (sym (u .2)) (keeping-more _ _ _ (w .inv .1) _ (u .0 .taken) (pair-is c .1) (u .1 .ensures)))
-          (λ u. subst Kept-on (sym (u .1)) (keeping-past _ _ _ (w .inv .1) (u .0 .left)))
+          (λ u. let l : w .count < 64 = omega (arith, u .0 .taken) in subst Kept-on (sym (u .2)) (keeping-more _ _ _ (w .inv .1) _ l (pair-is c .1) (u .1 .ensures)))
+          (λ u. let l : 64 ≤ w .count = omega (arith, u .0 .left) in subst Kept-on (sym (u .1)) (keeping-past _ _ _ (w .inv .1) l))
           (c .if1 .came),
     )
 
