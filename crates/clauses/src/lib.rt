@@ -87,7 +87,7 @@ pub fn ends_too(lends: u64, rends: u64, place: usize, set: u64) -> bool
     }
 }
 
-// Clauses 2 to 4 of one pair of `count`.
+// Clauses 2 to 4 of one pair of `count`. What is found is the same for every `start`.
 pub fn pair_fault(
     pairs: &[u8],
     t: Inclusion,
@@ -203,7 +203,7 @@ pub fn pairs_fault(
 }
 
 // The first fault of a certificate that is to show an inclusion, with the tables of the two sides. With n pairs it takes at most n * n looks at
-// a pair, each of which goes through the places of the pair's set at most once.
+// a pair, each of which goes through the places of the pair's set at most once. Where it finds none, the certificate has a pair.
 pub fn first_fault(
     pairs: &[u8],
     t: Inclusion,

@@ -1,9 +1,7 @@
 -- `clauses::pairs_fault` meets its contract. The loop's invariant: the first i pairs have no fault.
-use Prim.Native.Nat.{_-_, _≤_}
+use Prim.Native.Nat.{ℕ, _-_, _≤_}
 use mathlib.Core.Path.{_≡_, refl, sym, ap, subst, _∙_}
-use native.Mathlib.Nat.{le-antisymm}
 use native.Mathlib.Omega.{arith}
-use Prim.Native.Nat.{ℕ}
 use lib.ListN.{length}
 use Rattle.condition.specs.Condition.{Condition}
 use Rattle.certificate.specs.Certificate.{inOrder, fine}

@@ -4,7 +4,7 @@ use mathlib.Core.List.{List}
 use Prim.Native.Nat.{ℕ, suc, _+_, _*_, _≤_}
 use native.Mathlib.Omega.{arith}
 use lib.ListN.{length, drop}
-use Rattle.certificate.specs.Certificate.{Certificate, fine, fault, check}
+use Rattle.certificate.specs.Certificate.{fine, fault, check}
 use Rattle.sheet.specs.Decode.{certificateAt}
 use Rattle.walk.specs.Trial.{passed}
 use Rattle.clauses.specs.Clauses.{findingOf}
