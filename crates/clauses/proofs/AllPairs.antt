@@ -1,8 +1,9 @@
 -- Clause 1, and then the pairs in order.
 use mathlib.Core.Path.{_≡_, refl, sym, ap, ap₂, _∙_, subst}
 use mathlib.Core.Bool.{Bool, true, false, _&&_}
-use mathlib.Core.List.{List}
-use Prim.Native.Nat.{ℕ, _+_, _<_}
+use mathlib.Core.List.{List, [], _∷_}
+use Prim.Native.Nat.{ℕ, _+_, _<_, zero-le}
+use native.Mathlib.Omega.{arith}
 use native.Mathlib.Numerals.{add-one}
 use lib.ListN.{length}
 use lib.Dec.{eqb, ltb}
@@ -10,10 +11,9 @@ use borrow.Author.Tests.{eq-eqb, ne-eqb, ltb-true, ltb-false}
 use Rattle.condition.specs.Condition.{Condition}
 use Rattle.certificate.specs.Certificate.{Pair, pair, Certificate, pairOf, Finding, fine, fault, _then_, inOrder, unless, startsRight, pairFinding, check}
 use Rattle.certificate.proofs.Findings.{is-fine, inOrder-stops}
-use Rattle.sheet.specs.Decode.{certificateAt}
 use Rattle.pairs.specs.Found.{pairFound}
 use Rattle.pairs.specs.declared.Pair.the-variants.{At as PairAt, End}
-use Rattle.pairs.proofs.Laws.{certificate-pair, certificate-none}
+use Rattle.pairs.proofs.Laws.{found-pair, found-end}
 use Rattle.clauses.specs.Clauses.{findingOf, eachPair, PlacesOf, Active, Surveyed}
 use Rattle.clauses.specs.declared.Fault.{Fault}
 use Rattle.clauses.specs.declared.Fault.the-variants.{At}
@@ -45,6 +45,20 @@ pub first-found : {r : Fault} {k j e l : ℕ} (n i : ℕ) (f : ℕ → Finding) 
 first-found {r} {k} {j} {e} {l} n i f a h g x =
     ap findingOf x ∙ sym (inOrder-stops n f i a (is-fine (inOrder i f) h) k j e l (sym g ∙ ap findingOf x))
 
+-- where a fault is found, all is not fine
+pub not-fine : {r : Finding} {k i e l : ℕ} {A : Type 0} → r ≡ fault k i e l → r ≡ fine → A
+not-fine x y = let z : _≡_ {A = ℕ} 0 1 = cc in absurd (omega arith)
+
+-- The first pair --------------------------------------------------------------------------------------------------------
+
+starts-none : (c : Certificate) → 0 ≡ length c → startsRight c ≡ false
+starts-none [] h = refl
+starts-none (p ∷ c) h = absurd (omega arith)
+
+starts-with : (c : Certificate) {place set : ℕ} → 0 < length c → pairOf c 0 ≡ pair place set → startsRight c ≡ (eqb place 0 && eqb set 1)
+starts-with [] l h = absurd (omega arith)
+starts-with (p ∷ c) l h = ap (λ (q : Pair). eqb (q .place) 0 && eqb (q .set) 1) h
+
 module _ (events : ℕ) (l g : Condition) where
   -- what was found of a place and a set is what is found of pair i
   pub found-of : {place k set : ℕ} {v : Finding} (c : Certificate) (i : ℕ) → pairOf c i ≡ pair place set → k ≡ place
@@ -54,10 +68,7 @@ module _ (events : ℕ) (l g : Condition) where
 
   -- Clause 1 ------------------------------------------------------------------------------------------------------------
 
-  module _ (s : List ℕ) (from : ℕ) where
-    abbrev c : Certificate
-    c = certificateAt s from
-
+  module _ (c : Certificate) where
     check-is : check events l g c ≡ (unless (startsRight c) (fault 1 0 0 0) then inOrder (length c) (eachPair events l g c))
     unfolding check
     check-is = refl
@@ -65,12 +76,12 @@ module _ (events : ℕ) (l g : Condition) where
     at-clause1 : startsRight c ≡ false → fault 1 0 0 0 ≡ check events l g c
     at-clause1 f = ap (λ (b : Bool). unless b (fault 1 0 0 0) then inOrder (length c) (eachPair events l g c)) (sym f) ∙ sym check-is
 
-    pub no-pair : pairFound s from ≡ End → fault 1 0 0 0 ≡ check events l g c
-    no-pair h = at-clause1 (ap (λ (x : Certificate). startsRight x) (certificate-none s from h))
+    pub no-pair : pairFound c 0 ≡ End → fault 1 0 0 0 ≡ check events l g c
+    no-pair h = at-clause1 (starts-none c (found-end c 0 zero-le h))
 
-    module _ (place set next : ℕ) (h : pairFound s from ≡ PairAt place set next) where
+    module _ (place set : ℕ) (h : pairFound c 0 ≡ PairAt place set) where
       start-is : startsRight c ≡ (eqb place 0 && eqb set 1)
-      start-is = ap (λ (x : Certificate). startsRight x) (certificate-pair s from place set next h)
+      start-is = let (a, b) = found-pair c 0 h in starts-with c a b
 
       pub wrong-place : (place ≡ 0 → ⊥) → fault 1 0 0 0 ≡ check events l g c
       wrong-place n = at-clause1 (start-is ∙ ap (λ (b : Bool). b && eqb set 1) (ne-eqb place 0 n))

@@ -15,7 +15,7 @@ use Rattle.bits.proofs.Sets.{has-none, has-lt}
 use Rattle.bits.proofs.Masks.{nonzero-in}
 use Rattle.bits.proofs.Bitwise.{lt-has, has-without}
 use Rattle.certificate.specs.Certificate.{Pair, pair, Certificate, pairOf}
-use Rattle.clauses.specs.Clauses.{rowHas, allHold, serving, serves, servedBy, misses, Served}
+use Rattle.clauses.specs.Clauses.{rowHas, allHold, serving, serves, servedBy, misses, Served, Hint}
 use Rattle.clauses.proofs.Least.{number-lt}
 use Rattle.clauses.proofs.Rows.{row-set, chosen-has}
 use Rattle.clauses.proofs.Round.{Seen, round-lt, seen-none, seen-more, seen-all}
@@ -51,6 +51,7 @@ module _ (m onward : ℕ) (sets : List ℕ) (place t missers : ℕ) (rows : List
   pub record Left (missers′ : ℕ) (rows′ : List ℕ) : Type 0 where
     pub rows-long : length rows′ ≡ 64
     pub missers-small : missers′ < 2 ^ 64
+    pub missers-among : (q : ℕ) → T (has missers′ q) → T (has missers q)
     pub left-is : (q e : ℕ) → misses missers′ rows′ q e ≡ (misses missers rows q e && not (eqb place q && serving m onward sets t e))
 
   -- the same of values that are equal to these
@@ -63,6 +64,7 @@ module _ (m onward : ℕ) (sets : List ℕ) (place t missers : ℕ) (rows : List
     left-off h = record {
       rows-long = long;
       missers-small = small;
+      missers-among = λ q t. t;
       left-is = λ q e. keep-test (misses missers rows q e) (eqb place q) (serving m onward sets t e)
           (λ z. off-test (has missers q) (eqb (bitAnd t onward) t) (rowHas rows q e) (allHold m sets t e)
           (ap (λ (k : ℕ). has missers k && eqb (bitAnd t onward) t) (sym (eqb→eq place q z)) ∙ h));
@@ -73,7 +75,8 @@ module _ (m onward : ℕ) (sets : List ℕ) (place t missers : ℕ) (rows : List
       pub left-row : {one gone : ℕ} → has missers place ≡ true → one ≡ 2 ^ place → gone ≡ cond (eqb left 0) one 0 → Left (bitXor missers gone) (set rows place left)
       left-row {one} {gone} here one-is gone-is = record {
         rows-long = length-set rows place left ∙ long;
-        missers-small = lt-has 64 (bitXor missers gone) (λ k t. has-lt 64 missers k small (and-out (has missers k) (not (eqb left 0 && eqb k place)) (subst T (missers-are k) t) .0));
+        missers-small = lt-has 64 (bitXor missers gone) (λ k t. has-lt 64 missers k small (still k t));
+        missers-among = still;
         left-is = λ q e.
             ap₂ (λ (x y : Bool). x && y) (missers-are q) (row-set rows place left (let l = number-lt small here in omega arith) q e) ∙ by q e (eqb q place) refl;
       }
@@ -87,6 +90,9 @@ module _ (m onward : ℕ) (sets : List ℕ) (place t missers : ℕ) (rows : List
               (λ h. let (_, y) = and-out (eqb left 0) (eqb q place) (rw (bits q) at h) in
               subst (λ (k : ℕ). T (has missers k)) (sym (eqb→eq q place y)) (rw here tt))
               ∙ ap (λ (x : Bool). has missers q && not x) (bits q)
+
+          still : (q : ℕ) → T (has (bitXor missers gone) q) → T (has missers q)
+          still q t = and-out (has missers q) (not (eqb left 0 && eqb q place)) (subst T (missers-are q) t) .0
 
           not-empty : (e : ℕ) → T (has left e) → eqb left 0 ≡ false
           not-empty e h = fails-not (eqb left 0) (nonzero-in left e h)
@@ -130,6 +136,7 @@ module _ (c : Certificate) (n m onward : ℕ) (sets : List ℕ) where
     pub record Going (i left missers′ : ℕ) (rows′ : List ℕ) : Type 0 where
       pub long : length rows′ ≡ 64
       pub small : missers′ < 2 ^ 64
+      pub among : (q : ℕ) → T (has missers′ q) → T (has missers q)
       pub few : left ≤ n
       pub inside : 0 < n → i < n
       pub was : (q e : ℕ) → T (misses missers′ rows′ q e) → T (misses missers rows q e)
@@ -140,6 +147,7 @@ module _ (c : Certificate) (n m onward : ℕ) (sets : List ℕ) where
     going-none {i} l s h = record {
       long = l;
       small = s;
+      among = λ q t. t;
       few = omega arith;
       inside = h;
       was = λ q e t. t;
@@ -158,6 +166,7 @@ module _ (c : Certificate) (n m onward : ℕ) (sets : List ℕ) where
       going-more {next} {place} {t} {missers″} {rows″} l p f next-is = record {
         long = f .rows-long;
         small = f .missers-small;
+        among = λ q t. g .among q (f .missers-among q t);
         few = let h = g .few in omega arith;
         inside = λ h. round-lt (i + 1) n h next-is;
         was = λ q e x. g .was q e (both q e x .0);
@@ -203,6 +212,28 @@ module _ (c : Certificate) (n m onward : ℕ) (sets : List ℕ) where
         -- nothing is missing
         pub served-stop : missers′ ≡ 0 → Served c m onward sets missers rows missers′ rows′
         served-stop z = served-when (λ q e t. absurd (rw (z, has-none q) at t))
+
+-- Where the next search may start ---------------------------------------------------------------------------------------
+
+module _ {c : Certificate} {onward wanted : ℕ} where
+  pub hint-none : {k : ℕ} → k ≡ length c → Hint c onward wanted k
+  hint-none e = record { bound = omega arith; wants = λ l. absurd (omega arith); lies = λ l. absurd (omega arith) }
+
+  -- the lesser of what is known and of a pair that serves
+  pub hint-more : {k i place t r : ℕ} → Hint c onward wanted k → i < length c → pairOf c i ≡ pair place t → T (has wanted place) → eqb (bitAnd t onward) t ≡ true
+      → r ≡ cond (ltb k i) k i → Hint c onward wanted r
+  hint-more {k} {i} {place} {t} {r} h l p w x r-is = go (ltb k i) refl
+    where
+      here : Hint c onward wanted i
+      here = record {
+        bound = omega arith;
+        wants = λ _. subst (λ (y : Pair). T (has wanted (y .place))) (sym p) w;
+        lies = λ _. subst (λ (y : Pair). bitAnd (y .set) onward ≡ y .set) (sym p) (eqb-true (bitAnd t onward) t x);
+      }
+
+      go : (b : Bool) → ltb k i ≡ b → Hint c onward wanted r
+      go true y = subst (λ (j : ℕ). Hint c onward wanted j) (sym (r-is ∙ ap (λ (b : Bool). cond b k i) y)) h
+      go false y = subst (λ (j : ℕ). Hint c onward wanted j) (sym (r-is ∙ ap (λ (b : Bool). cond b k i) y)) here
 
 -- the events that are missing still are those that no pair serves
 module _ (c : Certificate) (m onward : ℕ) (sets : List ℕ) {missers missers′ : ℕ} {rows rows′ : List ℕ}

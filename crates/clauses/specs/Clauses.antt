@@ -89,6 +89,13 @@ pub record Served (c : Certificate) (m onward : ℕ) (sets : List ℕ) (missers 
   pub unmet : (q e : ℕ) → T (misses missers′ rows′ q e) → servedBy c m onward sets (length c) q e ≡ false
   pub met : (q e : ℕ) → T (misses missers rows q e) → T (misses missers′ rows′ q e) ⊎ T (servedBy c m onward sets (length c) q e)
 
+-- A pair at which the next search may start: one of a place of the set `wanted`, whose set lies within the followers `onward`. Where none is
+-- known it is the number of pairs.
+pub record Hint (c : Certificate) (onward wanted k : ℕ) : Type 0 where
+  pub bound : k ≤ length c
+  pub wants : k < length c → T (has wanted (pairOf c k .place))
+  pub lies : k < length c → bitAnd (pairOf c k .set) onward ≡ pairOf c k .set
+
 -- the fault of the lowest place below n that misses the event e
 abbrev pub missingAt : ℕ → ℕ → ℕ → List ℕ → ℕ → Finding
 missingAt n i missers rows e = inOrder n (λ l. unless (not (misses missers rows l e)) (fault 4 i e l))

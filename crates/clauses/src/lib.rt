@@ -1,4 +1,4 @@
-// The clauses of a certificate: its first fault, found in the sheet's own bytes with the tables of the two sides.
+// The clauses of a certificate: its first fault, found in its part of the sheet with the tables of the two sides.
 ghost use mathlib.Core.Path.{_≡_};
 ghost use Prim.Native.Nat.{ℕ, _+_, _≤_, _<_, _^_};
 ghost use mathlib.Core.Bool.{not, _&&_};
@@ -7,13 +7,14 @@ ghost use lib.Bits.{bitAnd};
 ghost use lib.ListN.{length};
 ghost use Rattle.bits.specs.Bits.{has, _⇒_};
 ghost use Rattle.condition.specs.Condition.{Condition};
-ghost use Rattle.certificate.specs.Certificate.{pair, fault, pairFinding, inOrder, check};
+ghost use Rattle.certificate.specs.Certificate.{pair, fine, fault, pairFinding, inOrder, check};
 ghost use Rattle.sheet.specs.Decode.{certificateAt};
 ghost use Rattle.places.specs.Tables.{Tables};
 ghost use Rattle.clauses.specs.Clauses.{findingOf, eachPair, PlacesOf, Active, Surveyed};
 use fields::index;
 use pairs::Pair;
-use pairs::pair_from;
+use pairs::known_pair;
+use pairs::pair_in;
 use places::Side;
 use places::masks::gather;
 use places::masks::member;
@@ -32,15 +33,15 @@ pub enum Fault {
     },
 }
 
-// What is found of a pair, and the pair at which the search for the next one's is to start.
+// What is found of a pair, and the number of the pair at which the search for the next one is to start. The program chooses that number: what
+// is found is the same for each.
 pub struct Found {
     pub fault: Fault,
     pub start: usize,
 }
 
-// An inclusion that a certificate is to show: where it stands, over how many events, and the two sides.
+// An inclusion that a certificate is to show: over how many events, and the two sides.
 pub struct Inclusion {
-    pub from: usize,
     pub events: usize,
     pub left: Side,
     pub right: Side,
@@ -86,9 +87,9 @@ pub fn ends_too(lends: u64, rends: u64, place: usize, set: u64) -> bool
     }
 }
 
-// Clauses 2 to 4 of one pair of `count`.
+// Clauses 2 to 4 of one pair of `count`. What is found is the same for every `start`.
 pub fn pair_fault(
-    s: &[u8],
+    pairs: &[u8],
     t: Inclusion,
     count: usize,
     i: usize,
@@ -104,11 +105,12 @@ pub fn pair_fault(
     missing: &mut [u64; 64],
 ) -> Found
     requires { ⌜ t .events ≤ 64 ⌝ }
-    requires { ⌜ (count ≡ length (certificateAt (now s) (t .from))) × (length (now missing) ≡ 64) ⌝ }
-    requires { ⌜ ((m : ℕ) → PlacesOf (t .right .leaves) m → Surveyed (certificateAt (now s) (t .from)) m (now rsets) (now shared)) ⌝ }
+    requires { ⌜ (count ≡ length (certificateAt (now pairs) 0)) × (length (now missing) ≡ 64) ⌝ }
+    requires { ⌜ ((m : ℕ) → PlacesOf (t .right .leaves) m → Surveyed (certificateAt (now pairs) 0) m (now rsets) (now shared)) ⌝ }
     requires { ⌜ ((n : ℕ) → PlacesOf (t .left .leaves) n → Active (now lsets) n (t .events) alive) ⌝ }
-    ensures finding { λ r. ⌜ ((l g : Condition) → Tables l (t .left) (now (lfollow .entry)) (now (lsets .entry)) → Tables g (t .right) (now (rfollow .entry)) (now (rsets .entry)) → findingOf (r .fault) ≡ pairFinding (t .events) l g (certificateAt (now (s .entry)) (t .from)) i (pair place set)) ⌝ }
+    ensures finding { λ r. ⌜ ((l g : Condition) → Tables l (t .left) (now (lfollow .entry)) (now (lsets .entry)) → Tables g (t .right) (now (rfollow .entry)) (now (rsets .entry)) → findingOf (r .fault) ≡ pairFinding (t .events) l g (certificateAt (now (pairs .entry)) 0) i (pair place set)) ⌝ }
     ensures rows { λ _. ⌜ length (now (missing .exit)) ≡ 64 ⌝ }
+    ensures hint { λ r. ⌜ r .start ≤ count ⌝ }
 {
     let left = t.left;
     let right = t.right;
@@ -118,13 +120,11 @@ pub fn pair_fault(
         let lends = left.ends;
         let rends = right.ends;
         if ends_too(lends, rends, place, set) {
-            let from = t.from;
             let events = t.events;
             let followers = lfollow[place];
             let onward = gather(rfollow, m, set);
             return missing::unlisted(
-                s,
-                from,
+                pairs,
                 count,
                 i,
                 events,
@@ -142,18 +142,18 @@ pub fn pair_fault(
         }
         return Found {
             fault: fault_of(3, i),
-            start,
+            start: 0,
         };
     }
     Found {
         fault: fault_of(2, i),
-        start,
+        start: 0,
     }
 }
 
 // Clauses 2 to 4 of all pairs, in order. `missing` and `shared` are room for the search.
 pub fn pairs_fault(
-    s: &[u8],
+    pairs: &[u8],
     t: Inclusion,
     lfollow: &[u64; 64],
     lsets: &[u64; 64],
@@ -164,29 +164,25 @@ pub fn pairs_fault(
 ) -> Fault
     requires { ⌜ t .events ≤ 64 ⌝ }
     requires { ⌜ (length (now missing) ≡ 64) × (length (now shared) ≡ 64) ⌝ }
-    ensures finding { λ r. ⌜ ((l g : Condition) → Tables l (t .left) (now (lfollow .entry)) (now (lsets .entry)) → Tables g (t .right) (now (rfollow .entry)) (now (rsets .entry)) → findingOf r ≡ inOrder (length (certificateAt (now (s .entry)) (t .from))) (eachPair (t .events) l g (certificateAt (now (s .entry)) (t .from)))) ⌝ }
+    ensures finding { λ r. ⌜ ((l g : Condition) → Tables l (t .left) (now (lfollow .entry)) (now (lsets .entry)) → Tables g (t .right) (now (rfollow .entry)) (now (rsets .entry)) → findingOf r ≡ inOrder (length (certificateAt (now (pairs .entry)) 0)) (eachPair (t .events) l g (certificateAt (now (pairs .entry)) 0))) ⌝ }
     ensures room { λ _. ⌜ (length (now (missing .exit)) ≡ 64) × (length (now (shared .exit)) ≡ 64) ⌝ }
 {
     let left = t.left;
     let right = t.right;
     let events = t.events;
-    let count = missing::survey(s, t.from, places_of(right), rsets, shared);
+    let count = missing::survey(pairs, places_of(right), rsets, shared);
     let alive = missing::active(lsets, places_of(left), events);
     let mut start: usize = 0;
-    let mut at: usize = t.from;
     let mut i: usize = 0;
-    loop {
-        let pair = pair_from(s, at);
-        let Pair::At { place, set, next } = pair else {
-            return Fault::None;
-        };
+    while i < count {
+        let pair = known_pair(pairs, i);
         let found = pair_fault(
-            s,
+            pairs,
             t,
             count,
             i,
-            index(place),
-            set,
+            index(pair.place),
+            pair.set,
             start,
             alive,
             lfollow,
@@ -201,38 +197,31 @@ pub fn pairs_fault(
             return fault;
         };
         start = found.start;
-        at = next;
         i += 1;
     }
+    Fault::None
 }
 
-// The first fault of the certificate at an offset, which is to show the left side's inclusion in the right side. With n pairs it takes at most
-// n * n looks at a pair, each of which goes through the places of the pair's set at most once.
+// The first fault of a certificate that is to show an inclusion, with the tables of the two sides. With n pairs it takes at most n * n looks at
+// a pair, each of which goes through the places of the pair's set at most once. Where it finds none, the certificate has a pair.
 pub fn first_fault(
-    s: &[u8],
-    from: usize,
-    events: usize,
-    left: Side,
+    pairs: &[u8],
+    t: Inclusion,
     lfollow: &[u64; 64],
     lsets: &[u64; 64],
-    right: Side,
     rfollow: &[u64; 64],
     rsets: &[u64; 64],
     missing: &mut [u64; 64],
     shared: &mut [u64; 64],
 ) -> Fault
-    requires { ⌜ events ≤ 64 ⌝ }
+    requires { ⌜ t .events ≤ 64 ⌝ }
     requires { ⌜ (length (now missing) ≡ 64) × (length (now shared) ≡ 64) ⌝ }
-    ensures finding { λ r. ⌜ ((l g : Condition) → Tables l left (now (lfollow .entry)) (now (lsets .entry)) → Tables g right (now (rfollow .entry)) (now (rsets .entry)) → findingOf r ≡ check events l g (certificateAt (now (s .entry)) from)) ⌝ }
+    ensures finding { λ r. ⌜ ((l g : Condition) → Tables l (t .left) (now (lfollow .entry)) (now (lsets .entry)) → Tables g (t .right) (now (rfollow .entry)) (now (rsets .entry)) → findingOf r ≡ check (t .events) l g (certificateAt (now (pairs .entry)) 0)) ⌝ }
+    ensures begun { λ r. ⌜ (findingOf r ≡ fine → 0 < length (certificateAt (now (pairs .entry)) 0)) ⌝ }
     ensures room { λ _. ⌜ (length (now (missing .exit)) ≡ 64) × (length (now (shared .exit)) ≡ 64) ⌝ }
 {
-    let found = pair_from(s, from);
-    let Pair::At {
-        place,
-        set,
-        next: _,
-    } = found
-    else {
+    let found = pair_in(pairs, 0);
+    let Pair::At { place, set } = found else {
         return fault_of(1, 0);
     };
     if place != 0 {
@@ -241,11 +230,5 @@ pub fn first_fault(
     if set != 1 {
         return fault_of(1, 0);
     }
-    let t = Inclusion {
-        from,
-        events,
-        left,
-        right,
-    };
-    pairs_fault(s, t, lfollow, lsets, rfollow, rsets, missing, shared)
+    pairs_fault(pairs, t, lfollow, lsets, rfollow, rsets, missing, shared)
 }

@@ -4,11 +4,12 @@ ghost use mathlib.Core.Path.{_≡_};
 ghost use mathlib.Core.Bool.{cond};
 ghost use Prim.Native.Nat.{ℕ, _≤_, _<_};
 ghost use lib.Dec.{ltb};
+ghost use lib.Bits.{bitAnd};
 ghost use lib.ListN.{length};
 ghost use Rattle.bits.specs.Bits.{has};
 ghost use Rattle.certificate.specs.Certificate.{Certificate, pairOf, inOrder};
 ghost use Rattle.sheet.specs.Decode.{certificateAt};
-ghost use Rattle.clauses.specs.Clauses.{findingOf, Active, Wanted, allHold, Surveyed, Served, missingAt, unlistedAt};
+ghost use Rattle.clauses.specs.Clauses.{findingOf, Active, Wanted, allHold, Surveyed, Served, Hint, missingAt, unlistedAt};
 use super::Fault;
 use super::Found;
 use super::sets::least;
@@ -19,14 +20,14 @@ use super::sets::without;
 use fields::both;
 use fields::index;
 use pairs::Pair;
-use pairs::listed_at;
-use pairs::pair_from;
+use pairs::known_pair;
+use pairs::pair_in;
 use places::masks::below;
 use places::masks::bit;
 use places::masks::chosen;
 use places::masks::gather;
 
-// The rest of what is missing: the places that miss an event, and the lowest pair that served one.
+// The rest of what is missing: the places that miss an event, and the lowest pair that served one, or the number of pairs.
 pub struct Rest {
     pub missers: u64,
     pub lowest: usize,
@@ -79,27 +80,20 @@ pub fn meet(set: u64, m: usize, sets: &[u64; 64]) -> u64
 
 // How many pairs the certificate has. Row i of `shared` becomes the events that pair i serves, of the first 64 pairs: few certificates have
 // more, and a search then need not find them again.
-pub fn survey(s: &[u8], from: usize, m: usize, sets: &[u64; 64], shared: &mut [u64; 64]) -> usize
+pub fn survey(pairs: &[u8], m: usize, sets: &[u64; 64], shared: &mut [u64; 64]) -> usize
     requires { ⌜ (m ≤ 64) × (length (now shared) ≡ 64) ⌝ }
-    ensures count { λ r. ⌜ r ≡ length (certificateAt (now (s .entry)) from) ⌝ }
-    ensures kept { λ _. ⌜ Surveyed (certificateAt (now (s .entry)) from) m (now (sets .entry)) (now (shared .exit)) ⌝ }
+    ensures count { λ r. ⌜ r ≡ length (certificateAt (now (pairs .entry)) 0) ⌝ }
+    ensures kept { λ _. ⌜ Surveyed (certificateAt (now (pairs .entry)) 0) m (now (sets .entry)) (now (shared .exit)) ⌝ }
 {
-    let mut at: usize = from;
     let mut count: usize = 0;
     loop {
-        let found = pair_from(s, at);
-        let Pair::At {
-            place: _,
-            set,
-            next,
-        } = found
-        else {
+        let found = pair_in(pairs, count);
+        let Pair::At { place: _, set } = found else {
             return count;
         };
         if count < 64 {
             shared[count] = meet(set, m, sets);
         }
-        at = next;
         count += 1;
     }
 }
@@ -124,10 +118,10 @@ pub fn round(i: usize, count: usize) -> usize
     if i < count { i } else { 0 }
 }
 
-// What the pairs leave of what is missing, going round them from number `start` on. It stops where nothing is missing any more.
+// What the pairs leave of what is missing, going round them from number `start` on. It stops where nothing is missing any more. What is left is
+// the same for every `start`.
 pub fn serve(
-    s: &[u8],
-    from: usize,
+    pairs: &[u8],
     count: usize,
     start: usize,
     m: usize,
@@ -137,9 +131,10 @@ pub fn serve(
     wanted: u64,
     missing: &mut [u64; 64],
 ) -> Rest
-    requires { ⌜ (count ≡ length (certificateAt (now s) from)) × (m ≤ 64) × (length (now missing) ≡ 64) ⌝ }
-    requires { ⌜ Surveyed (certificateAt (now s) from) m (now sets) (now shared) ⌝ }
-    ensures { λ r. ⌜ Served (certificateAt (now (s .entry)) from) m onward (now (sets .entry)) wanted (now (missing .entry)) (r .missers) (now (missing .exit)) ⌝ }
+    requires { ⌜ (count ≡ length (certificateAt (now pairs) 0)) × (m ≤ 64) × (length (now missing) ≡ 64) ⌝ }
+    requires { ⌜ Surveyed (certificateAt (now pairs) 0) m (now sets) (now shared) ⌝ }
+    ensures rest { λ r. ⌜ Served (certificateAt (now (pairs .entry)) 0) m onward (now (sets .entry)) wanted (now (missing .entry)) (r .missers) (now (missing .exit)) ⌝ }
+    ensures hint { λ r. ⌜ Hint (certificateAt (now (pairs .entry)) 0) onward wanted (r .lowest) ⌝ }
 {
     let mut missers = wanted;
     let mut lowest = count;
@@ -149,7 +144,7 @@ pub fn serve(
         if left == 0 {
             return Rest { missers, lowest };
         }
-        let pair = listed_at(s, from + 6 * i);
+        let pair = known_pair(pairs, i);
         let q = index(pair.place);
         let set = pair.set;
         if both(listed(missers, q), set & onward == set) {
@@ -186,10 +181,10 @@ pub fn first_missing(missing: &[u64; 64], missers: u64, n: usize, events: usize,
 }
 
 // Clause 4 of a pair, with the followers of its place and those of its set. It goes round the pairs from number `start` on, and the next round
-// is to start at the lowest pair that served this one: what a pair needs often stands near what the pair before it needed.
+// is to start at the lowest pair that served this one: what a pair needs often stands near what the pair before it needed. What is found is the
+// same for every `start`.
 pub fn unlisted(
-    s: &[u8],
-    from: usize,
+    pairs: &[u8],
     count: usize,
     i: usize,
     events: usize,
@@ -205,18 +200,18 @@ pub fn unlisted(
     missing: &mut [u64; 64],
 ) -> Found
     requires { ⌜ (events ≤ 64) × (n ≤ 64) × (m ≤ 64) ⌝ }
-    requires { ⌜ (count ≡ length (certificateAt (now s) from)) × (length (now missing) ≡ 64) ⌝ }
-    requires { ⌜ Surveyed (certificateAt (now s) from) m (now rsets) (now shared) ⌝ }
+    requires { ⌜ (count ≡ length (certificateAt (now pairs) 0)) × (length (now missing) ≡ 64) ⌝ }
+    requires { ⌜ Surveyed (certificateAt (now pairs) 0) m (now rsets) (now shared) ⌝ }
     requires { ⌜ Active (now lsets) n events alive ⌝ }
-    ensures finding { λ r. ⌜ findingOf (r .fault) ≡ inOrder events (unlistedAt (certificateAt (now (s .entry)) from) n i followers (now (lsets .entry)) m onward (now (rsets .entry))) ⌝ }
+    ensures finding { λ r. ⌜ findingOf (r .fault) ≡ inOrder events (unlistedAt (certificateAt (now (pairs .entry)) 0) n i followers (now (lsets .entry)) m onward (now (rsets .entry))) ⌝ }
     ensures rows { λ _. ⌜ length (now (missing .exit)) ≡ 64 ⌝ }
+    ensures hint { λ r. ⌜ Hint (certificateAt (now (pairs .entry)) 0) onward (bitAnd followers alive) (r .start) ⌝ }
 {
     let mask = below(events);
     let wanted = followers & alive;
     want(wanted, lsets, mask, missing);
     let rest = serve(
-        s,
-        from,
+        pairs,
         count,
         start,
         m,

@@ -1,22 +1,23 @@
 -- The pairs of a certificate, one after another.
-use mathlib.Core.Path.{_≡_, refl, sym, ap, ap₂, _∙_, subst}
-use mathlib.Core.Bool.{Bool, true, false, _||_}
+use mathlib.Core.Path.{_≡_, refl, sym, ap, ap₂, _∙_}
+use mathlib.Core.Bool.{Bool, true, false, cond, _||_}
 use mathlib.Core.Logic.{⊎-elim}
 use mathlib.Core.Option.{Option, none, some}
 use mathlib.Core.List.{List, [], _∷_}
-use Prim.Native.Nat.{ℕ, zero, suc, _+_, _*_, _≤_, _<_, zero-le}
+use Prim.Native.Nat.{ℕ, zero, suc, _+_, _*_, _≤_, _<_}
 use native.Mathlib.Omega.{arith}
 use lib.Dec.{T, eqb, ltb, eqb→eq}
 use lib.ListN.{length, drop, getD, length-drop, List·getD-eq-default}
-use lib.Seq.{drop-cons}
-use borrow.Author.Tests.{ne-eqb, eqb-true, eqb-false, ltb-true, ltb-false}
+use lib.Seq.{getD-drop}
+use borrow.Author.Tests.{lt-ltb, eqb-true, eqb-false, ltb-true, ltb-false}
 use Rattle.bits.specs.Bits.{allBelow}
 use Rattle.bits.proofs.Tests.{or-out, all-out}
 use Rattle.certificate.specs.Certificate.{Pair, pair, Certificate, pairOf}
 use Rattle.sheet.specs.Record.{Record, byteAt, setAt, pairAt, nextAt, bodyLength, recordAt, recordsByKind}
 use Rattle.sheet.specs.Decode.{inFront, pairIn, pairsOn, certificateAt}
-use Rattle.fields.proofs.Laws.{byte-past, set-is}
-use Rattle.pairs.specs.Found.{pairFound}
+use Rattle.fields.proofs.Laws.{byte-past, set-past, set-is}
+use Rattle.pairs.specs.Found.{listedAt, pairFound}
+use Rattle.pairs.specs.declared.Listed.{Listed}
 use Rattle.pairs.specs.declared.Pair.the-variants.{At, End}
 
 -- a record of kind 13 stands before the end
@@ -35,6 +36,30 @@ pair-set s at =
     let four : at + 2 + 2 ≡ at + 4 = omega arith in
     let five : at + 2 + 3 ≡ at + 5 = omega arith in
     rw (set-is s (at + 2), three, four, five)
+
+-- The record at an offset, field by field
+module _ (s : List ℕ) (at : ℕ) where
+  pub listed-by : {kind place set : ℕ} → kind ≡ byteAt s at → place ≡ byteAt s (at + 1) → set ≡ setAt s (at + 2)
+      → _≡_ {A = Listed} (record { kind = kind; place = place; set = set }) (listedAt s at)
+  unfolding listedAt
+  listed-by k p t = rw (k, p, t)
+
+  -- past the end
+  pub listed-past : length s ≤ at → _≡_ {A = Listed} (record { kind = 0; place = 0; set = 0 }) (listedAt s at)
+  listed-past l = listed-by (sym (byte-past s at l)) (sym (byte-past s (at + 1) (omega arith))) (sym (set-past s (at + 2) (omega arith)))
+
+  module _ {e : Listed} (h : e ≡ listedAt s at) where
+    pub listed-kind : e .kind ≡ byteAt s at
+    unfolding listedAt
+    listed-kind = ap (λ (x : Listed). x .kind) h
+
+    pub listed-place : e .place ≡ byteAt s (at + 1)
+    unfolding listedAt
+    listed-place = ap (λ (x : Listed). x .place) h
+
+    pub listed-set : e .set ≡ setAt s (at + 2)
+    unfolding listedAt
+    listed-set = ap (λ (x : Listed). x .set) h
 
 -- The certificate at an offset: a pair and the certificate after it, or nothing ------------------------------------------
 
@@ -107,111 +132,141 @@ certificate-end : (s : List ℕ) (at : ℕ) → (byteAt s at ≡ 13 → ⊥) →
 unfolding certificateAt
 certificate-end s at n = pair-off s at (length s) n
 
--- What a reader finds ---------------------------------------------------------------------------------------------------
+-- The part of the sheet from a certificate's first pair on ----------------------------------------------------------------
 
-module _ (s : List ℕ) (at : ℕ) where
-  pub a-pair-is : byteAt s at ≡ 13 → pairFound s at ≡ At (byteAt s (at + 1)) (setAt s (at + 2)) (at + 6)
-  unfolding pairFound
-  a-pair-is e = rw e
+module _ (s : List ℕ) (from : ℕ) where
+  part-byte : (at : ℕ) → byteAt (drop from s) at ≡ byteAt s (from + at)
+  unfolding byteAt
+  part-byte at = getD-drop from s at 0
 
-  pub the-end-is : (byteAt s at ≡ 13 → ⊥) → pairFound s at ≡ End
-  unfolding pairFound
-  the-end-is n = simp (ne-eqb _ _ n)
+  part-set : (at : ℕ) → setAt (drop from s) at ≡ setAt s (from + at)
+  part-set at =
+      let one : from + (at + 1) ≡ from + at + 1 = omega arith in
+      let two : from + (at + 2) ≡ from + at + 2 = omega arith in
+      let three : from + (at + 3) ≡ from + at + 3 = omega arith in
+      rw (set-is (drop from s) at, set-is s (from + at), part-byte at, part-byte (at + 1), part-byte (at + 2), part-byte (at + 3), one, two, three)
 
-  found-end : pairFound s at ≡ End → byteAt s at ≡ 13 → ⊥
-  found-end h e = let k = a-pair-is e in let z : _≡_ {A = ℕ} 0 1 = cc in omega arith
-
-  found-pair : (place set next : ℕ) → pairFound s at ≡ At place set next
-      → (byteAt s at ≡ 13) × (pairAt s at ≡ pair place set) × (next ≡ at + 6)
+  part-pair : (at : ℕ) → pairAt (drop from s) at ≡ pairAt s (from + at)
   unfolding pairAt
-  found-pair place set next h = go (eqb (byteAt s at) 13) refl
+  part-pair at =
+      let one : from + (at + 1) ≡ from + at + 1 = omega arith in
+      let two : from + (at + 2) ≡ from + at + 2 = omega arith in
+      rw (part-byte (at + 1), part-set (at + 2), one, two)
+
+  part-on : (fuel at : ℕ) → pairsOn (drop from s) fuel at ≡ pairsOn s fuel (from + at)
+  unfolding pairsOn
+  part-on zero at = refl
+  part-on (suc fuel) at = go (part-on fuel (at + 6)) (eqb (byteAt s (from + at)) 13) refl
     where
-      go : (b : Bool) → eqb (byteAt s at) 13 ≡ b → (byteAt s at ≡ 13) × (pairAt s at ≡ pair place set) × (next ≡ at + 6)
-      go true e = let k = a-pair-is (eqb-true (byteAt s at) 13 e) in (eqb-true (byteAt s at) 13 e, ap₂ (λ (l t : ℕ). pair l t) (cc) (cc), cc)
-      go false e = let k = the-end-is (eqb-false (byteAt s at) 13 e) in let z : _≡_ {A = ℕ} 0 1 = cc in absurd (omega arith)
+      go : pairsOn (drop from s) fuel (at + 6) ≡ pairsOn s fuel (from + (at + 6)) → (b : Bool) → eqb (byteAt s (from + at)) 13 ≡ b
+          → pairsOn (drop from s) (suc fuel) at ≡ pairsOn s (suc fuel) (from + at)
+      go more true e =
+          let k = eqb-true (byteAt s (from + at)) 13 e in
+          let six : from + (at + 6) ≡ from + at + 6 = omega arith in
+          pair-on (drop from s) at fuel (part-byte at ∙ k)
+          ∙ ap₂ (λ (p : Pair) (c : Certificate). p ∷ c) (part-pair at) (more ∙ ap (pairsOn s fuel) six)
+          ∙ sym (pair-on s (from + at) fuel k)
+      go more false e =
+          let k = eqb-false (byteAt s (from + at)) 13 e in
+          pair-off (drop from s) at (suc fuel) (λ x. k (sym (part-byte at) ∙ x)) ∙ sym (pair-off s (from + at) (suc fuel) k)
 
--- the certificate where a reader finds a pair, and where it finds the end
-pub certificate-pair : (s : List ℕ) (at place set next : ℕ) → pairFound s at ≡ At place set next
-    → certificateAt s at ≡ pair place set ∷ certificateAt s next
-certificate-pair s at place set next h =
-    let (k, e, n) = found-pair s at place set next h in
-    certificate-more s at k ∙ ap₂ (λ (p : Pair) (o : ℕ). p ∷ certificateAt s o) e (sym n)
-
-pub certificate-none : (s : List ℕ) (at : ℕ) → pairFound s at ≡ End → certificateAt s at ≡ []
-certificate-none s at h = certificate-end s at (found-end s at h)
-
--- Reading on from the start of a certificate ----------------------------------------------------------------------------
-
--- After j pairs of the certificate at `from` the reader stands at the offset `at`.
-pub record Reached (s : List ℕ) (from j at : ℕ) : Type 0 where
-  pub few : j ≤ length (certificateAt s from)
-  pub offset : at ≡ from + 6 * j
-  pub rest : drop j (certificateAt s from) ≡ certificateAt s at
-
--- There it finds pair j, and goes on to the offset `next`.
-pub record Onward (s : List ℕ) (from j at place set next : ℕ) : Type 0 where
-  pub inside-sheet : at < length s
-  pub ahead : at < next
-  pub more : j < length (certificateAt s from)
-  pub pair-is : pairOf (certificateAt s from) j ≡ pair place set
-  pub reached : Reached s from (suc j) next
-
-pub reached-start : (s : List ℕ) (from : ℕ) → Reached s from 0 from
-reached-start s from = record { few = zero-le; offset = omega arith; rest = refl }
-
-drop-more : (c : Certificate) (j : ℕ) (p : Pair) (d : Certificate) → drop j c ≡ p ∷ d → (j < length c) × (pairOf c j ≡ p) × (drop (suc j) c ≡ d)
-drop-more c j p d e =
-    let l : j < length c = omega (arith, ap length e, length-drop j c) in
-    let f = drop-cons c j (pair 0 0) l in
-    (l, cc, cc)
-
-module _ (s : List ℕ) (from j at : ℕ) (r : Reached s from j at) where
-  pub reached-next : (place set next : ℕ) → pairFound s at ≡ At place set next → Onward s from j at place set next
-  reached-next place set next h =
-      let (k, _, n) = found-pair s at place set next h in
-      let (l, f, g) = drop-more (certificateAt s from) j (pair place set) (certificateAt s next) (r .rest ∙ certificate-pair s at place set next h) in
-      record {
-        inside-sheet = inside s at k;
-        ahead = omega arith;
-        more = l;
-        pair-is = f;
-        reached = record { few = l; offset = omega (arith, r .offset); rest = g };
-      }
-
-  pub reached-end : pairFound s at ≡ End → j ≡ length (certificateAt s from)
-  reached-end h =
-      let e = r .rest ∙ certificate-none s at h in
-      omega (arith, r .few, ap length e, length-drop j (certificateAt s from))
-
-  -- where j is not past the last pair, a pair stands there
-  reached-more : j < length (certificateAt s from) → Onward s from j at (byteAt s (at + 1)) (setAt s (at + 2)) (at + 6)
-  reached-more l = reached-next (byteAt s (at + 1)) (setAt s (at + 2)) (at + 6) (a-pair-is s at (go (eqb (byteAt s at) 13) refl))
-    where
-      go : (b : Bool) → eqb (byteAt s at) 13 ≡ b → byteAt s at ≡ 13
-      go true e = eqb-true (byteAt s at) 13 e
-      go false e =
-          let n = r .rest ∙ certificate-end s at (eqb-false (byteAt s at) 13 e) in
-          absurd (omega (arith, l, ap length n, length-drop j (certificateAt s from)))
+  -- has the same certificate at its start
+  pub certificate-part : certificateAt (drop from s) 0 ≡ certificateAt s from
+  unfolding certificateAt
+  certificate-part =
+      let same : from + 0 ≡ from = omega arith in
+      part-on (length (drop from s)) 0
+      ∙ ap (pairsOn s (length (drop from s))) same
+      ∙ fuel-enough s (length (drop from s)) (length s) from (omega (arith, length-drop from s)) (omega arith)
 
 -- Pair i stands 6 * i bytes on ------------------------------------------------------------------------------------------
 
-module _ (s : List ℕ) (from : ℕ) where
-  reached-at : (i : ℕ) → i ≤ length (certificateAt s from) → Reached s from i (from + 6 * i)
-  reached-at zero l = let e : from ≡ from + 6 * 0 = omega arith in subst (λ (at : ℕ). Reached s from 0 at) e (reached-start s from)
-  reached-at (suc i) l =
-      let e : from + 6 * i + 6 ≡ from + 6 * suc i = omega arith in
-      subst (λ (at : ℕ). Reached s from (suc i) at) e (reached-more s from i (from + 6 * i) (reached-at i (omega arith)) l .reached)
+module _ (s : List ℕ) where
+  begins : (from : ℕ) → 0 < length (certificateAt s from) → byteAt s from ≡ 13
+  begins from l = go (eqb (byteAt s from) 13) refl
+    where
+      go : (b : Bool) → eqb (byteAt s from) 13 ≡ b → byteAt s from ≡ 13
+      go true e = eqb-true (byteAt s from) 13 e
+      go false e = absurd (omega (arith, ap length (certificate-end s from (eqb-false (byteAt s from) 13 e))))
 
-  pub pair-at : (i : ℕ) → i < length (certificateAt s from)
-      → Onward s from i (from + 6 * i) (byteAt s (from + 6 * i + 1)) (setAt s (from + 6 * i + 2)) (from + 6 * i + 6)
-  pair-at i l = reached-more s from i (from + 6 * i) (reached-at i (omega arith)) l
+  -- each pair stands there
+  stands : (i from at : ℕ) → at ≡ from + 6 * i → i < length (certificateAt s from)
+      → (byteAt s at ≡ 13) × (pairOf (certificateAt s from) i ≡ pairAt s at)
+  stands zero from at a l =
+      let k = begins from (omega arith) in
+      let here : from ≡ at = omega arith in
+      (ap (byteAt s) (sym here) ∙ k, rw (certificate-more s from k) (ap (pairAt s) here))
+  stands (suc i) from at a l =
+      let m = certificate-more s from (begins from (omega arith)) in
+      let (x, y) = stands i (from + 6) at (omega arith) (omega (arith, ap length m)) in
+      (x, rw m y)
 
-  -- what is read there is pair i
-  pub pair-read : (i : ℕ) {place set : ℕ} → i < length (certificateAt s from) → place ≡ byteAt s (from + 6 * i + 1) → set ≡ setAt s (from + 6 * i + 2)
-      → pairOf (certificateAt s from) i ≡ pair place set
-  pair-read i l e f = pair-at i l .pair-is ∙ ap₂ (λ (p t : ℕ). pair p t) (sym e) (sym f)
+  -- and behind the last one none
+  ends : (n from at : ℕ) → at ≡ from + 6 * n → length (certificateAt s from) ≡ n → byteAt s at ≡ 13 → ⊥
+  ends zero from at a e k =
+      let here : at ≡ from = omega arith in
+      omega (arith, ap length (certificate-more s from (ap (byteAt s) (sym here) ∙ k)))
+  ends (suc n) from at a e k =
+      let m = certificate-more s from (begins from (omega arith)) in
+      ends n (from + 6) at (omega arith) (omega (arith, ap length m)) k
 
-  -- the certificate ends where it starts, or after a pair that stands in the sheet
-  pub end-near : (n k : ℕ) → n ≡ length (certificateAt s from) → from < k → length s + 6 ≤ k → from + 6 * n < k
-  end-near zero k e h l = omega arith
-  end-near (suc n) k e h l = let o = pair-at n (omega arith) in omega (arith, o .inside-sheet)
+  module _ (i : ℕ) where
+    pub pair-stands : i < length (certificateAt s 0) → byteAt s (6 * i) ≡ 13
+    pair-stands l = stands i 0 (6 * i) (omega arith) l .0
+
+    pub pair-inside : i < length (certificateAt s 0) → 6 * i < length s
+    pair-inside l = inside s (6 * i) (pair-stands l)
+
+    pub pair-read : i < length (certificateAt s 0) → pairOf (certificateAt s 0) i ≡ pair (byteAt s (6 * i + 1)) (setAt s (6 * i + 2))
+    unfolding pairAt
+    pair-read l = stands i 0 (6 * i) (omega arith) l .1
+
+    -- where a pair stands i is the number of one
+    pair-there : i ≤ length (certificateAt s 0) → byteAt s (6 * i) ≡ 13 → i < length (certificateAt s 0)
+    pair-there l k = go (ltb i (length (certificateAt s 0))) refl
+      where
+        go : (b : Bool) → ltb i (length (certificateAt s 0)) ≡ b → i < length (certificateAt s 0)
+        go true e = ltb-true i (length (certificateAt s 0)) e
+        go false e =
+            let h = ltb-false i (length (certificateAt s 0)) e in
+            absurd (ends i 0 (6 * i) (omega arith) (omega arith) k)
+
+  -- the offset behind the last pair is near the end
+  pub pairs-near : (i k : ℕ) → i ≤ length (certificateAt s 0) → length s + 6 ≤ k → 6 * i < k
+  pairs-near zero k l h = omega arith
+  pairs-near (suc i) k l h = let o = pair-inside i l in omega arith
+
+-- What a reader finds ---------------------------------------------------------------------------------------------------
+
+module _ (s : List ℕ) (i : ℕ) (l : i ≤ length (certificateAt s 0)) where
+  pub a-pair-is : byteAt s (6 * i) ≡ 13 → pairFound (certificateAt s 0) i ≡ At (byteAt s (6 * i + 1)) (setAt s (6 * i + 2))
+  unfolding pairFound
+  a-pair-is k =
+      let h = pair-there s i l k in
+      rw (lt-ltb i (length (certificateAt s 0)) h, pair-read s i h)
+
+  pub the-end-is : (byteAt s (6 * i) ≡ 13 → ⊥) → pairFound (certificateAt s 0) i ≡ End
+  unfolding pairFound
+  the-end-is n = go (ltb i (length (certificateAt s 0))) refl
+    where
+      go : (b : Bool) → ltb i (length (certificateAt s 0)) ≡ b → cond b (At (pairOf (certificateAt s 0) i .place) (pairOf (certificateAt s 0) i .set)) End ≡ End
+      go false e = refl
+      go true e = absurd (n (pair-stands s i (ltb-true i (length (certificateAt s 0)) e)))
+
+-- and what that says of the certificate
+module _ (c : Certificate) (i : ℕ) where
+  pub found-pair : {place set : ℕ} → pairFound c i ≡ At place set → (i < length c) × (pairOf c i ≡ pair place set)
+  unfolding pairFound
+  found-pair {place} {set} h = go (ltb i (length c)) refl h
+    where
+      go : (b : Bool) → ltb i (length c) ≡ b → cond b (At (pairOf c i .place) (pairOf c i .set)) End ≡ At place set → (i < length c) × (pairOf c i ≡ pair place set)
+      go true e h = (ltb-true i (length c) e, ap₂ (λ (p t : ℕ). pair p t) (cc) (cc))
+      go false e h = let z : _≡_ {A = ℕ} 0 1 = cc in absurd (omega arith)
+
+  pub found-end : i ≤ length c → pairFound c i ≡ End → i ≡ length c
+  unfolding pairFound
+  found-end l h = go (ltb i (length c)) refl h
+    where
+      go : (b : Bool) → ltb i (length c) ≡ b → cond b (At (pairOf c i .place) (pairOf c i .set)) End ≡ End → i ≡ length c
+      go true e h = let z : _≡_ {A = ℕ} 0 1 = cc in absurd (omega arith)
+      go false e h = let k = ltb-false i (length c) e in omega arith

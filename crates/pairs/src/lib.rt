@@ -1,108 +1,119 @@
 // Certificates: a certificate is read from the sheet's own bytes, pair after pair.
 ghost use mathlib.Core.Path.{_≡_};
-ghost use Prim.Native.Nat.{_+_, _*_, _<_};
-ghost use lib.ListN.{length};
-ghost use Rattle.sheet.specs.Record.{byteAt, setAt};
+ghost use Prim.Native.Nat.{_-_, _≤_, _<_};
+ghost use lib.ListN.{length, drop};
+ghost use Rattle.certificate.specs.Certificate.{pair, pairOf};
 ghost use Rattle.sheet.specs.Decode.{certificateAt};
-ghost use Rattle.pairs.specs.Found.{pairFound};
+ghost use Rattle.pairs.specs.Found.{listedAt, pairFound};
 use fields::byte_at;
 use fields::set_at;
 use fields::set_of;
 
-// The certificate's part of the sheet, and the offset of its next record.
+// The certificate's part of the sheet: the bytes from its first pair on. Document 01 asks for this form.
 pub struct Certificate<'a> {
     pub pairs: &'a [u8],
-    pub at: usize,
 }
 
-// A pair and the offset after it, or the end of the certificate.
-pub enum Pair {
-    At { place: u8, set: u64, next: usize },
-    End,
-}
-
-// A pair's place and its set.
+// A record of a certificate: its kind, and the place and the set that it has if it is a pair.
 pub struct Listed {
+    pub kind: u8,
     pub place: u8,
     pub set: u64,
 }
 
-// The place and the set that a record at an offset has, if it is a pair. Where the whole record is there, one test serves all its bytes.
-pub fn listed_at(s: &[u8], at: usize) -> Listed
-    requires { ⌜ at < length (now s) ⌝ }
-    ensures { λ r. ⌜ (r .place ≡ byteAt (now (s .entry)) (at + 1)) × (r .set ≡ setAt (now (s .entry)) (at + 2)) ⌝ }
+// A pair, or the end of the certificate.
+pub enum Pair {
+    At { place: u8, set: u64 },
+    End,
+}
+
+// The part of the sheet from an offset on; it is empty where the offset lies past the end.
+pub fn part_from<'a>(s: &'a [u8], from: usize) -> &'a [u8]
+    ensures { λ r. ⌜ now r ≡ drop from (now (s .entry)) ⌝ }
 {
-    if 6 <= s.len() - at {
+    let n = s.len();
+    if from <= n { &s[from..] } else { &s[n..] }
+}
+
+// Of n bytes, six stand from each offset below this on.
+fn whole_below(n: usize) -> usize
+    ensures { λ r. ⌜ r ≡ n - 5 ⌝ }
+{
+    if 5 <= n { n - 5 } else { 0 }
+}
+
+// The record at an offset: the covered reader. Where the whole record is there, one test serves all its bytes.
+pub fn listed_at(s: &[u8], at: usize) -> Listed
+    ensures { λ r. ⌜ r ≡ listedAt (now (s .entry)) at ⌝ }
+{
+    if at < whole_below(s.len()) {
         return Listed {
+            kind: s[at],
             place: s[at + 1],
             set: set_of(s[at + 2], s[at + 3], s[at + 4], s[at + 5]),
         };
     }
+    if at < s.len() {
+        return Listed {
+            kind: s[at],
+            place: byte_at(s, at + 1),
+            set: set_at(s, at + 2),
+        };
+    }
     Listed {
-        place: byte_at(s, at + 1),
-        set: set_at(s, at + 2),
+        kind: 0,
+        place: 0,
+        set: 0,
     }
 }
 
-// What stands at an offset: the covered reader.
-pub fn pair_at(s: &[u8], at: usize) -> Pair
-    ensures { λ r. ⌜ r ≡ pairFound (now (s .entry)) at ⌝ }
+// The record at an offset of the certificate.
+pub fn listed_of<'a>(c: Certificate<'a>, at: usize) -> Listed
+    ensures { λ r. ⌜ r ≡ listedAt (now (c .entry .pairs)) at ⌝ }
 {
-    if byte_at(s, at) == 13 {
-        let found = listed_at(s, at);
-        Pair::At {
+    listed_at(c.pairs, at)
+}
+
+// The same for callers that have the part and no struct.
+pub fn listed_in(pairs: &[u8], at: usize) -> Listed
+    ensures { λ r. ⌜ r ≡ listedAt (now (pairs .entry)) at ⌝ }
+{
+    listed_of(Certificate { pairs }, at)
+}
+
+// Pair number i of the certificate, or its end.
+pub fn pair_in(pairs: &[u8], i: usize) -> Pair
+    requires { ⌜ i ≤ length (certificateAt (now pairs) 0) ⌝ }
+    ensures { λ r. ⌜ r ≡ pairFound (certificateAt (now (pairs .entry)) 0) i ⌝ }
+{
+    let found = listed_in(pairs, 6 * i);
+    if found.kind == 13 {
+        return Pair::At {
             place: found.place,
             set: found.set,
-            next: at + 6,
-        }
-    } else {
-        Pair::End
+        };
     }
+    Pair::End
 }
 
-pub fn hold<'a>(pairs: &'a [u8], at: usize) -> Certificate<'a>
-    ensures { λ r. ⌜ (r .pairs ≡ pairs .entry) × (r .at ≡ at) ⌝ }
+// Pair number i, which the certificate has: its kind need not be looked at.
+pub fn known_pair(pairs: &[u8], i: usize) -> Listed
+    requires { ⌜ i < length (certificateAt (now pairs) 0) ⌝ }
+    ensures { λ r. ⌜ (r .kind ≡ 13) × (pairOf (certificateAt (now (pairs .entry)) 0) i ≡ pair (r .place) (r .set)) ⌝ }
 {
-    Certificate { pairs, at }
+    listed_in(pairs, 6 * i)
 }
 
-pub fn next_pair<'a>(c: Certificate<'a>) -> Pair
-    ensures { λ r. ⌜ r ≡ pairFound (now (c .entry .pairs)) (c .entry .at) ⌝ }
+// How many pairs the certificate has.
+pub fn pair_count(pairs: &[u8]) -> usize
+    ensures { λ r. ⌜ r ≡ length (certificateAt (now (pairs .entry)) 0) ⌝ }
 {
-    pair_at(c.pairs, c.at)
-}
-
-// What stands at an offset of the sheet.
-pub fn pair_from(s: &[u8], at: usize) -> Pair
-    ensures { λ r. ⌜ r ≡ pairFound (now (s .entry)) at ⌝ }
-{
-    next_pair(hold(s, at))
-}
-
-// How many pairs the certificate at an offset has.
-pub fn pair_count(s: &[u8], from: usize) -> usize
-    ensures { λ r. ⌜ r ≡ length (certificateAt (now (s .entry)) from) ⌝ }
-{
-    let mut at: usize = from;
     let mut count: usize = 0;
     loop {
-        let found = pair_from(s, at);
-        let Pair::At {
-            place: _,
-            set: _,
-            next,
-        } = found
-        else {
+        let found = pair_in(pairs, count);
+        let Pair::At { place: _, set: _ } = found else {
             return count;
         };
-        at = next;
         count += 1;
     }
-}
-
-// The offset of the first record that is no pair.
-pub fn certificate_end(s: &[u8], from: usize) -> usize
-    ensures { λ r. ⌜ r ≡ from + 6 * length (certificateAt (now (s .entry)) from) ⌝ }
-{
-    from + 6 * pair_count(s, from)
 }

@@ -1,26 +1,21 @@
 -- Where the certificate of a rule ends, what the test of a rule comes to, and what a claim says.
-use mathlib.Core.Path.{_≡_, refl, sym, ap, _∙_, subst}
+use mathlib.Core.Path.{_≡_, sym, ap, _∙_, subst}
 use mathlib.Core.Bool.{Bool}
 use mathlib.Core.List.{List, [], _∷_}
 use Prim.Native.Nat.{ℕ, zero, suc, _+_, _*_, _≤_, _<_}
 use native.Mathlib.Omega.{arith}
-use lib.ListN.{length}
-use lib.Dec.{T}
+use lib.ListN.{length, drop, length-drop}
 use Rattle.bits.specs.Bits.{has}
 use Rattle.condition.specs.Condition.{Condition}
 use Rattle.condition.specs.Places.{nullable, ends}
-use Rattle.certificate.specs.Certificate.{Certificate, Finding, fine, fault, unless, startsRight, check}
-use Rattle.certificate.proofs.Valid.{valid}
+use Rattle.certificate.specs.Certificate.{Finding, fault, unless}
 use Rattle.sheet.specs.Decode.{certificateAt}
 use Rattle.runs.specs.Rules.{Rule}
 use Rattle.verdict.specs.Verdict.{testOf}
 use Rattle.places.specs.declared.Side.{Side}
 use Rattle.places.specs.declared.Part.{Part}
 use Rattle.places.specs.Tables.{Tables}
-use Rattle.pairs.specs.Found.{pairFound}
-use Rattle.pairs.specs.declared.Pair.{Pair}
-use Rattle.pairs.specs.declared.Pair.the-variants.{At, End}
-use Rattle.pairs.proofs.Laws.{Reached, reached-start, reached-next, reached-end}
+use Rattle.pairs.proofs.Laws.{pair-inside}
 use Rattle.walk.specs.Trial.{passed, afterCertificate, afterTest, tryRules}
 use Rattle.walk.proofs.Trial.{trial-one}
 use Rattle.answers.specs.declared.Rule as answers
@@ -32,37 +27,10 @@ use Rattle.rule_tests.specs.Tested.{Tries}
 
 -- The certificate -----------------------------------------------------------------------------------------------------
 
-starts : (c : Certificate) → T (startsRight c) → 0 < length c
-starts [] h = absurd h
-starts (p ∷ c) h = omega arith
-
--- a certificate without fault has a pair
-pub fine-starts : (events : ℕ) (l g : Condition) (c : Certificate) → check events l g c ≡ fine → 0 < length c
-fine-starts events l g c h = starts c (valid events l g c .0 h .clause1)
-
--- and one with a pair ends before the end of the sheet, or in its last pair
-module _ (s : List ℕ) (from : ℕ) where
-  abbrev Ends : Type 0
-  Ends = from + 6 * length (certificateAt s from) ≤ length s + 5
-
-  -- short of the end the reader goes on
-  goes-on : (j at : ℕ) → j < length (certificateAt s from) → Reached s from j at → (next : ℕ) × (at < length s) × Reached s from (suc j) next
-  goes-on j at more r = go (pairFound s at) refl
-    where
-      go : (x : Pair) → pairFound s at ≡ x → (next : ℕ) × (at < length s) × Reached s from (suc j) next
-      go End e = absurd (omega (arith, reached-end s from j at r e))
-      go (At place set next) e = let o = reached-next s from j at r place set next e in (next, o .inside-sheet, o .reached)
-
-  ends-from : (left j at : ℕ) → length (certificateAt s from) ≡ suc (j + left) → Reached s from j at → Ends
-  ends-from zero j at l r = let (next, inside, more) = goes-on j at (omega arith) r in omega (arith, inside, r .offset)
-  ends-from (suc left) j at l r = let (next, inside, more) = goes-on j at (omega arith) r in ends-from left (suc j) next (omega arith) more
-
-  pub ends-inside : 0 < length (certificateAt s from) → Ends
-  ends-inside h = go (length (certificateAt s from)) refl h
-    where
-      go : (n : ℕ) → length (certificateAt s from) ≡ n → 0 < n → Ends
-      go zero e h = absurd (omega arith)
-      go (suc n) e h = ends-from n 0 from (omega arith) (reached-start s from)
+-- a certificate with a pair ends before the end of the sheet, or in its last pair
+pub ends-inside : (s : List ℕ) (from n : ℕ) → n ≡ length (certificateAt (drop from s) 0) → 0 < n → from + 6 * n ≤ length s + 5
+ends-inside s from zero e h = absurd (omega arith)
+ends-inside s from (suc n) e h = omega (arith, pair-inside (drop from s) n (omega arith), length-drop from s)
 
 -- The test ------------------------------------------------------------------------------------------------------------
 

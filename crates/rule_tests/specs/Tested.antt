@@ -1,4 +1,4 @@
--- The trial that an answer of a rule's test stands for, and what a test wants: a claim that stands for a rule, and tables.
+-- The trial that an answer of a rule's test stands for, and the tables that a test is lent.
 use Prim.Native.Nat.{ℕ}
 use mathlib.Core.Path.{_≡_}
 use mathlib.Core.Bool.{Bool}
@@ -6,8 +6,6 @@ use mathlib.Core.List.{List}
 use lib.ListN.{length}
 use Rattle.runs.specs.Rules as runs
 use Rattle.places.specs.Machine.{Roomy, Rows}
-use Rattle.claims.specs.Claims.{Says}
-use Rattle.claims.specs.declared.Claim.{Claim}
 use Rattle.answers.specs.Answers.{ruleNumber, ruleSubject}
 use Rattle.walk.specs.Trial.{Trial, passed, failed, tryRules}
 use Rattle.rule_tests.specs.declared.Tested.{Tested}
@@ -20,11 +18,6 @@ trialOf (Failed r c i e l) = failed (ruleNumber r) (ruleSubject r) c i e l
 -- the answer is what testing the rules with the certificates from an offset on comes to
 pub record Tries (s : List ℕ) (xs : List runs.Rule) (from : ℕ) (answer : Tested) : Type 0 where
   pub comes-to : trialOf answer ≡ tryRules 32 s xs from
-
--- a claim that stands for a rule
-pub record Stated (s : List ℕ) (claim : Claim) : Type 0 where
-  pub rule : runs.Rule
-  pub says : Says s claim rule
 
 -- The tables that a test is lent: the stack on which a side's places are found, the rows of the left side and of the right, and room for the
 -- search of a certificate's faults.

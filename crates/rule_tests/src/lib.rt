@@ -1,22 +1,21 @@
 // The test of one rule: of an inclusion by its certificate, or of the empty word.
 ghost use mathlib.Core.List.{List, [], _∷_};
 ghost use mathlib.Core.Path.{_≡_};
-ghost use Prim.Native.Nat.{ℕ, _<_};
+ghost use Prim.Native.Nat.{ℕ};
 ghost use lib.ListN.{length};
 ghost use Rattle.condition.specs.Condition.{Condition};
-ghost use Rattle.certificate.specs.Certificate.{fine, check};
-ghost use Rattle.sheet.specs.Decode.{certificateAt};
 ghost use Rattle.places.specs.Tables.{Tables};
-ghost use Rattle.clauses.specs.Clauses.{findingOf};
 ghost use Rattle.runs.specs.Rules as runs;
 ghost use Rattle.runs.specs.Rules.{_isIn_, holdsEmpty};
 ghost use Rattle.claims.specs.Claims.{Says, _says_};
-ghost use Rattle.rule_tests.specs.Tested.{Stated, RoomToTest, Tries};
+ghost use Rattle.rule_tests.specs.Tested.{RoomToTest, Tries};
 use answers::Rule;
 use claims::Claim;
 use clauses::Fault;
+use clauses::Inclusion;
 use clauses::first_fault;
-use pairs::certificate_end;
+use pairs::pair_count;
+use pairs::part_from;
 use places::Side;
 use places::joined_side;
 use places::masks::member;
@@ -37,13 +36,33 @@ pub enum Tested {
     },
 }
 
-// What a rule's test comes to, with the certificate at an offset and the fault that it was found to have.
-fn after(s: &[u8], from: usize, rule: Rule, found: Fault) -> Tested
-    requires { ⌜ (findingOf found ≡ fine → 0 < length (certificateAt (now s) from)) ⌝ }
-    ensures { λ r. ⌜ ((l g : Condition) → findingOf found ≡ check 32 l g (certificateAt (now (s .entry)) from) → Tries (now (s .entry)) ((rule says l isIn g) ∷ []) from r) ⌝ }
+// An inclusion by the certificate at an offset, over all events. The certificate's part of the sheet is taken here, once for the rule.
+fn by_certificate(
+    s: &[u8],
+    from: usize,
+    rule: Rule,
+    l: Side,
+    g: Side,
+    lfollow: &[u64; 64],
+    lsets: &[u64; 64],
+    rfollow: &[u64; 64],
+    rsets: &[u64; 64],
+    missing: &mut [u64; 64],
+    shared: &mut [u64; 64],
+) -> Tested
+    requires { ⌜ (length (now missing) ≡ 64) × (length (now shared) ≡ 64) ⌝ }
+    ensures tried { λ r. ⌜ ((left right : Condition) → Tables left l (now (lfollow .entry)) (now (lsets .entry)) → Tables right g (now (rfollow .entry)) (now (rsets .entry)) → Tries (now (s .entry)) ((rule says left isIn right) ∷ []) from r) ⌝ }
+    ensures room { λ _. ⌜ (length (now (missing .exit)) ≡ 64) × (length (now (shared .exit)) ≡ 64) ⌝ }
 {
+    let pairs = part_from(s, from);
+    let t = Inclusion {
+        events: EVENTS,
+        left: l,
+        right: g,
+    };
+    let found = first_fault(pairs, t, lfollow, lsets, rfollow, rsets, missing, shared);
     match found {
-        Fault::None => Tested::Passed(certificate_end(s, from) + 1),
+        Fault::None => Tested::Passed(from + 6 * pair_count(pairs) + 1),
         Fault::At {
             clause,
             pair,
@@ -57,38 +76,6 @@ fn after(s: &[u8], from: usize, rule: Rule, found: Fault) -> Tested
             place,
         },
     }
-}
-
-// The first fault of the certificate at an offset, over all events.
-fn fault_at(
-    s: &[u8],
-    from: usize,
-    l: Side,
-    g: Side,
-    lfollow: &[u64; 64],
-    lsets: &[u64; 64],
-    rfollow: &[u64; 64],
-    rsets: &[u64; 64],
-    missing: &mut [u64; 64],
-    shared: &mut [u64; 64],
-) -> Fault
-    requires { ⌜ (length (now missing) ≡ 64) × (length (now shared) ≡ 64) ⌝ }
-    ensures finding { λ r. ⌜ ((left right : Condition) → Tables left l (now (lfollow .entry)) (now (lsets .entry)) → Tables right g (now (rfollow .entry)) (now (rsets .entry)) → findingOf r ≡ check 32 left right (certificateAt (now (s .entry)) from)) ⌝ }
-    ensures room { λ _. ⌜ (length (now (missing .exit)) ≡ 64) × (length (now (shared .exit)) ≡ 64) ⌝ }
-{
-    first_fault(
-        s,
-        from,
-        EVENTS,
-        l,
-        lfollow,
-        lsets,
-        g,
-        rfollow,
-        rsets,
-        missing,
-        shared,
-    )
 }
 
 // The side holds the empty word: no certificate is read. Place 0 ends a word exactly then.
@@ -124,7 +111,6 @@ pub fn test(
     missing: &mut [u64; 64],
     shared: &mut [u64; 64],
 ) -> Tested
-    requires { ⌜ Stated (now s) claim ⌝ }
     requires { ⌜ RoomToTest (now nulls) (now firsts) (now lasts) (now lfollow) (now lsets) (now rfollow) (now rsets) (now missing) (now shared) ⌝ }
     ensures tried { λ r. ⌜ ((x : runs.Rule) → Says (now (s .entry)) claim x → Tries (now (s .entry)) (x ∷ []) at r) ⌝ }
     ensures room { λ _. ⌜ RoomToTest
@@ -135,8 +121,19 @@ pub fn test(
         Claim::Inclusion { rule, left, right } => {
             let l = side_of(s, left, nulls, firsts, lasts, lfollow, lsets);
             let g = side_of(s, right, nulls, firsts, lasts, rfollow, rsets);
-            let found = fault_at(s, at, l, g, lfollow, lsets, rfollow, rsets, missing, shared);
-            after(s, at, rule, found)
+            by_certificate(
+                s,
+                at,
+                rule,
+                l,
+                g,
+                lfollow,
+                lsets,
+                rfollow,
+                rsets,
+                missing,
+                shared,
+            )
         }
         Claim::Joined {
             rule,
@@ -146,8 +143,19 @@ pub fn test(
         } => {
             let l = joined_side(s, first, second, nulls, firsts, lasts, lfollow, lsets);
             let g = side_of(s, right, nulls, firsts, lasts, rfollow, rsets);
-            let found = fault_at(s, at, l, g, lfollow, lsets, rfollow, rsets, missing, shared);
-            after(s, at, rule, found)
+            by_certificate(
+                s,
+                at,
+                rule,
+                l,
+                g,
+                lfollow,
+                lsets,
+                rfollow,
+                rsets,
+                missing,
+                shared,
+            )
         }
         Claim::HoldsEmpty { rule, part } => {
             let side = side_of(s, part, nulls, firsts, lasts, lfollow, lsets);

@@ -52,10 +52,10 @@ returns c = (
       c .unlisted .ensures .0
       ∙ at-clause4 (a .t .events) l g (a .t .left) (a .t .right) (a .lfollow .now) (a .lsets .now) (a .rfollow .now) (a .rsets .now) tl tg
       (c .before .before .before .before .before .before .before .before .before .places-of .result) (c .before .before .before .before .before .before .before .before .places-of2 .result) (c .before .before .before .before .before .before .before .before .before .places-of .ensures) (c .before .before .before .before .before .before .before .before .places-of2 .ensures)
-      (certificateAt (a .s .now) (a .t .from)) (a .i) (a .place) (a .set)
+      (certificateAt (a .pairs .now) 0) (a .i) (a .place) (a .set)
       (c .before .before .gather .result) (c .before .before .gather .ensures)
       (sym (c .before .before .before .before .before .before .before .inside .ensures) ∙ c .before .before .before .before .before .before .if1 .taken) (sym (c .before .before .before .before .before .ends-too .ensures) ∙ c .before .before .before .before .if2 .taken),
-  c .unlisted .ensures .1,
+  (c .unlisted .ensures .1 .0, omega (arith, c .unlisted .ensures .1 .1 .bound, c .before .before .before .before .before .before .before .before .before .before .before .before .before .pre .1 .0 .0)),
 )
 
 fault-of-requires : tie.Need-fault-of-requires
@@ -68,9 +68,9 @@ returns-2 c = (
       c .fault-of .ensures
       ∙ at-clause3 (a .t .events) l g (a .t .left) (a .t .right) (a .lfollow .now) (a .lsets .now) (a .rfollow .now) (a .rsets .now) tl tg
       (c .before .before .before .before .before .before .places-of .result) (c .before .before .before .before .before .places-of2 .result) (c .before .before .before .before .before .before .places-of .ensures) (c .before .before .before .before .before .places-of2 .ensures)
-      (certificateAt (a .s .now) (a .t .from)) (a .i) (a .place) (a .set)
+      (certificateAt (a .pairs .now) 0) (a .i) (a .place) (a .set)
       (sym (c .before .before .before .before .inside .ensures) ∙ c .before .before .before .if1 .taken) (sym (c .before .before .ends-too .ensures) ∙ c .before .if2 .left),
-  c .before .before .before .before .before .before .before .before .before .before .pre .1 .0 .1,
+  (c .before .before .before .before .before .before .before .before .before .before .pre .1 .0 .1, search needs),
 )
 
 fault-of-requires-2 : tie.Need-fault-of-requires-2
@@ -83,8 +83,8 @@ returns-3 c = (
       c .fault-of2 .ensures
       ∙ at-clause2 (a .t .events) l g (a .t .left) (a .t .right) (a .lfollow .now) (a .lsets .now) (a .rfollow .now) (a .rsets .now) tl tg
       (c .before .before .before .before .places-of .result) (c .before .before .before .places-of2 .result) (c .before .before .before .before .places-of .ensures) (c .before .before .before .places-of2 .ensures)
-      (certificateAt (a .s .now) (a .t .from)) (a .i) (a .place) (a .set) (sym (c .before .before .inside .ensures) ∙ c .before .if1 .left),
-  c .before .before .before .before .before .before .before .before .pre .1 .0 .1,
+      (certificateAt (a .pairs .now) 0) (a .i) (a .place) (a .set) (sym (c .before .before .inside .ensures) ∙ c .before .if1 .left),
+  (c .before .before .before .before .before .before .before .before .pre .1 .0 .1, search needs),
 )
 
 pub pair-fault-spec : {M : Type 1} → statement M

@@ -1,7 +1,5 @@
 -- `test` meets its contract: a claim's sides, then their certificate or the empty word.
-use mathlib.Core.Path.{sym, _∙_}
-use Rattle.condition.specs.Condition.{join}
-use Rattle.rule_tests.proofs.Laws.{fine-starts, tries-as, says-inclusion, says-joined, says-empty, says-none}
+use Rattle.rule_tests.proofs.Laws.{tries-as, says-inclusion, says-joined, says-empty, says-none}
 use borrow.Author.Needs.{needs}
 use Rattle.rule_tests.proofs.test.Statement.{statement}
 use Rattle.rule_tests.proofs.test.Tie as tie
@@ -15,19 +13,8 @@ side-of-requires c κs = search needs
 side-of-requires-2 : tie.Need-side-of-requires-2
 side-of-requires-2 c κs = search needs
 
-fault-at-requires : tie.Need-fault-at-requires
-fault-at-requires c κs = let room = c .before .before .before .before .before .before .before .before .before .before .before .before .before .before .before .before .before .before .before .before .before .before .pre .1 in search needs
-
-after-requires : tie.Need-after-requires
-after-requires c κs = λ f.
-    let right = c .before .before .before .before .before .before .before in
-    let left = right .before .before .before .before .before .before in
-    let arm = left .before .before .before .before .before .before .before in
-    let stated = arm .before .before .before .pre .0 in
-    let h = says-inclusion _ (stated .rule) (arm .claim .given .1) (stated .says) in
-    let l = left .side-of .ensures .1 .1 .1 _ (h .left-is) in
-    let g = right .side-of2 .ensures .1 .1 .1 _ (h .right-is) in
-    fine-starts 32 (h .left-one) (h .right-one) _ (sym (c .fault-at .ensures .0 _ _ l g) ∙ f)
+by-certificate-requires : tie.Need-by-certificate-requires
+by-certificate-requires c κs = let room = c .before .before .before .before .before .before .before .before .before .before .before .before .before .before .before .before .before .before .before .before .before .before .pre in search needs
 
 enum-known-claim-2 : tie.Need-enum-known-claim-2
 enum-known-claim-2 c = search needs
@@ -38,19 +25,8 @@ joined-side-requires c κs = search needs
 side-of-requires-3 : tie.Need-side-of-requires-3
 side-of-requires-3 c κs = search needs
 
-fault-at-requires-2 : tie.Need-fault-at-requires-2
-fault-at-requires-2 c κs = let room = c .before .before .before .before .before .before .before .before .before .before .before .before .before .before .before .before .before .before .before .before .before .before .pre .1 in search needs
-
-after-requires-2 : tie.Need-after-requires-2
-after-requires-2 c κs = λ f.
-    let right = c .before .before .before .before .before .before .before in
-    let left = right .before .before .before .before .before .before in
-    let arm = left .before .before .before .before .before .before .before in
-    let stated = arm .before .before .before .pre .0 in
-    let h = says-joined _ (stated .rule) (arm .claim2 .given .1) (stated .says) in
-    let l = left .joined-side .ensures .1 .1 .1 _ _ (h .first-is) (h .second-is) in
-    let g = right .side-of3 .ensures .1 .1 .1 _ (h .right-is) in
-    fine-starts 32 (join (h .first-one) (h .second-one)) (h .right-one) _ (sym (c .fault-at2 .ensures .0 _ _ l g) ∙ f)
+by-certificate-requires-2 : tie.Need-by-certificate-requires-2
+by-certificate-requires-2 c κs = let room = c .before .before .before .before .before .before .before .before .before .before .before .before .before .before .before .before .before .before .before .before .before .before .pre in search needs
 
 enum-known-claim-3 : tie.Need-enum-known-claim-3
 enum-known-claim-3 c = search needs
@@ -65,33 +41,33 @@ enum-told : tie.Need-enum-told
 enum-told c = search needs
 
 returns : tie.Need-returns
-returns c = let right = c .before .before .before .before .before .before .before .before in
+returns c = let right = c .before .before .before .before .before .before .before in
     let left = right .before .before .before .before .before .before in
     let l = left .side-of .ensures .1 in
     let g = right .side-of2 .ensures .1 in
-    let found = c .before .fault-at .ensures in (
+    let room = c .by-certificate .ensures .1 in (
       λ x y.
           let h = says-inclusion _ x (left .before .before .before .before .before .before .before .claim .given .1) y in
-          tries-as (h .rule-is) (c .after .ensures _ _ (found .0 _ _ (l .1 .1 _ (h .left-is)) (g .1 .1 _ (h .right-is)))),
-      record { stack = g .0; left = l .1 .0; right = g .1 .0; missing-long = found .1 .0; shared-long = found .1 .1 },
+          tries-as (h .rule-is) (c .by-certificate .ensures .0 _ _ (l .1 .1 _ (h .left-is)) (g .1 .1 _ (h .right-is))),
+      record { stack = g .0; left = l .1 .0; right = g .1 .0; missing-long = room .0; shared-long = room .1 },
     )
 
 returns-2 : tie.Need-returns-2
-returns-2 c = let right = c .before .before .before .before .before .before .before .before in
+returns-2 c = let right = c .before .before .before .before .before .before .before in
     let left = right .before .before .before .before .before .before in
     let l = left .joined-side .ensures .1 in
     let g = right .side-of3 .ensures .1 in
-    let found = c .before .fault-at2 .ensures in (
+    let room = c .by-certificate2 .ensures .1 in (
       λ x y.
           let h = says-joined _ x (left .before .before .before .before .before .before .before .claim2 .given .1) y in
-          tries-as (h .rule-is) (c .after2 .ensures _ _ (found .0 _ _ (l .1 .1 _ _ (h .first-is) (h .second-is)) (g .1 .1 _ (h .right-is)))),
-      record { stack = g .0; left = l .1 .0; right = g .1 .0; missing-long = found .1 .0; shared-long = found .1 .1 },
+          tries-as (h .rule-is) (c .by-certificate2 .ensures .0 _ _ (l .1 .1 _ _ (h .first-is) (h .second-is)) (g .1 .1 _ (h .right-is))),
+      record { stack = g .0; left = l .1 .0; right = g .1 .0; missing-long = room .0; shared-long = room .1 },
     )
 
 returns-3 : tie.Need-returns-3
 returns-3 c = let l = c .before .side-of4 .ensures .1 in
     let arm = c .before .before .before .before .before .before .before .before in
-    let room = arm .before .before .before .pre .1 in (
+    let room = arm .before .before .before .pre in (
       λ x y.
           let h = says-empty _ x (arm .claim3 .given .1) y in
           tries-as (h .rule-is) (c .empty-word .ensures _ _ _ _ (l .1 .1 _ (h .part-is))),
@@ -99,7 +75,7 @@ returns-3 c = let l = c .before .side-of4 .ensures .1 in
     )
 
 returns-4 : tie.Need-returns-4
-returns-4 c = (λ x y. absurd (says-none _ x (c .enum-told .given .1) y), c .before .before .before .pre .1)
+returns-4 c = (λ x y. absurd (says-none _ x (c .enum-told .given .1) y), c .before .before .before .pre)
 
 pub test-spec : {M : Type 1} → statement M
 test-spec =
@@ -108,13 +84,11 @@ test-spec =
     enum-known-claim
     side-of-requires
     side-of-requires-2
-    fault-at-requires
-    after-requires
+    by-certificate-requires
     enum-known-claim-2
     joined-side-requires
     side-of-requires-3
-    fault-at-requires-2
-    after-requires-2
+    by-certificate-requires-2
     enum-known-claim-3
     side-of-requires-4
     empty-word-requires

@@ -29,11 +29,15 @@ add-loop c = omega (arith, few-subjects (c .before .before .pre))
 subject-at-requires : tie.Need-subject-at-requires Inv-loop μ-loop
 subject-at-requires c κs = search needs
 
+-- the number is one of a subject
+a-subject : (c : tie.In-loop Inv-loop μ-loop) → c .before .loop .number ≤ c .before .before .before .args .listed + c .before .before .before .args .moves
+a-subject c = omega (arith, c .loop-test .taken)
+
 subject-rules-requires : tie.Need-subject-rules-requires Inv-loop μ-loop
 subject-rules-requires c κs = let here = c .before .before .before .before .before .before .before .before .before in
     let loop = here .before .before in
     let held = loop .before .before .pre in
-    (held .0, (held .1 .0, (subject-exists held (here .before .loop-test .taken) (here .subject-at .ensures), loop .loop .inv .1)))
+    (held .0, (held .1 .0, (subject-exists held (a-subject (here .before)) (here .subject-at .ensures), loop .loop .inv .1)))
 
 enum-known-tested : tie.Need-enum-known-tested Inv-loop μ-loop
 enum-known-tested c = search needs
@@ -44,7 +48,7 @@ enum-told c = search needs
 returns : tie.Need-returns Inv-loop μ-loop
 returns c = let here = c .before .before .before .before .before .before .before .before .before .before .before .before in
     let loop = here .before .before in
-    loop .loop .inv .2 _ (subject-stops (loop .before .before .pre) (here .before .loop-test .taken) (here .subject-at .ensures) (c .before .before .subject-rules .ensures .0) (c .enum-told .given .1))
+    loop .loop .inv .2 _ (subject-stops (loop .before .before .pre) (a-subject (here .before)) (here .subject-at .ensures) (c .before .before .subject-rules .ensures .0) (c .enum-told .given .1))
 
 add-number : tie.Need-add-number Inv-loop μ-loop
 add-number c = omega (arith, few-subjects (c .before .before .before .before .before .before .before .before .before .before .before .before .before .before .before .before .before .pre))
@@ -55,13 +59,13 @@ loop-less c = search needs
 loop-again : tie.Need-loop-again Inv-loop μ-loop
 loop-again c = let here = c .before .before .before .before .before .before .before .before .before .before .before .before .before in
     let loop = here .before .before in (
-      omega (arith, here .before .loop-test .taken),
+      omega (arith, a-subject (here .before)),
       c .before .before .before .subject-rules .ensures .1,
-      λ u t. loop .loop .inv .2 u (subject-passes (loop .before .before .pre) (here .before .loop-test .taken) (here .subject-at .ensures) (c .before .before .before .subject-rules .ensures .0) (c .before .tested .given .1) t),
+      λ u t. loop .loop .inv .2 u (subject-passes (loop .before .before .pre) (a-subject (here .before)) (here .subject-at .ensures) (c .before .before .before .subject-rules .ensures .0) (c .before .tested .given .1) t),
     )
 
 returns-2 : tie.Need-returns-2 Inv-loop μ-loop
-returns-2 c = c .before .loop .inv .2 _ (none-left _ (no-subject (c .before .before .before .pre) _ (c .loop-test .left)))
+returns-2 c = c .before .loop .inv .2 _ (none-left _ (no-subject (c .before .before .before .pre) (c .before .loop .number) (omega (arith, c .loop-test .left))))
 
 pub all-rules-spec : {M : Type 1} → statement M
 all-rules-spec =

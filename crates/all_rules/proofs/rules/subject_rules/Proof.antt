@@ -32,9 +32,7 @@ returns : tie.Need-returns Inv-loop μ-loop
 returns c = (c .before .before .before .loop .inv .2 _ (none-left _ (all-claimed (c .before .before .claim-of .ensures) (c .enum-told .given .1))), c .before .before .before .loop .inv .1)
 
 test-requires : tie.Need-test-requires Inv-loop μ-loop
-test-requires c κs = let more = c .before .before .before .before .before .before .before .before .before in
-    let h = claimed (more .before .claim-of .ensures) (more .match .keys2) in
-    (record { rule = h .rule-k; says = h .says }, more .before .before .loop .inv .1)
+test-requires c κs = c .before .before .before .before .before .before .before .before .before .before .before .loop .inv .1
 
 enum-known-got : tie.Need-enum-known-got Inv-loop μ-loop
 enum-known-got c = search needs

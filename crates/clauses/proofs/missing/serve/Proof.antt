@@ -1,58 +1,48 @@
 -- `clauses::missing::serve` meets its contract. The loop's invariant, `Going`: the rows are what the pairs that are seen leave, and `left` pairs
--- are still to be seen, from number i on.
-use mathlib.Core.Path.{_≡_, sym, ap, _∙_}
+-- are still to be seen, from number i on; and `lowest` is a `Hint`.
+use mathlib.Core.Path.{_≡_, sym, ap, subst, _∙_}
 use mathlib.Core.Bool.{Bool, true, _&&_}
 use mathlib.Core.Logic.{⊎-elim}
-use Prim.Native.Nat.{_+_, _*_, _<_}
+use Prim.Native.Nat.{ℕ, _<_}
 use native.Mathlib.Omega.{arith}
 use lib.Dec.{eqb}
-use lib.ListN.{length, getD}
+use lib.ListN.{getD}
 use lib.Bits.{bitAnd}
 use Rattle.bits.specs.Bits.{has}
 use Rattle.certificate.specs.Certificate.{Pair, pair, pairOf}
 use Rattle.sheet.specs.Decode.{certificateAt}
 use Rattle.places.proofs.Lowest.{positive}
-use Rattle.pairs.proofs.Laws.{pair-at, pair-read}
+use Rattle.clauses.specs.Clauses.{Hint}
 use Rattle.clauses.proofs.Least.{number-lt}
 use Rattle.clauses.proofs.Round.{round-lt}
-use Rattle.clauses.proofs.Serving.{Left, left-same, left-off, left-row, leaves-row, and-both, Going, going-none, going-inside, going-more, served-all, served-stop}
+use Rattle.clauses.proofs.Serving.{Left, left-same, left-off, left-row, leaves-row, and-both, Going, going-none, going-inside, going-more, served-all, served-stop, hint-none, hint-more}
 use borrow.Author.Needs.{needs}
 use Rattle.clauses.proofs.missing.serve.Statement.{statement}
 use Rattle.clauses.proofs.missing.serve.Tie as tie
 
 abbrev Inv-loop : tie.InvT-loop
-Inv-loop s from count start m onward sets shared wanted missing₀ missers₀ lowest₀ i₀ left₀ missing missers lowest i left = Going (certificateAt s from) count m onward sets wanted missing₀ i left missers missing
+Inv-loop pairs count start m onward sets shared wanted missing₀ missers₀ lowest₀ i₀ left₀ missing missers lowest i left = Going (certificateAt pairs 0) count m onward sets wanted missing₀ i left missers missing × Hint (certificateAt pairs 0) onward wanted lowest
 
 abbrev μ-loop : tie.MeasureT-loop
-μ-loop s from count start m onward sets shared wanted missing₀ missers₀ lowest₀ i₀ left₀ missing missers lowest i left = left
+μ-loop pairs count start m onward sets shared wanted missing₀ missers₀ lowest₀ i₀ left₀ missing missers lowest i left = left
 
 round-requires : tie.Need-round-requires Inv-loop μ-loop
 round-requires c κs = search needs
 
 loop-holds : tie.Need-loop-holds Inv-loop μ-loop
-loop-holds c = let a = c .before .before .args in going-none _ _ _ _ _ _ _ (c .before .before .pre .0 .2) (search needs) (λ h. round-lt (a .start) (a .count) h (c .round .ensures))
+loop-holds c =
+    let a = c .before .before .args in
+    (going-none _ _ _ _ _ _ _ (c .before .before .pre .0 .2) (search needs) (λ h. round-lt (a .start) (a .count) h (c .round .ensures)), hint-none (c .before .before .pre .0 .0))
 
 returns : tie.Need-returns Inv-loop μ-loop
-returns c = served-all _ _ _ _ _ _ _ (c .before .before .loop .inv) (c .before .before .before .before .before .pre .0 .0) (c .if1 .taken)
+returns c = (served-all _ _ _ _ _ _ _ (c .before .before .loop .inv .0) (c .before .before .before .before .before .pre .0 .0) (c .if1 .taken), c .before .before .loop .inv .1)
 
 -- the pair that is looked at is one of the certificate
 pair-in : (c : tie.Else1 Inv-loop μ-loop) → c .before .before .loop .i < c .before .before .before .before .before .args .count
-pair-in c = going-inside _ _ _ _ _ _ _ (c .before .before .loop .inv) (positive _ (c .if1 .left))
+pair-in c = going-inside _ _ _ _ _ _ _ (c .before .before .loop .inv .0) (positive _ (c .if1 .left))
 
--- and stands in the sheet
-in-sheet : (c : tie.Else1 Inv-loop μ-loop) → c .before .before .before .before .before .args .from + 6 * c .before .before .loop .i < length (c .before .before .before .before .before .args .s .now)
-in-sheet c =
-    let a = c .before .before .before .before .before .args in
-    pair-at (a .s .now) (a .from) (c .before .before .loop .i) (omega (arith, pair-in c, c .before .before .before .before .before .pre .0 .0)) .inside-sheet
-
-mul-listed-at : tie.Need-mul-listed-at Inv-loop μ-loop
-mul-listed-at c = omega (arith, in-sheet c)
-
-add-listed-at : tie.Need-add-listed-at Inv-loop μ-loop
-add-listed-at c = omega (arith, in-sheet c)
-
-listed-at-requires : tie.Need-listed-at-requires Inv-loop μ-loop
-listed-at-requires c κs = in-sheet c
+known-pair-requires : tie.Need-known-pair-requires Inv-loop μ-loop
+known-pair-requires c κs = omega (arith, pair-in c, c .before .before .before .before .before .pre .0 .0)
 
 index-requires : tie.Need-index-requires Inv-loop μ-loop
 index-requires c κs = search needs
@@ -65,18 +55,16 @@ both-requires c κs = search needs
 
 -- what is read there is the pair
 is-pair : (c : tie.After-both Inv-loop μ-loop)
-    → pairOf (certificateAt (c .before .before .before .before .before .before .before .before .before .args .s .now) (c .before .before .before .before .before .before .before .before .before .args .from)) (c .before .before .before .before .before .before .loop .i) ≡ pair (c .before .before .index .result) (c .before .before .before .listed-at .result .set)
+    → pairOf (certificateAt (c .before .before .before .before .before .before .before .before .before .args .pairs .now) 0) (c .before .before .before .before .before .before .loop .i) ≡ pair (c .before .before .index .result) (c .before .before .before .known-pair .result .set)
 is-pair c =
-    let a = c .before .before .before .before .before .before .before .before .before .args in
-    pair-read (a .s .now) (a .from) (c .before .before .before .before .before .before .loop .i) (omega (arith, pair-in (c .before .before .before .before), c .before .before .before .before .before .before .before .before .before .pre .0 .0))
-    (c .before .before .index .ensures ∙ c .before .before .before .listed-at .ensures .0) (c .before .before .before .listed-at .ensures .1)
+    c .before .before .before .known-pair .ensures .1 ∙ ap (λ (p : ℕ). pair p (c .before .before .before .known-pair .result .set)) (sym (c .before .before .index .ensures))
 
 -- the test: the pair's place is one that misses an event, and its set lies within the followers
 abbrev misser : tie.After-both Inv-loop μ-loop → Bool
 misser c = has (c .before .before .before .before .before .before .loop .missers) (c .before .before .index .result)
 
 abbrev lies : tie.After-both Inv-loop μ-loop → Bool
-lies c = let set = c .before .before .before .listed-at .result .set in eqb (bitAnd set (c .before .before .before .before .before .before .before .before .before .args .onward)) set
+lies c = let set = c .before .before .before .known-pair .result .set in eqb (bitAnd set (c .before .before .before .before .before .before .before .before .before .args .onward)) set
 
 test-is : (c : tie.After-both Inv-loop μ-loop) → (misser c && lies c) ≡ c .both .result
 test-is c = ap (λ (b : Bool). b && lies c) (sym (c .before .listed .ensures)) ∙ sym (c .both .ensures)
@@ -85,7 +73,7 @@ passed : (c : tie.Then2 Inv-loop μ-loop) → (misser (c .before) ≡ true) × (
 passed c = and-both (misser (c .before)) (lies (c .before)) (test-is (c .before) ∙ c .if2 .taken)
 
 place-lt : (c : tie.Then2 Inv-loop μ-loop) → c .before .before .before .index .result < 64
-place-lt c = number-lt (c .before .before .before .before .before .before .before .loop .inv .small) (passed c .0)
+place-lt c = number-lt (c .before .before .before .before .before .before .before .loop .inv .0 .small) (passed c .0)
 
 mul-row : tie.Need-mul-row Inv-loop μ-loop
 mul-row c = search needs
@@ -119,22 +107,38 @@ abbrev Leaves : tie.Joined2 Inv-loop μ-loop → Type 0
 Leaves c =
     let a = c .before .before .before .before .before .before .before .before .before .before .args in
     let w = c .before .before .before .before .before .before .before .loop in
-    Left (a .m) (a .onward) (a .sets .now) (c .before .before .before .index .result) (c .before .before .before .before .listed-at .result .set) (w .missers) (w .missing) (c .if2 .missers) (c .if2 .missing)
+    Left (a .m) (a .onward) (a .sets .now) (c .before .before .before .index .result) (c .before .before .before .before .known-pair .result .set) (w .missers) (w .missing) (c .if2 .missers) (c .if2 .missing)
 
 pair-leaves : (c : tie.Joined2 Inv-loop μ-loop) → Leaves c
 pair-leaves c =
     let a = c .before .before .before .before .before .before .before .before .before .before .args in
     let p = c .before .before .before .before .before .before .before .before .before .before .pre in
     let w = c .before .before .before .before .before .before .before .loop in
-    let set = c .before .before .before .before .listed-at .result .set in
+    let set = c .before .before .before .before .known-pair .result .set in
     ⊎-elim
     (λ u.
     let o = passed (record { before = c .before; if2 = u .0 }) in
-    let held = u .2 .ensures (certificateAt (a .s .now) (a .from)) (p .1) (omega (arith, pair-in (c .before .before .before .before .before), p .0 .0)) (ap (λ (p : Pair). p .set) (is-pair (c .before))) in
+    let held = u .2 .ensures (certificateAt (a .pairs .now) 0) (p .1) (omega (arith, pair-in (c .before .before .before .before .before), p .0 .0)) (ap (λ (p : Pair). p .set) (is-pair (c .before))) in
     let row = getD (w .missing) (c .before .before .before .index .result) 0 in
     let left = leaves-row set row (u .2 .result) (a .m) (a .onward) (a .sets .now) (u .3 .ok) (u .2 .ok) (u .3 .ensures) held (o .1) in
-    left-same _ _ _ _ _ _ _ (left-row _ _ _ _ _ _ _ (w .inv .long) (w .inv .small) (u .3 .result) left (o .0) (u .4 .ensures) (u .5 .ensures)) (u .8) (u .7))
-    (λ u. left-same _ _ _ _ _ _ _ (left-off _ _ _ _ _ _ _ (w .inv .long) (w .inv .small) (test-is (c .before) ∙ u .0 .left)) (u .2) (u .1))
+    left-same _ _ _ _ _ _ _ (left-row _ _ _ _ _ _ _ (w .inv .0 .long) (w .inv .0 .small) (u .3 .result) left (o .0) (u .4 .ensures) (u .5 .ensures)) (u .8) (u .7))
+    (λ u. left-same _ _ _ _ _ _ _ (left-off _ _ _ _ _ _ _ (w .inv .0 .long) (w .inv .0 .small) (test-is (c .before) ∙ u .0 .left)) (u .2) (u .1))
+    (c .if2 .came)
+
+-- where the next search may start
+keeps-hint : (c : tie.Joined2 Inv-loop μ-loop)
+    → Hint (certificateAt (c .before .before .before .before .before .before .before .before .before .before .args .pairs .now) 0) (c .before .before .before .before .before .before .before .before .before .before .args .onward) (c .before .before .before .before .before .before .before .before .before .before .args .wanted) (c .if2 .lowest)
+keeps-hint c =
+    let a = c .before .before .before .before .before .before .before .before .before .before .args in
+    let p = c .before .before .before .before .before .before .before .before .before .before .pre in
+    let w = c .before .before .before .before .before .before .before .loop in
+    let Start : ℕ → Type 0 = λ k. Hint (certificateAt (a .pairs .now) 0) (a .onward) (a .wanted) k in
+    ⊎-elim
+    (λ u.
+    let o = passed (record { before = c .before; if2 = u .0 }) in
+    subst Start (sym (u .9))
+    (hint-more (w .inv .1) (omega (arith, pair-in (c .before .before .before .before .before), p .0 .0)) (is-pair (c .before)) (w .inv .0 .among _ (rw (o .0) tt)) (o .1) (u .6 .ensures)))
+    (λ u. subst Start (sym (u .3)) (w .inv .1))
     (c .if2 .came)
 
 add-round : tie.Need-add-round Inv-loop μ-loop
@@ -150,10 +154,13 @@ loop-less : tie.Need-loop-less Inv-loop μ-loop
 loop-less c = let h = positive _ (c .before .before .before .before .before .before .if1 .left) in omega arith
 
 loop-again : tie.Need-loop-again Inv-loop μ-loop
-loop-again c = going-more _ _ _ _ _ _ _ (c .before .before .before .before .before .before .before .before .loop .inv) (positive _ (c .before .before .before .before .before .before .if1 .left)) (is-pair (c .before .before)) (pair-leaves (c .before)) (c .round2 .ensures)
+loop-again c = (
+  going-more _ _ _ _ _ _ _ (c .before .before .before .before .before .before .before .before .loop .inv .0) (positive _ (c .before .before .before .before .before .before .if1 .left)) (is-pair (c .before .before)) (pair-leaves (c .before)) (c .round2 .ensures),
+  keeps-hint (c .before),
+)
 
 returns-2 : tie.Need-returns-2 Inv-loop μ-loop
-returns-2 c = served-stop _ _ _ _ _ _ _ (c .before .loop .inv) (c .before .before .before .before .pre .0 .0) (c .loop-test .left)
+returns-2 c = (served-stop _ _ _ _ _ _ _ (c .before .loop .inv .0) (c .before .before .before .before .pre .0 .0) (c .loop-test .left), c .before .loop .inv .1)
 
 pub serve-spec : {M : Type 1} → statement M
 serve-spec =
@@ -164,9 +171,7 @@ serve-spec =
     round-requires
     loop-holds
     returns
-    mul-listed-at
-    add-listed-at
-    listed-at-requires
+    known-pair-requires
     index-requires
     listed-requires
     both-requires

@@ -1,29 +1,30 @@
--- `clauses::missing::survey` meets its contract. The loop's invariant: the reader stands after `count` pairs, and the rows of these are kept.
-use mathlib.Core.Path.{sym, subst, _∙_}
+-- `clauses::missing::survey` meets its contract. The loop's invariant: the certificate has `count` pairs or more, and the rows of
+-- these are kept.
+use mathlib.Core.Path.{_≡_, sym, subst, _∙_}
 use mathlib.Core.List.{List}
 use mathlib.Core.Logic.{⊎-elim}
-use Prim.Native.Nat.{ℕ, _+_, _-_}
+use Prim.Native.Nat.{ℕ, _+_, _-_, _≤_, _<_}
 use native.Mathlib.Omega.{arith}
-use native.Mathlib.Numerals.{add-one}
 use lib.ListN.{length}
 use Rattle.sheet.specs.Decode.{certificateAt}
-use Rattle.pairs.proofs.Laws.{Reached, reached-start, reached-next, reached-end}
+use Rattle.certificate.specs.Certificate.{pair, pairOf}
+use Rattle.pairs.proofs.Laws.{pair-inside, found-pair, found-end}
 use Rattle.clauses.proofs.Keeping.{Keeping, keeping-none, keeping-more, keeping-past, keeping-all}
 use borrow.Author.Needs.{needs}
 use Rattle.clauses.proofs.missing.survey.Statement.{statement}
 use Rattle.clauses.proofs.missing.survey.Tie as tie
 
 abbrev Inv-loop : tie.InvT-loop
-Inv-loop s from m sets shared₀ at₀ count₀ shared at count = Reached s from count at × Keeping (certificateAt s from) m sets count shared
+Inv-loop pairs m sets shared₀ count₀ shared count = (count ≤ length (certificateAt pairs 0)) × Keeping (certificateAt pairs 0) m sets count shared
 
 abbrev μ-loop : tie.MeasureT-loop
-μ-loop s from m sets shared₀ at₀ count₀ shared at count = length s - at
+μ-loop pairs m sets shared₀ count₀ shared count = length (certificateAt pairs 0) - count
 
 loop-holds : tie.Need-loop-holds Inv-loop μ-loop
-loop-holds c = (reached-start _ _, keeping-none _ _ _ (c .before .pre .1))
+loop-holds c = (search needs, keeping-none _ _ _ (c .before .pre .1))
 
-pair-from-requires : tie.Need-pair-from-requires Inv-loop μ-loop
-pair-from-requires c κs = search needs
+pair-in-requires : tie.Need-pair-in-requires Inv-loop μ-loop
+pair-in-requires c κs = search needs
 
 enum-known-found : tie.Need-enum-known-found Inv-loop μ-loop
 enum-known-found c = search needs
@@ -33,7 +34,7 @@ enum-told c = search needs
 
 returns : tie.Need-returns Inv-loop μ-loop
 returns c = let w = c .before .before .before .loop in
-    let e = reached-end _ _ _ _ (w .inv .0) (sym (c .before .before .pair-from .ensures) ∙ c .enum-told .given .1) in
+    let e = found-end _ _ (w .inv .0) (sym (c .before .before .pair-in .ensures) ∙ c .enum-told .given .1) in
     (e, keeping-all _ _ _ (w .inv .1) e)
 
 meet-requires : tie.Need-meet-requires Inv-loop μ-loop
@@ -45,22 +46,27 @@ mul-shared c = search needs
 element-write-shared : tie.Need-element-write-shared Inv-loop μ-loop
 element-write-shared c = search needs
 
+-- a pair stands there
+pair-is : (c : tie.Joined1 Inv-loop μ-loop)
+    → let c′ = certificateAt (c .before .before .before .before .before .before .before .args .pairs .now) 0 in
+    let i = c .before .before .before .before .before .loop .count in
+    (i < length c′) × (pairOf c′ i ≡ pair (c .before .before .found .given .0 .0) (c .before .before .found .given .0 .1 .0))
+pair-is c = found-pair _ _ (sym (c .before .before .before .before .pair-in .ensures) ∙ c .before .before .found .given .1)
+
 add-count : tie.Need-add-count Inv-loop μ-loop
-add-count c = let o = reached-next _ _ _ _ (c .before .before .before .before .before .loop .inv .0) _ _ _ (sym (c .before .before .before .before .pair-from .ensures) ∙ c .before .before .found .given .1) in
-    omega (arith, c .before .before .before .before .before .loop .inv .0 .offset)
+add-count c = omega (arith, pair-inside _ _ (pair-is c .0))
 
 loop-less : tie.Need-loop-less Inv-loop μ-loop
-loop-less c = let o = reached-next _ _ _ _ (c .before .before .before .before .before .loop .inv .0) _ _ _ (sym (c .before .before .before .before .pair-from .ensures) ∙ c .before .before .found .given .1) in omega arith
+loop-less c = omega (arith, pair-is c .0)
 
 loop-again : tie.Need-loop-again Inv-loop μ-loop
 loop-again c = let a = c .before .before .before .before .before .before .before .args in
     let w = c .before .before .before .before .before .loop in
-    let o = reached-next _ _ _ _ (c .before .before .before .before .before .loop .inv .0) _ _ _ (sym (c .before .before .before .before .pair-from .ensures) ∙ c .before .before .found .given .1) in
-    let Kept-on : List ℕ → Type 0 = λ rows. Keeping (certificateAt (a .s .now) (a .from)) (a .m) (a .sets .now) (w .count + 1) rows in (
-      rw (add-one (w .count)) (o .reached),
+    let Kept-on : List ℕ → Type 0 = λ rows. Keeping (certificateAt (a .pairs .now) 0) (a .m) (a .sets .now) (w .count + 1) rows in (
+      omega (arith, pair-is c .0),
       ⊎-elim
-          (λ u. subst Kept-on (sym (u .2)) (keeping-more _ _ _ (w .inv .1) _ (u .0 .taken) (o .pair-is) (u .1 .ensures)))
-          (λ u. subst Kept-on (sym (u .1)) (keeping-past _ _ _ (w .inv .1) (u .0 .left)))
+          (λ u. let l : w .count < 64 = omega (arith, u .0 .taken) in subst Kept-on (sym (u .2)) (keeping-more _ _ _ (w .inv .1) _ l (pair-is c .1) (u .1 .ensures)))
+          (λ u. let l : 64 ≤ w .count = omega (arith, u .0 .left) in subst Kept-on (sym (u .1)) (keeping-past _ _ _ (w .inv .1) l))
           (c .if1 .came),
     )
 
@@ -71,7 +77,7 @@ survey-spec =
     Inv-loop
     μ-loop
     loop-holds
-    pair-from-requires
+    pair-in-requires
     enum-known-found
     enum-told
     returns

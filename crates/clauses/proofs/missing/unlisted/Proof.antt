@@ -23,8 +23,8 @@ returns c =
     let a = c .before .before .before .before .before .before .before .before .args in (
       c .first-missing .ensures
           ∙ unlisted-is (a .events) (a .n) (a .followers) (a .alive) (c .before .before .before .before .before .before .below .result) (a .lsets .now) (c .before .before .before .before .before .before .below .ensures) (c .before .before .before .before .before .before .before .before .pre .1 .1 .1) (c .before .before .before .before .want .ensures)
-          (certificateAt (a .s .now) (a .from)) (a .i) (a .m) (a .onward) (a .rsets .now) (c .before .before .serve .ensures),
-      c .before .before .serve .ensures .long,
+          (certificateAt (a .pairs .now) 0) (a .i) (a .m) (a .onward) (a .rsets .now) (c .before .before .serve .ensures .0),
+      (c .before .before .serve .ensures .0 .long, c .before .before .serve .ensures .1),
     )
 
 pub unlisted-spec : {M : Type 1} → statement M
