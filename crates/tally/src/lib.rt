@@ -44,7 +44,7 @@ impl Tally {
     }
 }
 
-// The same of a tally that is lent.
+// The same of a tally that is lent: document 01 asks for this form, one thin update of a struct behind `&mut`.
 pub fn advance(t: &mut Tally, kind: u8)
     requires { ⌜ Room (tallyOf (now t)) ⌝ }
     ensures { λ _. ⌜ now (t .exit) ≡ tallyAfter (now (t .entry)) kind ⌝ }
