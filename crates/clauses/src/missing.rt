@@ -27,7 +27,8 @@ use places::masks::bit;
 use places::masks::chosen;
 use places::masks::gather;
 
-// The rest of what is missing: the places that miss an event, and the lowest pair that served one, or the number of pairs.
+// The rest of what is missing: the places that miss an event, and the pair at which the next search may start. That is the lowest pair met whose
+// place missed an event and whose set lies within the followers, or the number of pairs where there was none.
 pub struct Rest {
     pub missers: u64,
     pub lowest: usize,
