@@ -10,3 +10,4 @@ pub mod WordTest
 pub mod Cases
 pub mod Examples
 pub mod Witnesses
+mod Unqualified
