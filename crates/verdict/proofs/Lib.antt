@@ -11,3 +11,4 @@ pub mod Cases
 pub mod Examples
 pub mod Witnesses
 mod Unqualified
+mod Used
