@@ -17,7 +17,7 @@ use Rattle.verdict.specs.Promise.{WellFormed, EachCertified, done, bare,
 use Rattle.verdict.specs.Cases.{M}
 use Rattle.verdict.proofs.RulesMet.{all-pass}
 use Rattle.verdict.proofs.Bytes.{small, are-bytes}
-use Rattle.verdict.proofs.Loads.{loads}
+use Rattle.verdict.proofs.Loads.{loads-as-promised}
 
 -- For every list of rules -----------------------------------------------------------------------------------------------
 
@@ -68,6 +68,20 @@ start-is-exact =
     reached zero l = start
     reached (suc i) l = absurd (omega arith)
 
+-- a certificate that repeats a pair is exact too
+pub twice-is-exact : Exact 32 empty empty (pair 0 1 ∷ pair 0 1 ∷ [])
+twice-is-exact =
+    record {
+      start-first = tt;
+      only-reachable = reached;
+      all-reachable = λ p r. (0, omega arith, sym (only-start r));
+    }
+  where
+    reached : (i : ℕ) → i < 2 → Reachable 32 empty empty (pairOf (pair 0 1 ∷ pair 0 1 ∷ []) i)
+    reached zero l = start
+    reached (suc zero) l = start
+    reached (suc (suc i)) l = absurd (omega arith)
+
 pub M-premises : Premises large M
 unfolding sheetOf rules certificatesNeeded
 M-premises =
@@ -84,4 +98,4 @@ promised-M l = l .complete (M-premises .well-formed) (M-premises .true-rules) (M
 
 pub M-accepted : verdictOf large M ≡ accepted 6
 unfolding small
-M-accepted = promised-M (loads large M (omega arith) (are-bytes M tt))
+M-accepted = promised-M (loads-as-promised large (omega arith) M (are-bytes M tt))
