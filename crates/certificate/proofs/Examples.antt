@@ -35,6 +35,16 @@ cases =
     ∷ case (event 2) emptyOrTwoFirst (pair 0 1 ∷ pair 1 2 ∷ pair 2 2 ∷ []) (fault 2 2 0 0)
     -- of that set no place ends a word, so clause 3 fails at the same pair
     ∷ case (event 2) emptyOrTwoFirst (pair 0 1 ∷ pair 1 2 ∷ pair 1 8 ∷ []) (fault 2 2 0 0)
+    -- a set with a bit that is no right place is within no stepped set, though the rest of it is
+    ∷ case (event 2) emptyOrTwoFirst (pair 0 1 ∷ pair 1 10 ∷ []) (fault 4 0 2 1)
+    -- a set within the stepped one need not be the whole of it
+    ∷ case (event 2) (either (event 2) (event 2)) (pair 0 1 ∷ pair 1 4 ∷ []) fine
+    -- later pairs may have place 0, with another set too, and may repeat
+    ∷ case empty (star (event 2)) (pair 0 1 ∷ pair 0 3 ∷ pair 0 1 ∷ []) fine
+    -- clause 3 at a later pair: one event is no word of two
+    ∷ case (event 2) (join (event 2) (event 2)) (pair 0 1 ∷ pair 1 2 ∷ []) (fault 3 1 0 0)
+    -- of two followers without a pair, the one that holds the lower event
+    ∷ case (either (event 5) (event 3)) (any 32) (pair 0 1 ∷ []) (fault 4 0 3 2)
     -- the last event, 31, is tested too
     ∷ case (event 31) (any 32) (pair 0 1 ∷ []) (fault 4 0 31 1)
     -- the pair after each of the events that follow event 2 is listed, and is missing

@@ -159,4 +159,4 @@ module _ (s conditions : List ℕ) (x : ConditionsHeld large s conditions) (c : 
 
       pub word-tested : ((i : ℕ) → i < length w → getD w i 0 < 32) → (b : Bool) → b ≡ accepts (condition (sheetOf large s) c) w
           → tested b ≡ wordTest large s c w
-      word-tested below b e = ap tested e ∙ sym (taken-in large s c w (record { found = finds; short = short; events = each-index _ 0 w below }))
+      word-tested below b e = ap tested e ∙ sym (taken-in large s c w (record { found = finds; short = short; none-stray = each-index _ 0 w below }))

@@ -20,7 +20,7 @@ lacks : (c : Condition) (w : Word) → accepts c w ≡ false → Holds c w → �
 lacks c w e h = subst T e (words c w .1 h)
 
 -- Method 0 goes from point 0 to 1 by the primitive 2, which it calls itself (step 3) or through method 1 (steps 0 and 2), and on to point 2 by the
--- event 0 (open). So open is due at point 1, and the primitive does not allow it.
+-- event 0 (open). So open is due at point 1, and neither the primitive nor method 1 allows it.
 abbrev opening : Sheet
 opening = record {
   conditions = empty ∷ star (any 32) ∷ event 0 ∷ event 1 ∷ asked ∷ [];
@@ -33,7 +33,7 @@ opening = record {
       ∷ [];
   methods =
       record { pre = 1; trace = 1; future = 0; body = some (record { entry = 0; exit = 2 }) }
-      ∷ record { pre = 1; trace = 1; future = 1; body = some (record { entry = 3; exit = 4 }) }
+      ∷ record { pre = 1; trace = 1; future = 4; body = some (record { entry = 3; exit = 4 }) }
       ∷ record { pre = 1; trace = 3; future = 4; body = none }
       ∷ [];
   steps = call-step 0 1 1 ∷ event-step 1 2 0 ∷ call-step 3 4 2 ∷ call-step 0 1 2 ∷ [];
@@ -53,6 +53,11 @@ to-return = by-step 0 [] ∷ by-step 2 (1 ∷ []) ∷ return ∷ []
 pub unmet-in-caller : Owing opening (run opening 0 to-return) → ⊥
 unfolding run
 unmet-in-caller o = lacks asked (0 ∷ []) refl (each-head (each-tail o) (List·Memᴰ·tail (List·Memᴰ·head refl)) (0 ∷ []) (0, tt, refl))
+
+-- the call of method 1, which has a body, asks the same: control is in the activation that made it
+pub unmet-of-body : Owing opening (run opening 0 to-return) → ⊥
+unfolding run
+unmet-of-body o = lacks asked (0 ∷ []) refl (each-head o (List·Memᴰ·head refl) (0 ∷ []) (0, tt, refl))
 
 -- open has been raised, and nothing more is due
 pub unmet-since : Owing opening (run opening 0 (to-return ++ (by-step 1 [] ∷ []))) → ⊥

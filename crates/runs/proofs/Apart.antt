@@ -14,7 +14,7 @@ use Rattle.sheet.specs.Each.{Each, nil, cons}
 use Rattle.sheet.proofs.Each.{each-map, each-zip, each-head, each-tail, each-append, each-left, each-right, each-is-member, each-mapped, each-member}
 use Rattle.sheet.specs.Sheet.{Sheet}
 use Rattle.runs.specs.Runs.{Call, Returned, State, calls, start, Move, return, callersNow, newCall, runOn, run}
-use Rattle.runs.specs.Owing.{callNumber, IsCaller, stateAfter, Began, at-start, by-move, ToldApart}
+use Rattle.runs.specs.Owing.{callNumber, IsCaller, stateAfter, HowBegan, at-start, by-move, ToldApart}
 use Rattle.runs.proofs.Moves.{Makes, event-made, pass-made, primitive-made, open-made, return-made, move-case, run-append, run-on-keeps, run-keeps}
 use Rattle.runs.proofs.Numbers.{NumbersAt, not-below, numbers-below, made-numbers, start-numbers}
 
@@ -166,8 +166,8 @@ module _ (S : Sheet) where
         open-are : c .activation .callers ≡ callNumbers (at k .open-calls)
         open-are = is ∙ callers-are (runs-told S m (take k ms) .1 .stacked)
 
-    began : (k : ℕ) → Each (Began S m ms) (calls (at k)) → (c : Call) → List·Memᴰ c (calls (at (suc k))) → OldOrNew (at k) c → Began S m ms c
-    began k g c there (old i) = each-member (Began S m ms) g i
+    began : (k : ℕ) → Each (HowBegan S m ms) (calls (at k)) → (c : Call) → List·Memᴰ c (calls (at (suc k))) → OldOrNew (at k) c → HowBegan S m ms c
+    began k g c there (old i) = each-member (HowBegan S m ms) g i
     began k g c there (new n h o) =
         by-move k
         record {
@@ -180,7 +180,7 @@ module _ (S : Sheet) where
           callers = callers k c o;
         }
 
-    all-began : (k : ℕ) → Each (Began S m ms) (calls (at k))
+    all-began : (k : ℕ) → Each (HowBegan S m ms) (calls (at k))
     unfolding run start
     all-began zero = cons (at-start (List·Memᴰ·head refl) (λ d. List·Memᴰ·not-nil)) nil
     all-began (suc k) = each-zip (began k (all-began k)) (each-is-member (calls (at (suc k)))) (one-more k)
@@ -190,5 +190,5 @@ module _ (S : Sheet) where
   told-apart m ms =
       record {
         numbers = runs-told S m ms .1 .numbers;
-        began = subst (λ (xs : List Move). Each (Began S m ms) (calls (run S m xs))) (take-length ms) (all-began m ms (length ms));
+        began = subst (λ (xs : List Move). Each (HowBegan S m ms) (calls (run S m xs))) (take-length ms) (all-began m ms (length ms));
       }

@@ -1,13 +1,14 @@
--- A run of a small sheet by evaluation, move by move, and its rules' numbers and subjects; and a sheet whose rules are true.
+-- A run of a small sheet by evaluation, move by move, and its rules' numbers and subjects; what the rules of another say; and a sheet whose rules
+-- are true.
 use mathlib.Core.Path.{_≡_, refl}
 use Prim.Native.Nat.{ℕ}
 use mathlib.Core.Bool.{true, false}
 use mathlib.Core.Option.{none, some}
 use mathlib.Core.List.{List, [], _∷_, _++_, map}
-use Rattle.condition.specs.Condition.{Word, empty, star, event, any, _⊆_}
+use Rattle.condition.specs.Condition.{Word, empty, join, star, event, any, _⊆_}
 use Rattle.sheet.specs.Each.{nil, cons}
 use Rattle.sheet.specs.Sheet.{Point, Method, event-step, call-step, pass-step, Sheet}
-use Rattle.runs.specs.Rules.{rules, AllMet}
+use Rattle.runs.specs.Rules.{_isIn_, holdsEmpty, rules, AllMet}
 use Rattle.runs.specs.Runs.{Call, Returned, State, Move, return, by-step, run}
 
 abbrev anywhere : Point
@@ -109,6 +110,32 @@ rule-subjects : map (λ x. x .subject) (rules sheet)
     ≡ 0 ∷ 0 ∷ 0 ∷ 0 ∷ 0 ∷ 0 ∷ 1 ∷ 1 ∷ 1 ∷ 1 ∷ 0 ∷ 0 ∷ 0 ∷ 1 ∷ 1 ∷ 1 ∷ 1 ∷ 1 ∷ 2 ∷ 2 ∷ 2 ∷ 3 ∷ 3 ∷ 3 ∷ 3 ∷ 3 ∷ 4 ∷ 4 ∷ 4 ∷ []
 unfolding rules
 rule-subjects = refl
+
+-- What the rules say, of a sheet with one method with body, one primitive and a step of each kind. Each condition is told by its one event: 0, 1
+-- and 2 are past, own and due of point p, 3 to 5 of point q, 6 to 8 pre, trace and future of the method, 9 to 11 of the primitive.
+abbrev told : Sheet
+told = record {
+  conditions =
+      event 0 ∷ event 1 ∷ event 2 ∷ event 3 ∷ event 4 ∷ event 5 ∷ event 6 ∷ event 7 ∷ event 8 ∷ event 9 ∷ event 10 ∷ event 11 ∷ [];
+  points = record { past = 0; own = 1; due = 2 } ∷ record { past = 3; own = 4; due = 5 } ∷ [];
+  methods =
+      record { pre = 6; trace = 7; future = 8; body = some (record { entry = 0; exit = 1 }) }
+      ∷ record { pre = 9; trace = 10; future = 11; body = none }
+      ∷ [];
+  steps = event-step 0 1 31 ∷ call-step 0 1 1 ∷ pass-step 0 1 ∷ [];
+  certificates = [];
+}
+
+rule-claims : map (λ x. x .claim) (rules told)
+    ≡ holdsEmpty (event 6) ∷ holdsEmpty (event 8)
+    ∷ (event 6 isIn event 0) ∷ holdsEmpty (event 1) ∷ (event 4 isIn event 7) ∷ (event 8 isIn event 5)
+    ∷ (join (event 0) (event 31) isIn event 3) ∷ (join (event 1) (event 31) isIn event 4) ∷ (join (event 31) (event 5) isIn event 2)
+    ∷ (event 0 isIn event 9) ∷ (join (event 0) (event 10) isIn event 3) ∷ (join (event 1) (event 10) isIn event 4)
+    ∷ (event 5 isIn event 11) ∷ (join (event 10) (event 5) isIn event 2)
+    ∷ (event 0 isIn event 3) ∷ (event 1 isIn event 4) ∷ (event 5 isIn event 2)
+    ∷ []
+unfolding rules
+rule-claims = refl
 
 -- Document 01's sheet M ---------------------------------------------------------------------------------------------------
 

@@ -11,7 +11,7 @@ use Rattle.sheet.proofs.Each.{each-map, each-zip}
 use Rattle.sheet.specs.Sheet.{Body, call-step, Sheet, past, trace, future, body}
 use Rattle.runs.specs.Runs.{Call, Returned, State, entryOf, start, Move, raise, newCall, openCall, returnedNow, stepOf, targetOr, noneOpen, close, run}
 use Rattle.runs.specs.Owing.{IsCaller}
-use Rattle.sheet.proofs.Kept.{HasBody}
+use Rattle.sheet.specs.Names.{HasBody}
 use Rattle.runs.proofs.Rules.{BodyRules, CallRules, MethodRules, StepRules, SheetRules}
 use Rattle.runs.proofs.Adds.{Adds, adds-more, adds-weaker, adds-nothing}
 use Rattle.runs.proofs.Leads.{Leads, event-leads, pass-leads, call-leads}

@@ -16,3 +16,5 @@ pub mod Safe
 pub mod Owing
 pub mod Examples
 pub mod Loop
+mod Refuted
+mod Told

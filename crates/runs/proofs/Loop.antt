@@ -16,7 +16,7 @@ use Rattle.condition.specs.Places.{accepts}
 use Rattle.certificate.specs.Certificate.{Certificate}
 use Rattle.sheet.specs.Sheet.{Point, Step, event-step, call-step, pass-step, Sheet, trace, future, body}
 use Rattle.sheet.proofs.Each.{each-member}
-use Rattle.sheet.proofs.Kept.{HasBody}
+use Rattle.sheet.specs.Names.{HasBody}
 use Rattle.runs.specs.Rules.{rules, rulesFrom, AllMet}
 use Rattle.runs.specs.Runs.{Returned, State, since, Move, return, by-step, raise, newCall, returnedNow, makeCall, makeStep, fromOf, tryStep, tryMove, move, runOn, run}
 use Rattle.runs.proofs.Moves.{Makes, event-made, pass-made, primitive-made, open-made, return-made, run-on-keeps}

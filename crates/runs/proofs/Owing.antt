@@ -8,7 +8,7 @@ use Rattle.sheet.specs.Sheet.{Sheet, body}
 use Rattle.runs.specs.Rules.{rulesFrom, AllMet}
 use Rattle.runs.specs.Runs.{Call, Returned, State, Move, run}
 use Rattle.runs.specs.Owing.{InCaller, Owing}
-use Rattle.sheet.proofs.Kept.{HasBody}
+use Rattle.sheet.specs.Names.{HasBody}
 use Rattle.runs.proofs.Rules.{by-number}
 use Rattle.runs.proofs.Adds.{adds-since}
 use Rattle.runs.proofs.Invariant.{Due, Owed, here, below, Good, running, over}

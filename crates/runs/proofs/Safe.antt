@@ -9,7 +9,7 @@ use Rattle.sheet.proofs.Each.{each-map, each-append, each-mapped}
 use Rattle.sheet.specs.Sheet.{Sheet, pre, trace, body}
 use Rattle.runs.specs.Rules.{rulesFrom, AllMet}
 use Rattle.runs.specs.Runs.{Call, Returned, State, raised, Move, run, Safe}
-use Rattle.sheet.proofs.Kept.{HasBody}
+use Rattle.sheet.specs.Names.{HasBody}
 use Rattle.runs.proofs.Rules.{by-number}
 use Rattle.runs.proofs.Adds.{adds-since}
 use Rattle.runs.proofs.Invariant.{Frames, outermost, inner, Well, Good, running, over}

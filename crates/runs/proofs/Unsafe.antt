@@ -1,8 +1,8 @@
--- Runs that are not safe, one for each thing that demand 3 asks: pre, trace and future, of the outermost call and of an inner one. Each sheet
--- differs in one condition of one method from a sheet whose same runs are safe.
+-- Runs that are not safe, one for each thing that demand 3 asks: pre, trace and future, of the outermost call, of an inner one and of a primitive.
+-- Each sheet differs in one condition of one method from a sheet whose same runs are safe.
 use mathlib.Core.Path.{_≡_, refl}
 use mathlib.Core.Bool.{false≢true}
-use mathlib.Core.Option.{some}
+use mathlib.Core.Option.{none, some}
 use mathlib.Core.List.{List, [], _∷_, _++_}
 use Prim.Native.Nat.{ℕ}
 use Rattle.condition.specs.Condition.{Condition, empty, join, event}
@@ -147,4 +147,57 @@ kept-at-end =
       began-well = cons refl (cons (words (event 0) (0 ∷ []) .0 tt) nil);
       raised-well = cons (words all-three (0 ∷ 1 ∷ 2 ∷ []) .0 tt) (cons (words (event 1) (1 ∷ []) .0 tt) nil);
       ended-well = λ e. cons refl (cons (words (event 2) (2 ∷ []) .0 tt) nil);
+    }
+
+-- A primitive ---------------------------------------------------------------------------------------------------------------
+
+-- As `kept`, but method 1 calls the primitive 2, whose pre, trace and future are given; its call has two callers. A primitive raises a word of its
+-- trace or is not called, so pre and future are left to break.
+abbrev calling : ℕ → ℕ → ℕ → Sheet
+calling pre trace future = record {
+  conditions = empty ∷ event 0 ∷ event 1 ∷ event 2 ∷ all-three ∷ [];
+  points = somewhere ∷ somewhere ∷ somewhere ∷ somewhere ∷ somewhere ∷ somewhere ∷ [];
+  methods = method 0 4 0 0 3 ∷ method 1 2 3 4 5 ∷ record { pre = pre; trace = trace; future = future; body = none } ∷ [];
+  steps = event-step 0 1 0 ∷ call-step 1 2 1 ∷ call-step 4 5 2 ∷ event-step 2 3 2 ∷ [];
+  certificates = [];
+}
+
+-- the moves to where the primitive has returned, to where its caller has, and to the end
+abbrev to-primitive : List Move
+to-primitive = to-inner ++ (by-step 2 (1 ∷ []) ∷ [])
+
+abbrev past-caller : List Move
+past-caller = to-primitive ++ (return ∷ [])
+
+abbrev past-all : List Move
+past-all = past-caller ++ (by-step 3 [] ∷ return ∷ [])
+
+-- the pre of the primitive lacks the word 0
+pub pre-of-primitive : Safe (calling 0 2 3) (run (calling 0 2 3) 0 to-primitive) → ⊥
+unfolding run
+pre-of-primitive s = words empty (0 ∷ []) .1 (each-head (each-tail (each-tail (s .began-well))))
+
+-- its future lacks the word 2. Up to the return of its caller nothing followed, which that future allows; 2 follows behind it.
+pub future-of-primitive : Safe (calling 1 2 0) (run (calling 1 2 0) 0 past-all) → ⊥
+unfolding run
+future-of-primitive s = words empty (2 ∷ []) .1 (each-head (each-tail (each-tail (s .ended-well refl))))
+
+-- and the same runs, safe
+pub primitive-at-return : Safe (calling 1 2 3) (run (calling 1 2 3) 0 to-primitive)
+unfolding run
+primitive-at-return =
+    record {
+      began-well = cons (words (event 0) (0 ∷ []) .0 tt) (cons refl (cons (words (event 0) (0 ∷ []) .0 tt) nil));
+      raised-well = cons (words (event 1) (1 ∷ []) .0 tt) nil;
+      ended-well = λ e. absurd (false≢true e);
+    }
+
+pub primitive-at-end : Safe (calling 1 2 3) (run (calling 1 2 3) 0 past-all)
+unfolding run
+primitive-at-end =
+    record {
+      began-well = cons refl (cons (words (event 0) (0 ∷ []) .0 tt) (cons (words (event 0) (0 ∷ []) .0 tt) nil));
+      raised-well =
+          cons (words all-three (0 ∷ 1 ∷ 2 ∷ []) .0 tt) (cons (words (event 1) (1 ∷ []) .0 tt) (cons (words (event 1) (1 ∷ []) .0 tt) nil));
+      ended-well = λ e. cons refl (cons (words (event 2) (2 ∷ []) .0 tt) (cons (words (event 2) (2 ∷ []) .0 tt) nil));
     }

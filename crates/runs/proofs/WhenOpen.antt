@@ -12,7 +12,7 @@ use Rattle.sheet.specs.Each.{Each}
 use Rattle.sheet.proofs.Each.{each-zip, each-is-member, each-member}
 use Rattle.sheet.specs.Sheet.{Sheet}
 use Rattle.runs.specs.Runs.{Call, Returned, State, calls, Move, run}
-use Rattle.runs.specs.Owing.{InCaller, LiesInFuture, Owing, stateAfter, Begins, Began, at-start, by-move, ToldApart, WasOpen, OwingWhenOpen}
+use Rattle.runs.specs.Owing.{InCaller, LiesInFuture, Owing, stateAfter, Begins, HowBegan, at-start, by-move, ToldApart, WasOpen, OwingWhenOpen}
 use Rattle.runs.proofs.Apart.{stays}
 
 module _ (S : Sheet) (m : ℕ) (ms : List Move) where
@@ -37,14 +37,14 @@ module _ (S : Sheet) (m : ℕ) (ms : List Move) where
   innermost-is-call : {d : Call} {ds : List Call} → now .open-calls ≡ d ∷ ds → List·Memᴰ d (calls now)
   innermost-is-call {d} e = Memᴰ·append-left _ (subst (λ (cs : List Call). List·Memᴰ d cs) (sym e) (List·Memᴰ·head refl))
 
-  caller-if-open : {c : Call} → Began S m ms c → (k : ℕ) → Begins S m ms k c → (cs : List Call) → now .open-calls ≡ cs → WasOpen S m ms k cs → InCaller cs c
+  caller-if-open : {c : Call} → HowBegan S m ms c → (k : ℕ) → Begins S m ms k c → (cs : List Call) → now .open-calls ≡ cs → WasOpen S m ms k cs → InCaller cs c
   caller-if-open g k b [] e w = w
   caller-if-open (at-start i none) k b (d ∷ ds) e w = absurd (b .not-before (stays-to 0 k zero-le i))
   caller-if-open (by-move j a) k b (d ∷ ds) e w =
       a .callers d (innermost-is-call e) .1
       (subst (λ (n : ℕ). List·Memᴰ d (stateAfter S m ms n .open-calls)) (le-antisymm (not-later (a .begins) b) (not-later b (a .begins))) w)
 
-  open-if-caller : {c : Call} → Began S m ms c → (cs : List Call) → now .open-calls ≡ cs → InCaller cs c
+  open-if-caller : {c : Call} → HowBegan S m ms c → (cs : List Call) → now .open-calls ≡ cs → InCaller cs c
       → (k : ℕ) × Begins S m ms k c × WasOpen S m ms k cs
   open-if-caller g [] e i = absurd i
   open-if-caller (at-start h none) (d ∷ ds) e i = absurd (none d i)
@@ -53,8 +53,8 @@ module _ (S : Sheet) (m : ℕ) (ms : List Move) where
   -- The same is owed ------------------------------------------------------------------------------------------------------
 
   module _ (told : ToldApart S m ms) where
-    began : {r : Returned} → List·Memᴰ r (now .returned-calls) → Began S m ms (r .call)
-    began i = each-member (Began S m ms) (told .began) (Memᴰ·append-right (now .open-calls) (Memᴰ·map (λ (r : Returned). r .call) i))
+    began : {r : Returned} → List·Memᴰ r (now .returned-calls) → HowBegan S m ms (r .call)
+    began i = each-member (HowBegan S m ms) (told .began) (Memᴰ·append-right (now .open-calls) (Memᴰ·map (λ (r : Returned). r .call) i))
 
     pub owing-when-open : Owing S now ↔ OwingWhenOpen S m ms
     owing-when-open = (

@@ -55,16 +55,16 @@ module _ (S : Sheet) (m : ℕ) (ms : List Move) where
     pub callers : (d : Call) → List·Memᴰ d (calls (run S m ms)) → IsCaller d c ↔ List·Memᴰ d (stateAfter k .open-calls)
 
   -- the outermost call is there from the start, and has no callers; each other one began by a move
-  pub data Began (c : Call) : Type 0 where
-    at-start : List·Memᴰ c (calls (stateAfter 0)) → ((d : Call) → IsCaller d c → ⊥) → Began c
-    by-move : (k : ℕ) → BeganBy k c → Began c
+  pub data HowBegan (c : Call) : Type 0 where
+    at-start : List·Memᴰ c (calls (stateAfter 0)) → ((d : Call) → IsCaller d c → ⊥) → HowBegan c
+    by-move : (k : ℕ) → BeganBy k c → HowBegan c
 
   -- Its activations are told apart, also several of one method, by one step, with equal histories.
   pub record ToldApart : Type 0 where
     -- no two calls, open or returned, share a number
     pub numbers : List·Nodup (map callNumber (calls (run S m ms)))
     -- each call's callers are the calls that were open when it began
-    pub began : Each Began (calls (run S m ms))
+    pub began : Each HowBegan (calls (run S m ms))
 
   -- What is owed, said with no numbers: of a returned call, whenever control is in a call that was open when that one began. By `ToldApart` it is
   -- the same (proofs/WhenOpen).

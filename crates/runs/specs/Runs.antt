@@ -13,10 +13,11 @@ use Rattle.sheet.specs.Sheet.{Body, Step, event-step, call-step, pass-step, She
 
 -- The state of a run ----------------------------------------------------------------------------------------------------
 
--- Which activation a call is, which only request 12 asks (specs/Owing): how many calls began before it, and that number of the activation that
--- made it and of that activation's callers, in this order.
+-- Which activation a call is, which only request 12 asks (specs/Owing).
 pub record Activation : Type 0 where
+  -- how many calls began before it
   pub number : ℕ
+  -- the numbers of the activation that made it, of the one that made that, and so on
   pub callers : List ℕ
 
 -- "A call has its method, its step (the outermost has none), the history at its beginning"
@@ -39,6 +40,7 @@ pub record State : Type 0 where
   -- the last to return first
   pub returned-calls : List Returned
   pub point : ℕ
+  -- whether the outermost call has returned
   pub ended : Bool
 
 -- "every call so far"
@@ -63,7 +65,8 @@ pub record Grown (s : State) : Type 0 where
   pub while-open : Each (λ r. Extends (r .call .began) (r .at)) (s .returned-calls)
   pub since-return : Each (λ r. Extends (r .at) (s .history)) (s .returned-calls)
 
--- "It starts at the entry of method 0 with no events, method 0 its one open call": here at the method m
+-- "It starts at the entry of method 0 with no events, method 0 its one open call": here at the method m. The first method of a sheet that is read
+-- whole has a body.
 abbrev pub entryOf : Option Body → ℕ
 entryOf none = 0
 entryOf (some b) = b .entry
@@ -115,7 +118,7 @@ abbrev pub openCall : Call → ℕ → State → State
 openCall c entry s =
     record { history = s .history; open-calls = c ∷ s .open-calls; returned-calls = s .returned-calls; point = entry; ended = s .ended }
 
--- a call that was not opened, or is open no longer, returns now
+-- a call that was not opened returns now
 abbrev pub returnedNow : Call → State → State
 returnedNow c s =
     record {
@@ -129,8 +132,8 @@ returnedNow c s =
 -- "A call of a primitive needs a word of the primitive's trace, whichever it is; it raises that word and returns to the step's target, all in
 -- one move."
 abbrev pub makeCall : State → Call → Word → ℕ → Condition → Option Body → State
-makeCall s c w q trace none = cond (accepts trace w) (returnedNow c (raise w q s)) s
-makeCall s c w q trace (some b) = openCall c (b .entry) s
+makeCall s c w q raises none = cond (accepts raises w) (returnedNow c (raise w q s)) s
+makeCall s c w q raises (some b) = openCall c (b .entry) s
 
 -- "An event step raises its event; a pass raises none; both lead to their target."
 abbrev pub makeStep : Sheet → State → ℕ → Word → Step → State

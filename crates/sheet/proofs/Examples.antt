@@ -1,5 +1,5 @@
--- Records and readings by evaluation: the fields of a record of each kind, each limit at its last and at one more, refusals of one record in their
--- order, and the place of refusal 1.
+-- Records and readings by evaluation: the fields of a record of each kind, each limit at its last and at one more, the order of sections, refusals
+-- of one record in their order, and the place of refusal 1.
 use mathlib.Core.Path.{_≡_, refl}
 use mathlib.Core.Option.{Option, none, some}
 use mathlib.Core.List.{List, [], _∷_, _++_, map}
@@ -106,6 +106,14 @@ rows =
     ∷ after 1 1 64 0 method0 (6 ∷ 0 ∷ [])
     ∷ after 1 1 1 511 pass0 (9 ∷ 5 ∷ [])
     ∷ after 1 1 1 512 pass0 (6 ∷ 0 ∷ [])
+    -- "Sections in order": a record of each section, and then one of the section before
+    ∷ after 1 0 0 0 (point0 ++ (0x02 ∷ [])) (4 ∷ 7 ∷ [])
+    ∷ after 1 1 0 0 (method0 ++ point0) (4 ∷ 11 ∷ [])
+    ∷ after 1 1 1 0 (pass0 ++ method0) (4 ∷ 5 ∷ [])
+    ∷ after 1 1 1 0 (0x0E ∷ pass0) (4 ∷ 1 ∷ [])
+    -- "a condition is open and the kind is above 6"
+    ∷ after 1 0 0 0 (0x02 ∷ point0) (4 ∷ 1 ∷ [])
+    ∷ after 1 0 0 0 (0x02 ∷ 0x0E ∷ []) (4 ∷ 1 ∷ [])
     -- "at one record the table's order holds": 3 before 4, 4 before 5, 5 before 6, 6 before 7, 7 before 9, and behind each of the last three
     -- the second alone
     ∷ after 1 0 0 0 (point0 ++ (0x01 ∷ [])) (3 ∷ 7 ∷ [])

@@ -13,21 +13,12 @@ use Rattle.sheet.specs.Sheet.{Body, Method, Step, event-step, call-step,
 use Rattle.sheet.specs.Record.{Record, symbol-record, end-of-condition, point-record, method-record, step-record, pair-record, end-of-certificate, methodAt, stepAt}
 use Rattle.sheet.specs.Reading.{Tally, Offsets, Reading, stepNamed, named, isPrimitive, noneYet, firstIsPrimitive, offsetsPast, whole, readSheet}
 use Rattle.sheet.specs.Decode.{sheetOf}
+use Rattle.sheet.specs.Names.{HasBody, EventBelow}
 use Rattle.sheet.proofs.Each.{each-append, each-mapped}
 use Rattle.sheet.proofs.Kind.{Fits, fits}
 use Rattle.sheet.proofs.Take.{Took}
 use Rattle.sheet.proofs.ReadOn.{Finished, read-keeps}
 use Rattle.sheet.proofs.SheetOf.{steps-are, methods-are}
-
-abbrev pub HasBody : Option Body → Type 0
-HasBody none = ⊥
-HasBody (some b) = Unit {0}
-
--- the event of a step, if it has one, is below n
-abbrev pub EventBelow : ℕ → Step → Type 0
-EventBelow n (event-step p q a) = a < n
-EventBelow n (call-step p q m) = Unit {0}
-EventBelow n (pass-step p q) = Unit {0}
 
 event-below : (n : ℕ) (t : Tally) (x : Step) → T (stepNamed n t x) → EventBelow n x
 event-below n t (event-step p q a) h = ltb→lt a n (and-out (ltb p (t .points) && ltb q (t .points)) (ltb a n) h .1)

@@ -14,3 +14,4 @@ pub mod Postfix
 pub mod Certified
 pub mod Bounded
 pub mod Examples
+mod Unnamed

@@ -1,4 +1,5 @@
--- That every name of a sheet exists: document 01, "Names point only backward". proofs/Named shows it of each sheet that is read whole.
+-- What holds of each sheet that is read whole: every name exists (document 01, "Names point only backward"; proofs/Named), the event of each step is
+-- one of the instrument's, and the first method has a body (proofs/Kept).
 use Prim.Native.Nat.{ℕ, _<_}
 use mathlib.Core.Option.{Option, none, some}
 use lib.ListN.{length}
@@ -30,3 +31,14 @@ pub record NamesExist (S : Sheet) : Type 0 where
   pub points-named : Each (PointNamed (length (S .conditions))) (S .points)
   pub methods-named : Each (MethodNamed (length (S .conditions)) (length (S .points))) (S .methods)
   pub steps-named : Each (StepNamed (length (S .points)) (length (S .methods))) (S .steps)
+
+-- a method is one with body
+abbrev pub HasBody : Option Body → Type 0
+HasBody none = ⊥
+HasBody (some b) = Unit {0}
+
+-- the event of a step, if it has one, is below n
+abbrev pub EventBelow : ℕ → Step → Type 0
+EventBelow n (event-step p q a) = a < n
+EventBelow n (call-step p q m) = Unit {0}
+EventBelow n (pass-step p q) = Unit {0}

@@ -1,4 +1,5 @@
--- More sheets and words by evaluation: refusal 10, rules of steps and of the empty word, the word test's own refusals and their order.
+-- More sheets and words by evaluation: refusal 10, rules of steps and of the empty word, the word test's own refusals and their order; and the lines,
+-- numbers and values of answers of each kind.
 use mathlib.Core.Path.{_≡_, refl}
 use mathlib.Core.Bool.{true, false}
 use mathlib.Core.Option.{none, some}
@@ -8,9 +9,10 @@ use Prim.Native.String.{String}
 use lib.ListN.{take, replicate}
 use Rattle.condition.specs.Condition.{Word}
 use Rattle.sheet.specs.Model.{large}
-use Rattle.verdict.specs.Verdict.{verdictOf}
+use Rattle.verdict.specs.Verdict.{refused, verdictOf}
 use Rattle.verdict.specs.WordTest.{Answer, tested, untested, wordTest}
-use Rattle.verdict.specs.Line.{ascii, line}
+use Rattle.verdict.specs.Reply.{Reply, _giving_, replyOf, answerReply}
+use Rattle.verdict.specs.Line.{ascii, line, answerLine}
 use Rattle.verdict.specs.Cases.{point0, method0, startOnly, threeStarts, M, W}
 
 -- Sheets ----------------------------------------------------------------------------------------------------------------
@@ -34,6 +36,22 @@ passing certificates = (0x02 ∷ 0x06 ∷ []) ++ (point0 ++ (method0 0 ++ (pass0
 abbrev event0 : List ℕ
 event0 = 0x0A ∷ 0 ∷ 0 ∷ 0 ∷ 0 ∷ 0 ∷ []
 
+-- One condition, 3 and then 5 any number of times, at one point, with two passes there. A certificate lists the three reachable pairs; that of rule 16
+-- of step 1, the last but one, lacks the last of them.
+abbrev threeAndFive : List ℕ
+threeAndFive = 0x01 ∷ 0x08 ∷ 0 ∷ 0 ∷ 0 ∷ 0x01 ∷ 0x20 ∷ 0 ∷ 0 ∷ 0 ∷ 0x03 ∷ 0x05 ∷ 0x06 ∷ []
+
+abbrev twoPairs : List ℕ
+twoPairs = 0x0D ∷ 0x00 ∷ 0x01 ∷ 0 ∷ 0 ∷ 0 ∷ 0x0D ∷ 0x01 ∷ 0x02 ∷ 0 ∷ 0 ∷ 0 ∷ []
+
+abbrev allPairs : List ℕ
+allPairs = twoPairs ++ (0x0D ∷ 0x02 ∷ 0x04 ∷ 0 ∷ 0 ∷ 0 ∷ 0x0E ∷ [])
+
+abbrev lacking : List ℕ
+lacking =
+    threeAndFive ++ point0 ++ method0 0 ++ pass0 ++ pass0 ++ allPairs ++ allPairs ++ allPairs ++ allPairs ++ allPairs ++ allPairs ++ allPairs
+    ++ twoPairs ++ (0x0E ∷ allPairs)
+
 sheets : List Printed
 sheets =
     printed (take 20 M) "refused 10 at 20"
@@ -48,11 +66,31 @@ sheets =
     -- the first rule of a step
     ∷ printed ((0x02 ∷ 0x06 ∷ []) ++ (point0 ++ (method0 0 ++ (event0 ++ (threeStarts ++ threeStarts)))))
     "unproved rule 7 step 0 clause 4 pair 0 event 0 place 1"
+    ∷ printed lacking "unproved rule 16 step 1 clause 4 pair 1 event 5 place 2"
     ∷ []
 
 sheets-print : map (λ x. line (verdictOf large (x .bytes))) sheets ≡ map (λ x. ascii (x .prints)) sheets
 unfolding sheets verdictOf line
 sheets-print = refl
+
+-- the same as number and values, of an answer of each kind
+abbrev none-giving : List ℕ → Reply
+none-giving values = record { number = none; values = values }
+
+replies : map (λ (s : List ℕ). replyOf (verdictOf large s)) ([] ∷ take 40 M ∷ take 20 M ∷ M ∷ lacking ∷ [])
+    ≡ (9 giving (0 ∷ []))
+    ∷ (8 giving (40 ∷ []))
+    ∷ (10 giving (20 ∷ []))
+    ∷ none-giving (6 ∷ [])
+    ∷ (11 giving (16 ∷ 1 ∷ 4 ∷ 1 ∷ 5 ∷ 2 ∷ []))
+    ∷ []
+unfolding verdictOf
+replies = refl
+
+-- a number of several digits
+long-number : line (refused 1 (some 65536)) ≡ ascii "refused 1 at 65536"
+unfolding line
+long-number = refl
 
 -- Words -----------------------------------------------------------------------------------------------------------------
 
@@ -70,6 +108,8 @@ words-asked =
     ∷ asked 0 (replicate 4097 0) (untested 12 none)
     ∷ asked 1 (replicate 4097 32) (untested 14 none)
     ∷ asked 0 (replicate 4097 32) (untested 12 none)
+    -- as long as a word may be
+    ∷ asked 0 (replicate 4096 32) (untested 13 (some 0))
     ∷ asked 0 (0 ∷ 32 ∷ 33 ∷ []) (untested 13 (some 1))
     ∷ asked 0 (2 ∷ 31 ∷ []) (tested true)
     ∷ asked 0 (31 ∷ []) (tested false)
@@ -78,3 +118,17 @@ words-asked =
 words-answered : map (λ x. wordTest large W (x .number) (x .word)) words-asked ≡ map (λ x. x .answer) words-asked
 unfolding words-asked wordTest
 words-answered = refl
+
+-- what the word test's program prints, and the numbers and values
+answers : List Answer
+answers = tested true ∷ tested false ∷ untested 14 none ∷ untested 12 none ∷ untested 13 (some 104) ∷ untested 9 (some 0) ∷ []
+
+answers-print : map answerLine answers
+    ≡ map ascii ("yes" ∷ "no" ∷ "refused 14" ∷ "refused 12" ∷ "refused 13 at 104" ∷ "refused 9 at 0" ∷ [])
+unfolding answers answerLine
+answers-print = refl
+
+answers-reply : map answerReply answers
+    ≡ none-giving [] ∷ none-giving [] ∷ (14 giving []) ∷ (12 giving []) ∷ (13 giving (104 ∷ [])) ∷ (9 giving (0 ∷ [])) ∷ []
+unfolding answers
+answers-reply = refl

@@ -4,6 +4,7 @@ use Rattle.sheet.specs.Model.{Model}
 use Rattle.sheet.specs.Decode.{sheetOf}
 use Rattle.sheet.proofs.Postfix.{conditions-in-postfix}
 use Rattle.sheet.proofs.Named.{names-exist}
+use Rattle.sheet.proofs.Kept.{events-below, first-has-body}
 use Rattle.runs.specs.Rules.{rules}
 use Rattle.runs.proofs.Count.{counted}
 use Rattle.runs.proofs.Moves.{made-by-trace}
@@ -19,6 +20,8 @@ facts M wide s bytes =
       empty-word = nullable-holds;
       in-postfix = conditions-in-postfix M s;
       names-exist = names-exist M s;
+      events-below = events-below M s;
+      first-has-body = first-has-body M s;
       counted = counted (sheetOf M s);
       made-by-trace = made-by-trace (sheetOf M s);
       histories-grow = histories-grow (sheetOf M s) 0;

@@ -10,3 +10,5 @@ pub mod WordTest
 pub mod Cases
 pub mod Examples
 pub mod Witnesses
+mod Unqualified
+mod Used

@@ -14,7 +14,8 @@ use Rattle.sheet.specs.Sheet.{Sheet, body}
 use Rattle.sheet.specs.Record.{Bytes}
 use Rattle.sheet.specs.Reading.{Reading, Outcome, whole, refusal, readSheet}
 use Rattle.sheet.specs.Decode.{sheetOf}
-use Rattle.sheet.proofs.Kept.{HasBody, events-below, first-has-body}
+use Rattle.sheet.specs.Names.{HasBody}
+use Rattle.sheet.proofs.Kept.{events-below, first-has-body}
 use Rattle.sheet.proofs.Narrow.{conditions-below}
 use Rattle.runs.specs.Rules.{rules, rulesFrom, AllMet, count}
 use Rattle.runs.specs.Runs.{Move, run, Safe}
@@ -25,7 +26,7 @@ use Rattle.runs.proofs.Safe.{runs-are-safe}
 use Rattle.runs.proofs.Owing.{runs-owe}
 use Rattle.verdict.specs.Verdict.{Report, accepted, refused, unproved, certificatesNeeded, firstFault, judged, verdictAfter, verdictOf}
 use Rattle.verdict.specs.Reply.{replyOf}
-use Rattle.verdict.specs.Promise.{WellFormed, EachCertified, Passes, FirstFault, RefusedFor, while-reading, wrong-count, Loads, LoadsAsPromised}
+use Rattle.verdict.specs.Promise.{WellFormed, EachCertified, Passes, FirstFault, RefusedFor, while-reading, wrong-count, Total, with-count, with-place, with-fault, Loads, LoadsAsPromised}
 use Rattle.verdict.proofs.Reply.{reply-refused, reply-unproved}
 use Rattle.verdict.proofs.Judged.{Tried, all-pass, one-fails, tried, pass-all, fault-found}
 use Rattle.verdict.proofs.RulesMet.{all-met, all-pass as exact-pass, rules-below}
@@ -113,6 +114,22 @@ module _ (M : Model) (s : List ℕ) where
       by-reading : (x : Outcome) → readSheet M s ≡ x → Decided (verdictAfter M s x)
       by-reading (refusal n at) read = subst Decided (sym (after-refusal n at)) (refuses _ (while-reading read) refl)
       by-reading (whole r) read = subst Decided (sym (after-whole r ∙ judged-is S)) (by-number r read (enough S) refl)
+
+  -- Demand 1 ------------------------------------------------------------------------------------------------------------
+
+  is-total : Total (verdictOf M s)
+  is-total = go decided
+    where
+      refused-total : (x : Report) → RefusalIn x → Total x
+      refused-total (accepted n) f = absurd f
+      refused-total (refused n none) f = absurd f
+      refused-total (refused n (some at)) f = with-place n at
+      refused-total (unproved r k c i e l) f = absurd f
+
+      go : Decided (verdictOf M s) → Total (verdictOf M s)
+      go (refuses x f e) = subst Total (sym e) (refused-total x f)
+      go (tests w (all-pass p e)) = subst Total (sym e) (with-count (count (sheetOf M s)))
+      go (tests w (one-fails r k c i d l f e)) = subst Total (sym e) (with-fault r k c i d l)
 
   -- Demand 2 ------------------------------------------------------------------------------------------------------------
 
@@ -202,6 +219,7 @@ module _ (M : Model) (s : List ℕ) where
     loads =
         record {
           stated = refl;
+          total = is-total;
           accepted-iff = λ n. (accepted-out n, λ x. accepted-in (x .0) (x .1) ∙ ap (λ k. accepted k) (sym (x .2)));
           refused-iff = λ n at. (λ e. refused-out n at (reply-refused (verdictOf M s) n at e), λ f. ap replyOf (refused-in f));
           unproved-iff =

@@ -15,7 +15,7 @@ use Rattle.certificate.proofs.Complete.{complete}
 use Rattle.sheet.specs.Each.{Each, nil, cons}
 use Rattle.sheet.specs.Sheet.{Point, Body, Method, Step, event-step, call-step, pass-step, Sheet, condition, conditionNamed, past, own, due, pre, trace, future}
 use Rattle.sheet.proofs.Each.{each-head, each-tail, each-append}
-use Rattle.sheet.proofs.Kept.{EventBelow}
+use Rattle.sheet.specs.Names.{EventBelow}
 use Rattle.runs.specs.Rules.{Claim, _isIn_, holdsEmpty, Met, Rule, methodRules, stepRules, methodsRules, stepsRules, rulesFrom, AllMet}
 use Rattle.verdict.specs.Promise.{EachCertified, done, bare, certified, Passes, ExactFor}
 

@@ -1,7 +1,7 @@
 -- The second half of demand 3 is not empty: exact certificates exist for every list of rules, so for each sheet with true rules there are
 -- certificates that pass all its tests; and document 01's sheet M is such a sheet, with exact certificates.
 use mathlib.Core.Path.{_≡_, refl, sym}
-use mathlib.Core.List.{List, [], _∷_}
+use mathlib.Core.List.{List, [], _∷_, _++_}
 use Prim.Native.Nat.{ℕ, zero, suc, _<_}
 use native.Mathlib.Omega.{arith}
 use Rattle.condition.specs.Condition.{empty, _⊆_}
@@ -14,10 +14,10 @@ use Rattle.sheet.specs.Decode.{sheetOf}
 use Rattle.runs.specs.Rules.{Claim, _isIn_, holdsEmpty, Rule, _of_says_, rules, AllMet, count}
 use Rattle.verdict.specs.Verdict.{Report, accepted, certificatesNeeded, verdictOf}
 use Rattle.verdict.specs.Promise.{WellFormed, EachCertified, done, bare, certified, Passes, ExactFor, Loads}
-use Rattle.verdict.specs.Cases.{M}
+use Rattle.verdict.specs.Cases.{point0, method0, threeStarts, M}
 use Rattle.verdict.proofs.RulesMet.{all-pass}
 use Rattle.verdict.proofs.Bytes.{small, are-bytes}
-use Rattle.verdict.proofs.Loads.{loads}
+use Rattle.verdict.proofs.Loads.{loads-as-promised}
 
 -- For every list of rules -----------------------------------------------------------------------------------------------
 
@@ -68,6 +68,20 @@ start-is-exact =
     reached zero l = start
     reached (suc i) l = absurd (omega arith)
 
+-- a certificate that repeats a pair is exact too
+pub twice-is-exact : Exact 32 empty empty (pair 0 1 ∷ pair 0 1 ∷ [])
+twice-is-exact =
+    record {
+      start-first = tt;
+      only-reachable = reached;
+      all-reachable = λ p r. (0, omega arith, sym (only-start r));
+    }
+  where
+    reached : (i : ℕ) → i < 2 → Reachable 32 empty empty (pairOf (pair 0 1 ∷ pair 0 1 ∷ []) i)
+    reached zero l = start
+    reached (suc zero) l = start
+    reached (suc (suc i)) l = absurd (omega arith)
+
 pub M-premises : Premises large M
 unfolding sheetOf rules certificatesNeeded
 M-premises =
@@ -77,6 +91,27 @@ M-premises =
       exact = bare tt (bare tt (certified start-is-exact (bare tt (certified start-is-exact (certified start-is-exact done)))));
     }
 
+-- and M with a pass from its point to itself
+abbrev withPass : List ℕ
+withPass = (0x02 ∷ 0x06 ∷ []) ++ (point0 ++ (method0 0 ++ ((0x0C ∷ 0 ∷ 0 ∷ 0 ∷ 0 ∷ []) ++ (threeStarts ++ threeStarts))))
+
+pub with-pass-premises : Premises large withPass
+unfolding sheetOf rules certificatesNeeded
+with-pass-premises =
+    record {
+      well-formed = record { reading = _; read = refl; enough = refl };
+      true-rules =
+          cons refl (cons refl (cons in-itself (cons refl (cons in-itself (cons in-itself
+          (cons in-itself (cons in-itself (cons in-itself nil))))))));
+      exact =
+          bare tt (bare tt (certified start-is-exact (bare tt (certified start-is-exact (certified start-is-exact
+          (certified start-is-exact (certified start-is-exact (certified start-is-exact done))))))));
+    }
+
+pub promised-with-pass : {answer : Report} → Loads large withPass answer → answer ≡ accepted 9
+unfolding sheetOf count
+promised-with-pass l = l .complete (with-pass-premises .well-formed) (with-pass-premises .true-rules) (with-pass-premises .exact)
+
 -- so whatever keeps the promise accepts M, and the definition does
 pub promised-M : {answer : Report} → Loads large M answer → answer ≡ accepted 6
 unfolding sheetOf count
@@ -84,4 +119,4 @@ promised-M l = l .complete (M-premises .well-formed) (M-premises .true-rules) (M
 
 pub M-accepted : verdictOf large M ≡ accepted 6
 unfolding small
-M-accepted = promised-M (loads large M (omega arith) (are-bytes M tt))
+M-accepted = promised-M (loads-as-promised large (omega arith) M (are-bytes M tt))

@@ -20,7 +20,7 @@ use Rattle.sheet.specs.Reading.{Reading, Outcome, whole, refusal, readSheet}
 use Rattle.sheet.specs.Decode.{sheetOf}
 use Rattle.verdict.specs.WordTest.{Answer, tested, untested, unlessStray, testedAfter, wordTest}
 use Rattle.verdict.specs.Reply.{answerReply}
-use Rattle.verdict.specs.Promise.{FindsCondition, FirstStray, WordRefusedFor, while-reading, no-such-condition, word-too-long, stray-event, TakesWord, TestsWord}
+use Rattle.verdict.specs.Promise.{FindsCondition, FirstStray, WordRefusedFor, while-reading, no-such-condition, word-too-long, stray-event, TakesWord, TestsWord, TestsAsPromised}
 use Rattle.verdict.proofs.Reply.{reply-untested}
 
 abbrev IsTested : Answer → Type 0
@@ -122,7 +122,7 @@ module _ (M : Model) (s : List ℕ) (c : ℕ) (w : Word) where
       found-is f false (le-ltb wordLimit _ short) ∙ stray-from (M .events) said 0 w i first ∙ ap (λ (k : ℕ). untested 13 (some k)) here
 
   pub taken-in : TakesWord M s c w → wordTest M s c w ≡ said
-  taken-in t = found-is (t .found) false (le-ltb wordLimit _ (t .short)) ∙ none-stray (M .events) said 0 (t .events)
+  taken-in t = found-is (t .found) false (le-ltb wordLimit _ (t .short)) ∙ none-stray (M .events) said 0 (t .none-stray)
 
   -- refused for the first refusal that applies, or the word is tested
   data Decided : Type 0 where
@@ -133,7 +133,7 @@ module _ (M : Model) (s : List ℕ) (c : ℕ) (w : Word) where
   decided = by-reading (readSheet M s) refl
     where
       by-events : FindsCondition M s c → length w ≤ wordLimit → Strays (M .events) w → Decided
-      by-events f short (none-is o) = tests (record { found = f; short = short; events = o })
+      by-events f short (none-is o) = tests (record { found = f; short = short; none-stray = o })
       by-events f short (first-is i x) = refuses 13 (some i) (stray-event f short x)
 
       by-length : FindsCondition M s c → (b : Bool) → ltb wordLimit (length w) ≡ b → Decided
@@ -177,3 +177,6 @@ module _ (M : Model) (s : List ℕ) (c : ℕ) (w : Word) where
             subst (λ (b : Bool). T b ↔ Holds (condition (sheetOf M s) c) w) (ap saidIn (sym (taken-in (taken-out b h)) ∙ h)) (words (condition (sheetOf M s) c) w);
         refused-iff = λ n at. (λ e. refused-out n at (reply-untested (wordTest M s c w) n at e), λ f. ap answerReply (refused-in f));
       }
+
+pub tests-as-promised : (M : Model) → TestsAsPromised M
+tests-as-promised M s c w = tests-word M s c w

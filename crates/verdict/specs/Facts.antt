@@ -16,7 +16,7 @@ use Rattle.sheet.specs.Sheet.{call-step, body}
 use Rattle.sheet.specs.Record.{Bytes}
 use Rattle.sheet.specs.Reading.{Reading, whole, readSheet}
 use Rattle.sheet.specs.Decode.{InPostfix, sheetOf}
-use Rattle.sheet.specs.Names.{NamesExist}
+use Rattle.sheet.specs.Names.{NamesExist, HasBody, EventBelow}
 use Rattle.runs.specs.Rules.{rules, count}
 use Rattle.runs.specs.Runs.{State, Grown, Move, MadeByTrace, run}
 use Rattle.runs.specs.Owing.{OwingWhenOpen}
@@ -29,8 +29,10 @@ pub record Facts (M : Model) (s : List ℕ) : Type 0 where
   pub empty-word : (r : Condition) → T (nullable r) ↔ Holds r []
   -- of a sheet that is read whole: the records of each condition are the postfix form of the condition that they stand for,
   pub in-postfix : (r : Reading) → readSheet M s ≡ whole r → Each (InPostfix s) (r .offsets .conditions)
-  -- and every name exists
+  -- every name exists, the event of each step is one of the instrument's, and the first method has a body
   pub names-exist : (r : Reading) → readSheet M s ≡ whole r → NamesExist (sheetOf M s)
+  pub events-below : (r : Reading) → readSheet M s ≡ whole r → Each (EventBelow (M .events)) (sheetOf M s .steps)
+  pub first-has-body : (r : Reading) → readSheet M s ≡ whole r → HasBody (body (sheetOf M s) 0)
   -- the count of the formula is the number of rules
   pub counted : length (rules (sheetOf M s)) ≡ count (sheetOf M s)
   -- a call of a primitive is made with exactly the words of its trace
@@ -38,12 +40,12 @@ pub record Facts (M : Model) (s : List ℕ) : Type 0 where
       → body (sheetOf M s) m ≡ none → MadeByTrace (sheetOf M s) t i q m w
   -- histories only grow, so that what a history adds to an earlier one is what was raised since
   pub histories-grow : (ms : List Move) → Grown (run (sheetOf M s) 0 ms)
-  -- exact certificates exist for the rules of every sheet, so none with true rules is beyond the second half of demand 3 (they may be more than a
-  -- sheet's bytes hold)
+  -- exact certificates exist for the rules of every sheet, so the second half of demand 3 asks nothing impossible of a certificate. That they fit
+  -- in a sheet's bytes is not said.
   pub exact-exist : (cs : List Certificate) × EachCertified (ExactFor (M .events)) (rules (sheetOf M s)) cs
   -- request 12 of an accepted sheet, said with no numbers: what a returned call is owed binds wherever control is in a call that was open when it began
   pub owing-when-open : (n : ℕ) → verdictOf M s ≡ accepted n → (ms : List Move) → OwingWhenOpen (sheetOf M s) 0 ms
 
--- they hold of every sheet, on an instrument with at least the 32 events of a leaf's set
+-- that they hold of all bytes, also refused ones, on an instrument with at least the 32 events of a leaf's set
 abbrev pub FactsHold : Model → Type 0
 FactsHold M = 32 ≤ M .events → (s : List ℕ) → Bytes s → Facts M s

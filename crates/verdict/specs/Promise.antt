@@ -1,5 +1,6 @@
 -- What is promised of the loader's and of the word test's answers: the three demands and what document 02's requests add, as one record each over
--- the bytes and the answer. Of an answer's number and values it speaks by specs/Reply.
+-- the bytes and the answer. Of an answer's number and values it speaks by specs/Reply. That a function "reads nothing outside the sheet and writes
+-- nothing into it" is in its type, which lends it the sheet to be read.
 use Prim.Native.Nat.{ℕ, _≤_, _<_}
 use mathlib.Core.Path.{_≡_}
 use mathlib.Core.Bool.{Bool}
@@ -19,7 +20,7 @@ use Rattle.sheet.specs.Decode.{sheetOf}
 use Rattle.runs.specs.Rules.{Claim, _isIn_, holdsEmpty, Rule, _of_says_, rules, AllMet, count}
 use Rattle.runs.specs.Runs.{Move, run, Safe}
 use Rattle.runs.specs.Owing.{Owing, ToldApart}
-use Rattle.verdict.specs.Verdict.{Report, accepted, testOf, certificatesNeeded, nextOf, verdictOf}
+use Rattle.verdict.specs.Verdict.{Report, accepted, refused, unproved, testOf, certificatesNeeded, nextOf, verdictOf}
 use Rattle.verdict.specs.WordTest.{Answer, tested, wordTest}
 use Rattle.verdict.specs.Reply.{_giving_, placeValue, replyOf, answerReply}
 
@@ -33,7 +34,7 @@ pub record WellFormed (M : Model) (s : List ℕ) : Type 0 where
   -- nor 10
   pub enough : length (sheetOf M s .certificates) ≡ certificatesNeeded (rules (sheetOf M s))
 
--- P of each rule's claim and its certificate: "Rules 3, 5, 6 and 7 to 17 have a certificate each, in that order", the others have none
+-- P of each rule's claim and its certificate: "Rules 3, 5, 6 and 7 to 17 have a certificate each, in that order"; the others have none, and P gets []
 pub data EachCertified (P : Claim → Certificate → Type 0) : List Rule → List Certificate → Type 0 where
   done : EachCertified P [] []
   bare : {n k : ℕ} {a : Condition} {xs : List Rule} {cs : List Certificate} → P (holdsEmpty a) [] → EachCertified P xs cs
@@ -45,12 +46,12 @@ pub data EachCertified (P : Claim → Certificate → Type 0) : List Rule → Li
 abbrev pub Passes : ℕ → Claim → Certificate → Type 0
 Passes events claim c = testOf events claim c ≡ fine
 
--- "each certificate lists exactly the reachable pairs, the start first"
+-- "each certificate lists exactly the reachable pairs, the start first"; of a rule without a certificate nothing is asked
 abbrev pub ExactFor : ℕ → Claim → Certificate → Type 0
 ExactFor events (a isIn b) c = Exact events a b c
 ExactFor events (holdsEmpty a) c = Unit {0}
 
--- "this is the first fault": the rules before it pass, and the next one's test finds it
+-- "this is the first fault": the rules before it pass, and the next one's test finds it. The test of a rule without a certificate looks at none.
 pub record FirstFault (events : ℕ) (xs : List Rule) (cs : List Certificate) (rule subject clause pair event place : ℕ) : Type 0 where
   pub before : List Rule
   pub failing : Claim
@@ -62,7 +63,7 @@ pub record FirstFault (events : ℕ) (xs : List Rule) (cs : List Certificate) (r
   pub before-pass : EachCertified (Passes events) before used
   pub fails : testOf events failing (nextOf unused) ≡ fault clause pair event place
 
--- one of the refusals 1 to 10 applies, and the first of them has this number and place
+-- one of the refusals 1 to 10 applies, and the first of them has this number and place; what 1 to 9 are is said by sheet/specs/Reading
 pub data RefusedFor (M : Model) (s : List ℕ) : ℕ → ℕ → Type 0 where
   -- 1 to 9: reading ends with it
   while-reading : {n at : ℕ} → readSheet M s ≡ refusal n at → RefusedFor M s n at
@@ -72,11 +73,19 @@ pub data RefusedFor (M : Model) (s : List ℕ) : ℕ → ℕ → Type 0 where
 
 -- Of the loader ---------------------------------------------------------------------------------------------------------
 
+-- "accepted with a count, refused with a number and place, or unproved with the first rule that fails"
+pub data Total : Report → Type 0 where
+  with-count : (n : ℕ) → Total (accepted n)
+  with-place : (n at : ℕ) → Total (refused n (some at))
+  with-fault : (r k c i e l : ℕ) → Total (unproved r k c i e l)
+
 -- What the loader promises of its answer to the bytes s, for every s, on an instrument that has at least the 32 events of a leaf's four-byte set
 -- (`LoadsAsPromised` below). With fewer events clause 4 would leave some events of a leaf untested.
 pub record Loads (M : Model) (s : List ℕ) (answer : Report) : Type 0 where
   -- the answer is the definition's
   pub stated : answer ≡ verdictOf M s
+  -- Demand 1: "The loader is total on every byte string"
+  pub total : Total answer
   -- Demand 2: "A sheet is accepted exactly if it is well formed and passes all rule tests", with the count of the formula
   pub accepted-iff : (n : ℕ) → (answer ≡ accepted n)
       ↔ (WellFormed M s × EachCertified (Passes (M .events)) (rules (sheetOf M s)) (sheetOf M s .certificates) × (n ≡ count (sheetOf M s)))
@@ -97,7 +106,7 @@ pub record Loads (M : Model) (s : List ℕ) (answer : Report) : Type 0 where
   pub complete : WellFormed M s → AllMet (rules (sheetOf M s)) → EachCertified (ExactFor (M .events)) (rules (sheetOf M s)) (sheetOf M s .certificates)
       → answer ≡ accepted (count (sheetOf M s))
 
--- the definition's answer keeps the promise
+-- that the definition's answer keeps the promise (proofs/Loads)
 abbrev pub LoadsAsPromised : Model → Type 0
 LoadsAsPromised M = 32 ≤ M .events → (s : List ℕ) → Bytes s → Loads M s (verdictOf M s)
 
@@ -127,14 +136,18 @@ pub record TakesWord (M : Model) (s : List ℕ) (c : ℕ) (w : Word) : Type 0 wh
   pub found : FindsCondition M s c
   -- nor 12, 13
   pub short : length w ≤ wordLimit
-  pub events : Each (λ e. e < M .events) w
+  pub none-stray : Each (λ e. e < M .events) w
 
 -- What the word test promises of its answer to the bytes s, the condition's number c and the word w, for every s, c and w, on every instrument.
 pub record TestsWord (M : Model) (s : List ℕ) (c : ℕ) (w : Word) (answer : Answer) : Type 0 where
   -- the answer is the definition's
   pub stated : answer ≡ wordTest M s c w
-  -- Demand 2: "The word test is exactly the regular language": it says yes or no of each word that it takes, and yes of the condition's words
+  -- Demand 2: "The word test is exactly the regular language": it says yes or no of each word that it takes, and yes exactly of the condition's words
   pub tests-all : TakesWord M s c w ↔ ((b : Bool) × (answer ≡ tested b))
   pub right : (b : Bool) → answer ≡ tested b → T b ↔ Holds (condition (sheetOf M s) c) w
   -- and else names the first refusal that applies
   pub refused-iff : (n : ℕ) (at : Option ℕ) → (answerReply answer ≡ n giving placeValue at) ↔ WordRefusedFor M s c w n at
+
+-- that the definition's answer keeps the promise (proofs/WordTest)
+abbrev pub TestsAsPromised : Model → Type 0
+TestsAsPromised M = (s : List ℕ) (c : ℕ) (w : Word) → TestsWord M s c w (wordTest M s c w)

@@ -1,5 +1,5 @@
--- Document 01's number and values of each answer: the rows of the table "What the loader returns". The promises, the printed lines and the doors
--- take them from here.
+-- Document 01's number and values of each answer: the rows of the table "What the loader returns". The promises and the doors take them from here,
+-- and the printed lines their values.
 use Prim.Native.Nat.{ℕ}
 use mathlib.Core.Option.{Option, none, some}
 use mathlib.Core.List.{List, [], _∷_}

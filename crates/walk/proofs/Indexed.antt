@@ -15,8 +15,8 @@ use Rattle.sheet.specs.Decode.{conditionAt, sheetOf}
 use Rattle.sheet.proofs.Each.{each-zip, each-nth, each-get}
 use Rattle.sheet.proofs.SheetOf.{conditions-counted, points-counted, methods-counted, steps-counted, condition-is, point-is, method-is, step-is}
 use Rattle.sheet.proofs.Counted.{read-counted}
-use Rattle.sheet.proofs.Kept.{HasBody, EventBelow, events-below, first-has-body}
-use Rattle.sheet.specs.Names.{PointNamed, MethodNamed, BodyNamed, StepNamed}
+use Rattle.sheet.proofs.Kept.{events-below, first-has-body}
+use Rattle.sheet.specs.Names.{PointNamed, MethodNamed, BodyNamed, StepNamed, HasBody, EventBelow}
 use Rattle.sheet.proofs.Named.{NamedIn, names-at-offsets, names-exist}
 use Rattle.sheet.proofs.Symbols.{Stands, stands-symbols}
 use Rattle.sheet.proofs.Postfix.{conditions-stand}

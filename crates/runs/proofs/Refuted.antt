@@ -1,0 +1,61 @@
+-- What the facts of runs say is false of other states and steps: of states whose histories do not go on from each other, after the end, and of a
+-- step that calls no primitive.
+use mathlib.Core.Path.{_≡_, ap}
+use mathlib.Core.Bool.{true, false}
+use mathlib.Core.Option.{none, some}
+use mathlib.Core.List.{List, [], _∷_}
+use native.Mathlib.Omega.{arith}
+use Rattle.condition.specs.Condition.{Word, event}
+use Rattle.condition.specs.Places.{accepts}
+use Rattle.condition.proofs.Words.{words}
+use Rattle.sheet.specs.Sheet.{event-step, call-step, Sheet}
+use Rattle.sheet.proofs.Each.{each-head}
+use lib.ListN.{length, getD}
+use Rattle.runs.specs.Runs.{Call, Returned, State, Grown, by-step, move, MadeByTrace}
+
+-- Histories ---------------------------------------------------------------------------------------------------------------
+
+abbrev began-after : Word → Call
+began-after w = record { method = 0; step = none; began = w; activation = record { number = 0; callers = [] } }
+
+abbrev state : Word → List Call → List Returned → State
+state h cs rs = record { history = h; open-calls = cs; returned-calls = rs; point = 0; ended = false }
+
+-- the history is 2: an open call began after 1; a call that began after 1 returned after 2; one returned after 1
+not-since-beginning : Grown (state (2 ∷ []) (began-after (1 ∷ []) ∷ []) []) → ⊥
+not-since-beginning g = let e = ap (λ (w : Word). getD w 0 0) (each-head (g .since-beginning)) in omega (arith, e)
+
+not-while-open : Grown (state (2 ∷ []) [] (record { call = began-after (1 ∷ []); at = 2 ∷ [] } ∷ [])) → ⊥
+not-while-open g = let e = ap (λ (w : Word). getD w 0 0) (each-head (g .while-open)) in omega (arith, e)
+
+not-since-return : Grown (state (2 ∷ []) [] (record { call = began-after []; at = 1 ∷ [] } ∷ [])) → ⊥
+not-since-return g = let e = ap (λ (w : Word). getD w 0 0) (each-head (g .since-return)) in omega (arith, e)
+
+-- Steps -------------------------------------------------------------------------------------------------------------------
+
+-- step 0 calls the primitive 0, whose trace is the one word 7; step 1 raises 3
+abbrev sheet : Sheet
+sheet = record {
+  conditions = event 7 ∷ [];
+  points = record { past = 0; own = 0; due = 0 } ∷ [];
+  methods = record { pre = 0; trace = 0; future = 0; body = none } ∷ [];
+  steps = call-step 0 0 0 ∷ event-step 0 0 3 ∷ [];
+  certificates = [];
+}
+
+abbrev over : State
+over = record { history = []; open-calls = []; returned-calls = []; point = 0; ended = true }
+
+-- after the end the primitive is not called with a word of its trace
+not-made-after-end : MadeByTrace sheet over 0 0 0 (7 ∷ []) → ⊥
+unfolding move accepts
+not-made-after-end m =
+    let e = ap (λ (s : State). length (s .returned-calls)) (m .made (words (event 7) (7 ∷ []) .0 tt)) in
+    omega (arith, e)
+
+-- with the word 8, which is not of that trace, the event step changes the run
+made-by-event : MadeByTrace sheet (state [] [] []) 1 0 0 (8 ∷ []) → ⊥
+unfolding move accepts
+made-by-event m =
+    let e = ap (λ (s : State). length (s .history)) (m .not-made (λ h. words (event 7) (8 ∷ []) .1 h)) in
+    omega (arith, e)

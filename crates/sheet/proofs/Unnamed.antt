@@ -1,0 +1,87 @@
+-- Sheets in which a name does not exist: `NamesExist` does not hold of them. Each differs in one name from a sheet of which it holds.
+use mathlib.Core.Option.{none, some}
+use mathlib.Core.List.{List, [], _∷_}
+use Prim.Native.Nat.{ℕ}
+use native.Mathlib.Omega.{arith}
+use Rattle.condition.specs.Condition.{empty}
+use Rattle.sheet.specs.Each.{nil, cons}
+use Rattle.sheet.specs.Sheet.{Point, Method, Step, event-step, call-step, pass-step, Sheet}
+use Rattle.sheet.specs.Names.{PointNamed, MethodNamed, StepNamed, NamesExist}
+use Rattle.sheet.proofs.Each.{each-head}
+
+-- one condition, and the point, the method and the step that are given; so each name that exists is 0
+abbrev sheet : Point → Method → Step → Sheet
+sheet p m t = record { conditions = empty ∷ []; points = p ∷ []; methods = m ∷ []; steps = t ∷ []; certificates = [] }
+
+abbrev point : ℕ → ℕ → ℕ → Point
+point past own due = record { past = past; own = own; due = due }
+
+abbrev method : ℕ → ℕ → ℕ → ℕ → ℕ → Method
+method pre trace future entry exit =
+    record { pre = pre; trace = trace; future = future; body = some (record { entry = entry; exit = exit }) }
+
+abbrev primitive : ℕ → ℕ → ℕ → Method
+primitive pre trace future = record { pre = pre; trace = trace; future = future; body = none }
+
+-- every name exists, with a step of each kind
+all-named : (p : Point) (m : Method) (t : Step) → PointNamed 1 p → MethodNamed 1 1 m → StepNamed 1 1 t → NamesExist (sheet p m t)
+all-named p m t x y z = record { points-named = cons x nil; methods-named = cons y nil; steps-named = cons z nil }
+
+all-exist : NamesExist (sheet (point 0 0 0) (method 0 0 0 0 0) (event-step 0 0 31))
+    × NamesExist (sheet (point 0 0 0) (primitive 0 0 0) (call-step 0 0 0))
+    × NamesExist (sheet (point 0 0 0) (method 0 0 0 0 0) (pass-step 0 0))
+all-exist = (
+  all-named (point 0 0 0) (method 0 0 0 0 0) (event-step 0 0 31) (omega arith) (omega arith) (omega arith),
+  all-named (point 0 0 0) (primitive 0 0 0) (call-step 0 0 0) (omega arith) (omega arith) (omega arith),
+  all-named (point 0 0 0) (method 0 0 0 0 0) (pass-step 0 0) (omega arith) (omega arith) (omega arith),
+)
+
+-- one name does not
+
+no-past : NamesExist (sheet (point 1 0 0) (method 0 0 0 0 0) (pass-step 0 0)) → ⊥
+no-past n = omega (arith, each-head (n .points-named) .past-exists)
+
+no-own : NamesExist (sheet (point 0 1 0) (method 0 0 0 0 0) (pass-step 0 0)) → ⊥
+no-own n = omega (arith, each-head (n .points-named) .own-exists)
+
+no-due : NamesExist (sheet (point 0 0 1) (method 0 0 0 0 0) (pass-step 0 0)) → ⊥
+no-due n = omega (arith, each-head (n .points-named) .due-exists)
+
+no-pre : NamesExist (sheet (point 0 0 0) (method 1 0 0 0 0) (pass-step 0 0)) → ⊥
+no-pre n = omega (arith, each-head (n .methods-named) .pre-exists)
+
+no-trace : NamesExist (sheet (point 0 0 0) (method 0 1 0 0 0) (pass-step 0 0)) → ⊥
+no-trace n = omega (arith, each-head (n .methods-named) .trace-exists)
+
+no-future : NamesExist (sheet (point 0 0 0) (method 0 0 1 0 0) (pass-step 0 0)) → ⊥
+no-future n = omega (arith, each-head (n .methods-named) .future-exists)
+
+no-entry : NamesExist (sheet (point 0 0 0) (method 0 0 0 1 0) (pass-step 0 0)) → ⊥
+no-entry n = omega (arith, each-head (n .methods-named) .body-named .0)
+
+no-exit : NamesExist (sheet (point 0 0 0) (method 0 0 0 0 1) (pass-step 0 0)) → ⊥
+no-exit n = omega (arith, each-head (n .methods-named) .body-named .1)
+
+no-primitive-pre : NamesExist (sheet (point 0 0 0) (primitive 1 0 0) (pass-step 0 0)) → ⊥
+no-primitive-pre n = omega (arith, each-head (n .methods-named) .pre-exists)
+
+no-event-from : NamesExist (sheet (point 0 0 0) (method 0 0 0 0 0) (event-step 1 0 0)) → ⊥
+no-event-from n = omega (arith, each-head (n .steps-named) .0)
+
+no-event-to : NamesExist (sheet (point 0 0 0) (method 0 0 0 0 0) (event-step 0 1 0)) → ⊥
+no-event-to n = omega (arith, each-head (n .steps-named) .1)
+
+no-call-from : NamesExist (sheet (point 0 0 0) (method 0 0 0 0 0) (call-step 1 0 0)) → ⊥
+no-call-from n = omega (arith, each-head (n .steps-named) .0)
+
+no-call-to : NamesExist (sheet (point 0 0 0) (method 0 0 0 0 0) (call-step 0 1 0)) → ⊥
+no-call-to n = omega (arith, each-head (n .steps-named) .1)
+
+no-call-method : NamesExist (sheet (point 0 0 0) (method 0 0 0 0 0) (call-step 0 0 1)) → ⊥
+no-call-method n = omega (arith, each-head (n .steps-named) .2)
+
+no-pass-from : NamesExist (sheet (point 0 0 0) (method 0 0 0 0 0) (pass-step 1 0)) → ⊥
+no-pass-from n = omega (arith, each-head (n .steps-named) .0)
+
+no-pass-to : NamesExist (sheet (point 0 0 0) (method 0 0 0 0 0) (pass-step 0 1)) → ⊥
+no-pass-to n = omega (arith, each-head (n .steps-named) .1)

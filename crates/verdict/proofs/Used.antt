@@ -1,0 +1,90 @@
+-- The facts of the definitions, used: what each of them alone says of document 01's sheet M, or of every sheet.
+use mathlib.Core.Path.{_≡_, refl}
+use mathlib.Core.Bool.{false}
+use mathlib.Core.Option.{none, some}
+use mathlib.Core.List.{List, [], _∷_}
+use Prim.Native.Nat.{ℕ, _<_}
+use native.Mathlib.Omega.{arith}
+use lib.ListN.{length, getElem?}
+use Rattle.condition.specs.Condition.{Word, empty, event, Holds}
+use Rattle.condition.specs.Places.{nullable, accepts}
+use Rattle.certificate.specs.Certificate.{Certificate, Exact}
+use Rattle.sheet.specs.Model.{Model, large}
+use Rattle.sheet.specs.Sheet.{call-step, body, trace}
+use Rattle.sheet.specs.Record.{empty-symbol}
+use Rattle.sheet.specs.Names.{HasBody}
+use Rattle.sheet.specs.Decode.{symbolsAt, postfix, conditionAt, sheetOf}
+use Rattle.sheet.proofs.Each.{each-head}
+use Rattle.runs.specs.Rules.{rules, count}
+use Rattle.runs.specs.Runs.{State, Grown, Move, by-step, newCall, raise, returnedNow, move, run}
+use Rattle.runs.specs.Owing.{OwingWhenOpen}
+use Rattle.verdict.specs.Verdict.{accepted}
+use Rattle.verdict.specs.Promise.{EachCertified, bare, certified, ExactFor}
+use Rattle.verdict.specs.Facts.{Facts}
+use Rattle.verdict.specs.Cases.{M}
+use Rattle.verdict.proofs.Bytes.{small, are-bytes}
+use Rattle.verdict.proofs.Facts.{facts}
+use Rattle.verdict.proofs.Witnesses.{M-accepted}
+
+-- they hold of M, on document 01's instrument
+pub of-M : Facts large M
+unfolding small
+of-M = facts large (omega arith) M (are-bytes M tt)
+
+module _ (f : Facts large M) where
+  event-holds : Holds (event 0) (0 ∷ [])
+  unfolding accepts
+  event-holds = f .words (event 0) (0 ∷ []) .0 tt
+
+  event-lacks : Holds (event 0) [] → ⊥
+  unfolding accepts
+  event-lacks h = f .words (event 0) [] .1 h
+
+  empty-holds : Holds empty []
+  unfolding nullable
+  empty-holds = f .empty-word empty .0 tt
+
+  event-not-empty : Holds (event 0) [] → ⊥
+  unfolding nullable
+  event-not-empty h = f .empty-word (event 0) .1 h
+
+  its-records : symbolsAt M 0 ≡ empty-symbol ∷ []
+  unfolding sheetOf postfix
+  its-records = each-head (f .in-postfix _ refl)
+
+  its-names : (0 < length (sheetOf large M .conditions)) × (0 < length (sheetOf large M .points))
+  unfolding sheetOf
+  its-names =
+      let n = f .names-exist _ refl in
+      (each-head (n .points-named) .past-exists, each-head (n .methods-named) .body-named .0)
+
+  its-body : HasBody (body (sheetOf large M) 0)
+  unfolding sheetOf
+  its-body = f .first-has-body _ refl
+
+  its-rules : length (rules (sheetOf large M)) ≡ 6
+  unfolding sheetOf count
+  its-rules = f .counted
+
+  its-histories : (ms : List Move) → Grown (run (sheetOf large M) 0 ms)
+  its-histories = f .histories-grow
+
+  -- M's third rule, EMPTY in EMPTY, has an exact certificate
+  its-certificate : (c : Certificate) × Exact 32 empty empty c
+  unfolding sheetOf rules
+  its-certificate = let (cs, h) = f .exact-exist in go h
+    where
+      go : {cs : List Certificate} → EachCertified (ExactFor 32) (rules (sheetOf large M)) cs → (c : Certificate) × Exact 32 empty empty c
+      go (bare x (bare y (certified {c = c} e h))) = (c, e)
+
+  its-owing : (ms : List Move) → OwingWhenOpen (sheetOf large M) 0 ms
+  its-owing = f .owing-when-open 6 M-accepted
+
+-- a primitive's step with a word of its trace is made, and with another is not
+module _ (I : Model) (s : List ℕ) (f : Facts I s) (t : State) (i q m : ℕ) (w : Word) (going : t .ended ≡ false)
+    (found : getElem? (sheetOf I s .steps) i ≡ some (call-step (t .point) q m)) (primitive : body (sheetOf I s) m ≡ none) where
+  of-trace : Holds (trace (sheetOf I s) m) w → move (sheetOf I s) t (by-step i w) ≡ returnedNow (newCall t i m) (raise w q t)
+  of-trace h = f .made-by-trace t i q m w going found primitive .made h
+
+  not-of-trace : (Holds (trace (sheetOf I s) m) w → ⊥) → move (sheetOf I s) t (by-step i w) ≡ t
+  not-of-trace n = f .made-by-trace t i q m w going found primitive .not-made n
