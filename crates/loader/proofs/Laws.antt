@@ -20,7 +20,7 @@ use Rattle.sheet.proofs.Bounded.{FewIn, read-few}
 use Rattle.runs.specs.Rules.{bodyCount, total, rules, count}
 use Rattle.verdict.specs.Verdict.{accepted, refused, unproved, verdictOf}
 use Rattle.verdict.specs.WordTest.{tested, untested, wordTest}
-use Rattle.verdict.specs.Promise.{FindsCondition, while-reading, no-such-condition, word-too-long, stray-event}
+use Rattle.verdict.specs.Promise.{FindsCondition, sheet-refused, no-such-condition, word-too-long, stray-event}
 use Rattle.verdict.proofs.WordTest.{refused-in, taken-in}
 use Rattle.records.specs.declared.Refusal.{Refusal}
 use Rattle.records.specs.Refusal.{numberOf, placeOf}
@@ -138,7 +138,7 @@ module _ (s : List ℕ) (x : Refusal) (h : Refuses large s x) where
   refused-by = ap (refused (numberOf x)) (h .placed) ∙ sym (verdict-refused large s _ _ (h .outcome))
 
   pub untested-by : (c : ℕ) (w : List ℕ) → untested (numberOf x) (placeOf x) ≡ wordTest large s c w
-  untested-by c w = ap (untested (numberOf x)) (h .placed) ∙ sym (refused-in large s c w (while-reading (h .outcome)))
+  untested-by c w = ap (untested (numberOf x)) (h .placed) ∙ sym (refused-in large s c w (sheet-refused (h .outcome)))
 
 -- The word test ---------------------------------------------------------------------------------------------------------
 

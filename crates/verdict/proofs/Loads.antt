@@ -26,7 +26,7 @@ use Rattle.runs.proofs.Safe.{runs-are-safe}
 use Rattle.runs.proofs.Owing.{runs-owe}
 use Rattle.verdict.specs.Verdict.{Report, accepted, refused, unproved, certificatesNeeded, firstFault, judged, verdictAfter, verdictOf}
 use Rattle.verdict.specs.Reply.{replyOf}
-use Rattle.verdict.specs.Promise.{WellFormed, EachCertified, Passes, FirstFault, RefusedFor, while-reading, wrong-count, Total, with-count, with-place, with-fault, Loads, LoadsAsPromised}
+use Rattle.verdict.specs.Promise.{WellFormed, EachCertified, Passes, FirstFault, RefusedFor, while-reading, wrong-count, AnswerForm, with-count, with-place, with-fault, Loads, LoadsAsPromised}
 use Rattle.verdict.proofs.Reply.{reply-refused, reply-unproved}
 use Rattle.verdict.proofs.Judged.{Tried, all-pass, one-fails, tried, pass-all, fault-found}
 use Rattle.verdict.proofs.RulesMet.{all-met, all-pass as exact-pass, rules-below}
@@ -117,19 +117,19 @@ module _ (M : Model) (s : List ℕ) where
 
   -- Demand 1 ------------------------------------------------------------------------------------------------------------
 
-  is-total : Total (verdictOf M s)
+  is-total : AnswerForm (verdictOf M s)
   is-total = go decided
     where
-      refused-total : (x : Report) → RefusalIn x → Total x
+      refused-total : (x : Report) → RefusalIn x → AnswerForm x
       refused-total (accepted n) f = absurd f
       refused-total (refused n none) f = absurd f
       refused-total (refused n (some at)) f = with-place n at
       refused-total (unproved r k c i e l) f = absurd f
 
-      go : Decided (verdictOf M s) → Total (verdictOf M s)
-      go (refuses x f e) = subst Total (sym e) (refused-total x f)
-      go (tests w (all-pass p e)) = subst Total (sym e) (with-count (count (sheetOf M s)))
-      go (tests w (one-fails r k c i d l f e)) = subst Total (sym e) (with-fault r k c i d l)
+      go : Decided (verdictOf M s) → AnswerForm (verdictOf M s)
+      go (refuses x f e) = subst AnswerForm (sym e) (refused-total x f)
+      go (tests w (all-pass p e)) = subst AnswerForm (sym e) (with-count (count (sheetOf M s)))
+      go (tests w (one-fails r k c i d l f e)) = subst AnswerForm (sym e) (with-fault r k c i d l)
 
   -- Demand 2 ------------------------------------------------------------------------------------------------------------
 

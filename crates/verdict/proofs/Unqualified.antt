@@ -23,7 +23,7 @@ use Rattle.runs.specs.Owing.{ToldApart}
 use Rattle.verdict.specs.Verdict.{Report, accepted, refused, unproved, certificatesNeeded}
 use Rattle.verdict.specs.WordTest.{Answer, tested, untested}
 use Rattle.verdict.specs.Reply.{_giving_, replyOf, answerReply}
-use Rattle.verdict.specs.Promise.{WellFormed, EachCertified, done, bare, certified, Passes, FirstFault, RefusedFor, while-reading, wrong-count, Total, with-count, with-place, with-fault, Loads, WordRefusedFor, no-such-condition, word-too-long, stray-event, TakesWord, TestsWord}
+use Rattle.verdict.specs.Promise.{WellFormed, EachCertified, done, bare, certified, Passes, FirstFault, RefusedFor, while-reading, wrong-count, AnswerForm, with-count, with-place, with-fault, Loads, WordRefusedFor, sheet-refused, no-such-condition, word-too-long, stray-event, TakesWord, TestsWord}
 use Rattle.verdict.specs.Cases.{M, M′, W}
 use Rattle.verdict.proofs.Judged.{pass-all, fault-found}
 use Rattle.verdict.proofs.RulesMet.{all-pass}
@@ -53,7 +53,7 @@ HasPlace (refused n none) = ⊥
 HasPlace (refused n (some at)) = Unit {0}
 HasPlace (unproved r k c i e l) = Unit {0}
 
-has-place : {x : Report} → Total x → HasPlace x
+has-place : {x : Report} → AnswerForm x → HasPlace x
 has-place (with-count n) = tt
 has-place (with-place n at) = tt
 has-place (with-fault r k c i e l) = tt
@@ -165,7 +165,7 @@ too-long-for-nothing : TestsWord large W 0 [] (untested 12 none) → ⊥
 too-long-for-nothing t = go (t .refused-iff 12 none .0 refl) refl
   where
     go : {n : ℕ} {at : Option ℕ} → WordRefusedFor large W 0 [] n at → n ≡ 12 → ⊥
-    go (while-reading e) z = subst IsWhole (sym (W-taken .found .read) ∙ e) tt
+    go (sheet-refused e) z = subst IsWhole (sym (W-taken .found .read) ∙ e) tt
     go (no-such-condition read h) z = omega (arith, z)
     go (word-too-long f h) z = omega (arith, h)
     go (stray-event f short s) z = omega (arith, z)

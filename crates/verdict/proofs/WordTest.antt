@@ -20,7 +20,7 @@ use Rattle.sheet.specs.Reading.{Reading, Outcome, whole, refusal, readSheet}
 use Rattle.sheet.specs.Decode.{sheetOf}
 use Rattle.verdict.specs.WordTest.{Answer, tested, untested, unlessStray, testedAfter, wordTest}
 use Rattle.verdict.specs.Reply.{answerReply}
-use Rattle.verdict.specs.Promise.{FindsCondition, FirstStray, WordRefusedFor, while-reading, no-such-condition, word-too-long, stray-event, TakesWord, TestsWord, TestsAsPromised}
+use Rattle.verdict.specs.Promise.{FindsCondition, FirstStray, WordRefusedFor, sheet-refused, no-such-condition, word-too-long, stray-event, TakesWord, TestsWord, TestsAsPromised}
 use Rattle.verdict.proofs.Reply.{reply-untested}
 
 abbrev IsTested : Answer → Type 0
@@ -114,7 +114,7 @@ module _ (M : Model) (s : List ℕ) (c : ℕ) (w : Word) where
       whole-is (f .read) false (lt-leb _ c (f .exists)) ∙ ap (λ (x : Bool). cond x (untested 12 none) (unlessStray (M .events) 0 w said)) e
 
   pub refused-in : {n : ℕ} {at : Option ℕ} → WordRefusedFor M s c w n at → wordTest M s c w ≡ untested n at
-  refused-in (while-reading {n} {at} e) = test-is ∙ (ap (testedAfter M s c w) e ∙ after-refusal n at)
+  refused-in (sheet-refused {n} {at} e) = test-is ∙ (ap (testedAfter M s c w) e ∙ after-refusal n at)
   refused-in (no-such-condition read h) = whole-is read true (le-leb _ c h)
   refused-in (word-too-long f h) = found-is f true (lt-ltb wordLimit _ h)
   refused-in (stray-event {i} f short first) =
@@ -145,7 +145,7 @@ module _ (M : Model) (s : List ℕ) (c : ℕ) (w : Word) where
       by-number r read false e = by-length (record { reading = r; read = read; exists = leb-false _ c e }) (ltb wordLimit (length w)) refl
 
       by-reading : (x : Outcome) → readSheet M s ≡ x → Decided
-      by-reading (refusal n at) e = refuses n (some at) (while-reading e)
+      by-reading (refusal n at) e = refuses n (some at) (sheet-refused e)
       by-reading (whole r) e = by-number r e (leb (length (sheetOf M s .conditions)) c) refl
 
   taken-out : (b : Bool) → wordTest M s c w ≡ tested b → TakesWord M s c w

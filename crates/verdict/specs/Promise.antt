@@ -74,10 +74,10 @@ pub data RefusedFor (M : Model) (s : List ℕ) : ℕ → ℕ → Type 0 where
 -- Of the loader ---------------------------------------------------------------------------------------------------------
 
 -- "accepted with a count, refused with a number and place, or unproved with the first rule that fails"
-pub data Total : Report → Type 0 where
-  with-count : (n : ℕ) → Total (accepted n)
-  with-place : (n at : ℕ) → Total (refused n (some at))
-  with-fault : (r k c i e l : ℕ) → Total (unproved r k c i e l)
+pub data AnswerForm : Report → Type 0 where
+  with-count : (n : ℕ) → AnswerForm (accepted n)
+  with-place : (n at : ℕ) → AnswerForm (refused n (some at))
+  with-fault : (r k c i e l : ℕ) → AnswerForm (unproved r k c i e l)
 
 -- What the loader promises of its answer to the bytes s, for every s, on an instrument that has at least the 32 events of a leaf's four-byte set
 -- (`LoadsAsPromised` below). With fewer events clause 4 would leave some events of a leaf untested.
@@ -85,7 +85,7 @@ pub record Loads (M : Model) (s : List ℕ) (answer : Report) : Type 0 where
   -- the answer is the definition's
   pub stated : answer ≡ verdictOf M s
   -- Demand 1: "The loader is total on every byte string"
-  pub total : Total answer
+  pub total : AnswerForm answer
   -- Demand 2: "A sheet is accepted exactly if it is well formed and passes all rule tests", with the count of the formula
   pub accepted-iff : (n : ℕ) → (answer ≡ accepted n)
       ↔ (WellFormed M s × EachCertified (Passes (M .events)) (rules (sheetOf M s)) (sheetOf M s .certificates) × (n ≡ count (sheetOf M s)))
@@ -126,7 +126,7 @@ pub record FirstStray (events : ℕ) (w : Word) (i : ℕ) : Type 0 where
 
 -- one of the refusals applies, and the first of them, in the order "1 to 9, then 14, 12, 13", has this number and place
 pub data WordRefusedFor (M : Model) (s : List ℕ) (c : ℕ) (w : Word) : ℕ → Option ℕ → Type 0 where
-  while-reading : {n at : ℕ} → readSheet M s ≡ refusal n at → WordRefusedFor M s c w n (some at)
+  sheet-refused : {n at : ℕ} → readSheet M s ≡ refusal n at → WordRefusedFor M s c w n (some at)
   no-such-condition : {r : Reading} → readSheet M s ≡ whole r → length (sheetOf M s .conditions) ≤ c → WordRefusedFor M s c w 14 none
   word-too-long : FindsCondition M s c → wordLimit < length w → WordRefusedFor M s c w 12 none
   stray-event : {i : ℕ} → FindsCondition M s c → length w ≤ wordLimit → FirstStray (M .events) w i → WordRefusedFor M s c w 13 (some i)
