@@ -14,11 +14,11 @@ NumberAtMost limit (Number n) = n ≤ limit
 NumberAtMost limit Wrong = Unit {0}
 
 -- n events fit and nothing behind them is changed; or one of the arguments from `from` on is wrong
-abbrev pub Told : ℕ → List ℕ → List ℕ → Events → Type 0
-Told from before after (Count n) = (n ≤ length before) × (drop n after ≡ drop n before)
-Told from before after (WrongAt i) = from ≤ i
+abbrev pub EventsRead : ℕ → List ℕ → List ℕ → Events → Type 0
+EventsRead from before after (Count n) = (n ≤ length before) × (drop n after ≡ drop n before)
+EventsRead from before after (WrongAt i) = from ≤ i
 
 -- events that are read into a slice
 pub record EventsIn (from : ℕ) (before after : List ℕ) (r : Events) : Type 0 where
   pub same-length : length after ≡ length before
-  pub told : Told from before after r
+  pub told : EventsRead from before after r

@@ -7,7 +7,7 @@ use native.Mathlib.Omega.{arith}
 use lib.ListN.{length, length-append, length-drop, set, take, drop, getD}
 use lib.Seq.{sets, sets-eq, take-all, take-at, take-suc}
 use Rattle.verdict.specs.Line.{decimal}
-use Rattle.line.specs.Put.{Put, Written, Reads}
+use Rattle.line.specs.Put.{Put, Written, LineIn}
 use Rattle.line.proofs.Decimal.{one-digit, last-digit}
 
 sets-append : (l : List ℕ) (i : ℕ) (x y : List ℕ) → sets (sets l i x) (i + length x) y ≡ sets l i (x ++ y)
@@ -63,7 +63,7 @@ module _ {o : List ℕ} {i v : ℕ} (n : ℕ) where
 
 -- The whole line --------------------------------------------------------------------------------------------------------
 
-pub reads : {a b x : List ℕ} {k : ℕ} → length a ≡ 160 → Written a x b k → Reads x b k
+pub reads : {a b x : List ℕ} {k : ℕ} → length a ≡ 160 → Written a x b k → LineIn x b k
 reads {a} {x} l w = record {
   front = rw (w .held) (take-at x (drop (length x) a) _ (sym (w .whole)));
   short = w .short;

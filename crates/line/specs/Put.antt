@@ -18,7 +18,7 @@ pub record Written (before : List ℕ) (line : List ℕ) (after : List ℕ) (siz
   pub short : size ≤ 152
 
 -- the first `size` of 160 bytes are the line
-pub record Reads (line : List ℕ) (bytes : List ℕ) (size : ℕ) : Type 0 where
+pub record LineIn (line : List ℕ) (bytes : List ℕ) (size : ℕ) : Type 0 where
   pub front : take size bytes ≡ line
   pub short : size ≤ 152
   pub room : length bytes ≡ 160

@@ -7,7 +7,7 @@ ghost use Rattle.verdict.specs.Verdict.{unproved};
 ghost use Rattle.verdict.specs.Line.{ascii, decimal, subjectName, refusedLine, line, answerLine};
 ghost use Rattle.records.specs.Refusal.{numberOf, placeOf};
 ghost use Rattle.answers.specs.Answers.{ruleNumber, ruleSubject, reportOf, answerOf};
-ghost use Rattle.line.specs.Put.{Put, Written, Reads};
+ghost use Rattle.line.specs.Put.{Put, Written, LineIn};
 use answers::Place;
 use answers::Rule;
 use answers::Verdict;
@@ -159,7 +159,7 @@ fn put_answer(a: WordAnswer, out: &mut [u8; 160]) -> usize
 
 // The line of the loading program.
 pub fn verdict_line(v: Verdict) -> Line
-    ensures { λ r. ⌜ Reads (line (reportOf v)) (r .bytes) (r .size) ⌝ }
+    ensures { λ r. ⌜ LineIn (line (reportOf v)) (r .bytes) (r .size) ⌝ }
 {
     let mut bytes = [0u8; 160];
     let size = put_verdict(v, &mut bytes);
@@ -168,7 +168,7 @@ pub fn verdict_line(v: Verdict) -> Line
 
 // The line of the word test's program.
 pub fn answer_line(a: WordAnswer) -> Line
-    ensures { λ r. ⌜ Reads (answerLine (answerOf a)) (r .bytes) (r .size) ⌝ }
+    ensures { λ r. ⌜ LineIn (answerLine (answerOf a)) (r .bytes) (r .size) ⌝ }
 {
     let mut bytes = [0u8; 160];
     let size = put_answer(a, &mut bytes);

@@ -11,6 +11,7 @@ use Rattle.pairs.specs.declared.Listed.{Listed}
 use Rattle.pairs.specs.declared.Pair.{Pair}
 use Rattle.pairs.specs.declared.Pair.the-variants.{At, End}
 
+-- the record at an offset: its kind, and the fields that it has if it is a pair
 unfoldable pub listedAt : List ℕ → ℕ → Listed
 listedAt s at = record { kind = byteAt s at; place = byteAt s (at + 1); set = setAt s (at + 2) }
 

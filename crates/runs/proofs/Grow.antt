@@ -7,7 +7,7 @@ use Rattle.condition.specs.Condition.{Word}
 use Rattle.sheet.specs.Each.{Each, nil, cons}
 use Rattle.sheet.proofs.Each.{each-map, each-head, each-tail}
 use Rattle.sheet.specs.Sheet.{Sheet}
-use Rattle.runs.specs.Runs.{Call, Returned, State, since, Extends, Grown, start, Move, newCall, run}
+use Rattle.runs.specs.Runs.{Call, Returned, State, Extends, Grown, start, Move, newCall, run}
 use Rattle.runs.proofs.Adds.{Adds, adds-word, adds-more, adds-nothing}
 use Rattle.runs.proofs.Moves.{Makes, event-made, pass-made, primitive-made, open-made, return-made, run-keeps}
 

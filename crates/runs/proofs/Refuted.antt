@@ -1,8 +1,8 @@
 -- What the facts of runs say is false of other states and steps: of states whose histories do not go on from each other, after the end, and of a
 -- step that calls no primitive.
-use mathlib.Core.Path.{_≡_, ap}
+use mathlib.Core.Path.{ap}
 use mathlib.Core.Bool.{true, false}
-use mathlib.Core.Option.{none, some}
+use mathlib.Core.Option.{none}
 use mathlib.Core.List.{List, [], _∷_}
 use native.Mathlib.Omega.{arith}
 use Rattle.condition.specs.Condition.{Word, event}
@@ -11,7 +11,7 @@ use Rattle.condition.proofs.Words.{words}
 use Rattle.sheet.specs.Sheet.{event-step, call-step, Sheet}
 use Rattle.sheet.proofs.Each.{each-head}
 use lib.ListN.{length, getD}
-use Rattle.runs.specs.Runs.{Call, Returned, State, Grown, by-step, move, MadeByTrace}
+use Rattle.runs.specs.Runs.{Call, Returned, State, Grown, move, MadeByTrace}
 
 -- Histories ---------------------------------------------------------------------------------------------------------------
 

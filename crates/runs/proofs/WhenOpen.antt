@@ -8,11 +8,10 @@ use native.Mathlib.Decide.{decLe}
 use mathlib.Core.List.{List, [], _∷_, List·Memᴰ, List·Memᴰ·head, Memᴰ·append-left, Memᴰ·append-right, Memᴰ·map}
 use lib.ListN.{take}
 use lib.Seq.{take-take}
-use Rattle.sheet.specs.Each.{Each}
 use Rattle.sheet.proofs.Each.{each-zip, each-is-member, each-member}
 use Rattle.sheet.specs.Sheet.{Sheet}
 use Rattle.runs.specs.Runs.{Call, Returned, State, calls, Move, run}
-use Rattle.runs.specs.Owing.{InCaller, LiesInFuture, Owing, stateAfter, Begins, HowBegan, at-start, by-move, ToldApart, WasOpen, OwingWhenOpen}
+use Rattle.runs.specs.Owing.{InCaller, Owing, stateAfter, Begins, HowBegan, at-start, by-move, ToldApart, WasOpen, OwingWhenOpen}
 use Rattle.runs.proofs.Apart.{stays}
 
 module _ (S : Sheet) (m : ℕ) (ms : List Move) where

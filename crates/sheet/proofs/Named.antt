@@ -5,12 +5,12 @@ use mathlib.Core.Option.{Option, none, some}
 use mathlib.Core.List.{List}
 use Prim.Native.Nat.{ℕ, suc, _≤_, _<_}
 use native.Mathlib.Omega.{arith}
-use lib.ListN.{length, length-map}
+use lib.ListN.{length-map}
 use lib.Dec.{T, ltb, ltb→lt}
 use Rattle.bits.proofs.Tests.{and-out}
 use Rattle.sheet.specs.Model.{Model}
 use Rattle.sheet.specs.Each.{Each, nil, cons}
-use Rattle.sheet.specs.Sheet.{Point, Body, Method, Step, event-step, call-step, pass-step, Sheet}
+use Rattle.sheet.specs.Sheet.{Point, Body, Method, Step, event-step, call-step, pass-step}
 use Rattle.sheet.specs.Record.{Record, symbol-record, end-of-condition, point-record, method-record, step-record, pair-record, end-of-certificate, pointAt, methodAt, stepAt}
 use Rattle.sheet.specs.Reading.{Tally, Offsets, countsOf, Reading, fresh, bodyNamed, stepNamed, named, tallyPast, offsetsPast, whole, readSheet}
 use Rattle.sheet.specs.Decode.{conditionAt, sheetAt, sheetOf}

@@ -1,12 +1,13 @@
--- Sheets in which a name does not exist: `NamesExist` does not hold of them. Each differs in one name from a sheet of which it holds.
+-- Sheets in which a name does not exist: `NamesExist` does not hold of them. Each differs in one name from a sheet of which it holds. And a step with
+-- an event that the instrument has not, and a primitive.
 use mathlib.Core.Option.{none, some}
-use mathlib.Core.List.{List, [], _∷_}
+use mathlib.Core.List.{[], _∷_}
 use Prim.Native.Nat.{ℕ}
 use native.Mathlib.Omega.{arith}
 use Rattle.condition.specs.Condition.{empty}
 use Rattle.sheet.specs.Each.{nil, cons}
 use Rattle.sheet.specs.Sheet.{Point, Method, Step, event-step, call-step, pass-step, Sheet}
-use Rattle.sheet.specs.Names.{PointNamed, MethodNamed, StepNamed, NamesExist}
+use Rattle.sheet.specs.Names.{PointNamed, MethodNamed, StepNamed, NamesExist, HasBody, EventBelow}
 use Rattle.sheet.proofs.Each.{each-head}
 
 -- one condition, and the point, the method and the step that are given; so each name that exists is 0
@@ -85,3 +86,16 @@ no-pass-from n = omega (arith, each-head (n .steps-named) .0)
 
 no-pass-to : NamesExist (sheet (point 0 0 0) (method 0 0 0 0 0) (pass-step 0 1)) → ⊥
 no-pass-to n = omega (arith, each-head (n .steps-named) .1)
+
+-- of 32 events 31 is the last; a method has a body, and a primitive has none
+no-event : EventBelow 32 (event-step 0 0 32) → ⊥
+no-event e = omega (arith, e)
+
+last-event : EventBelow 32 (event-step 0 0 31)
+last-event = omega arith
+
+a-body : HasBody (method 0 0 0 0 0 .body)
+a-body = tt
+
+no-body : HasBody (primitive 0 0 0 .body) → ⊥
+no-body b = b

@@ -51,9 +51,9 @@ readReply (whole r) = tallyReply (r .tally)
 readReply (refusal n at) = replyOf (refused n (some at))
 
 -- document 01's number of an answer; 0 where it has none
-abbrev pub numberIn : Option ℕ → ℕ
-numberIn none = 0
-numberIn (some n) = n
+abbrev pub numberOrZero : Option ℕ → ℕ
+numberOrZero none = 0
+numberOrZero (some n) = n
 
 -- the values; a refusal without a place has the largest number for it
 abbrev pub valuesIn : Option ℕ → List ℕ → List ℕ
@@ -69,7 +69,7 @@ filled (suc n) (x ∷ xs) = x ∷ filled n xs
 
 -- the status, the number and the values of an answer
 abbrev pub numbersOf : ℕ → Reply → List ℕ
-numbersOf status r = filled room (status ∷ numberIn (r .number) ∷ valuesIn (r .number) (r .values))
+numbersOf status r = filled room (status ∷ numberOrZero (r .number) ∷ valuesIn (r .number) (r .values))
 
 abbrev pub reportNumbers : Report → List ℕ
 reportNumbers r = numbersOf (reportStatus r) (replyOf r)

@@ -2,7 +2,7 @@
 -- of an accepted sheet are safe and meet what they owe.
 use mathlib.Core.Path.{_≡_, refl, sym, ap, _∙_, subst}
 use mathlib.Core.Bool.{Bool, true, false, cond}
-use mathlib.Core.Option.{Option, none, some}
+use mathlib.Core.Option.{none, some}
 use mathlib.Core.List.{List}
 use Prim.Native.Nat.{ℕ, _≤_}
 use lib.ListN.{length}
@@ -27,21 +27,11 @@ use Rattle.runs.proofs.Owing.{runs-owe}
 use Rattle.verdict.specs.Verdict.{Report, accepted, refused, unproved, certificatesNeeded, firstFault, judged, verdictAfter, verdictOf}
 use Rattle.verdict.specs.Reply.{replyOf}
 use Rattle.verdict.specs.Promise.{WellFormed, EachCertified, Passes, FirstFault, RefusedFor, while-reading, wrong-count, AnswerForm, with-count, with-place, with-fault, Loads, LoadsAsPromised}
-use Rattle.verdict.proofs.Reply.{reply-refused, reply-unproved}
+use Rattle.verdict.proofs.Reply.{IsAccepted, IsUnproved, reply-refused, reply-unproved}
 use Rattle.verdict.proofs.Judged.{Tried, all-pass, one-fails, tried, pass-all, fault-found}
 use Rattle.verdict.proofs.RulesMet.{all-met, all-pass as exact-pass, rules-below}
 
 -- Reports told apart ----------------------------------------------------------------------------------------------------
-
-abbrev IsAccepted : Report → Type 0
-IsAccepted (accepted n) = Unit {0}
-IsAccepted (refused n at) = ⊥
-IsAccepted (unproved r k c i e l) = ⊥
-
-abbrev IsUnproved : Report → Type 0
-IsUnproved (accepted n) = ⊥
-IsUnproved (refused n at) = ⊥
-IsUnproved (unproved r k c i e l) = Unit {0}
 
 abbrev countIn : Report → ℕ
 countIn (accepted n) = n

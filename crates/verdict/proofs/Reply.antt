@@ -1,13 +1,27 @@
--- An answer is told by its number and values.
-use mathlib.Core.Path.{_≡_, refl, sym, ap, ap₂, _∙_, subst}
+-- Answers told apart, and an answer told by its number and values.
+use mathlib.Core.Path.{_≡_, refl, sym, ap, ap₂, subst}
 use mathlib.Core.Option.{Option, none, some}
-use mathlib.Core.List.{List, [], _∷_}
+use mathlib.Core.List.{[], _∷_}
 use Prim.Native.Nat.{ℕ}
 use native.Mathlib.Omega.{arith}
 use lib.ListN.{length, getD}
 use Rattle.verdict.specs.Verdict.{Report, accepted, refused, unproved}
 use Rattle.verdict.specs.WordTest.{Answer, tested, untested}
 use Rattle.verdict.specs.Reply.{Reply, _giving_, placeValue, replyOf, answerReply}
+
+abbrev pub IsAccepted : Report → Type 0
+IsAccepted (accepted n) = Unit {0}
+IsAccepted (refused n at) = ⊥
+IsAccepted (unproved r k c i e l) = ⊥
+
+abbrev pub IsUnproved : Report → Type 0
+IsUnproved (accepted n) = ⊥
+IsUnproved (refused n at) = ⊥
+IsUnproved (unproved r k c i e l) = Unit {0}
+
+abbrev pub IsTested : Answer → Type 0
+IsTested (tested b) = Unit {0}
+IsTested (untested n at) = ⊥
 
 abbrev IsSome : Option ℕ → Type 0
 IsSome none = ⊥
@@ -31,15 +45,15 @@ same-value : {r t : Reply} (i : ℕ) → r ≡ t → getD (r .values) i 0 ≡ ge
 same-value i e = ap (λ (x : Reply). getD (x .values) i 0) e
 
 -- a refusal's place by its value
-same-place : (n : ℕ) (a b : Option ℕ) → length (placeValue a) ≡ length (placeValue b) → getD (placeValue a) 0 0 ≡ getD (placeValue b) 0 0 → a ≡ b
-same-place n none none l e = refl
-same-place n none (some b) l e = absurd (omega (arith, l))
-same-place n (some a) none l e = absurd (omega (arith, l))
-same-place n (some a) (some b) l e = ap (λ k. some k) e
+same-place : (a b : Option ℕ) → length (placeValue a) ≡ length (placeValue b) → getD (placeValue a) 0 0 ≡ getD (placeValue b) 0 0 → a ≡ b
+same-place none none l e = refl
+same-place none (some b) l e = absurd (omega (arith, l))
+same-place (some a) none l e = absurd (omega (arith, l))
+same-place (some a) (some b) l e = ap (λ k. some k) e
 
 pub reply-refused : (x : Report) (n at : ℕ) → replyOf x ≡ n giving (at ∷ []) → x ≡ refused n (some at)
 reply-refused (accepted k) n at e = absurd (has-number e tt)
-reply-refused (refused k a) n at e = ap₂ (λ m p. refused m p) (same-number e) (same-place n a (some at) (same-length e) (same-value 0 e))
+reply-refused (refused k a) n at e = ap₂ (λ m p. refused m p) (same-number e) (same-place a (some at) (same-length e) (same-value 0 e))
 reply-refused (unproved r k c i d l) n at e = absurd (omega (arith, same-length e))
 
 few-values : (a : Option ℕ) → length (placeValue a) ≡ 6 → ⊥
@@ -54,4 +68,4 @@ reply-unproved (unproved r′ k′ c′ i′ d′ l′) r k c i d l e =
 
 pub reply-untested : (x : Answer) (n : ℕ) (at : Option ℕ) → answerReply x ≡ n giving placeValue at → x ≡ untested n at
 reply-untested (tested b) n at e = absurd (has-number e tt)
-reply-untested (untested k a) n at e = ap₂ (λ m p. untested m p) (same-number e) (same-place n a at (same-length e) (same-value 0 e))
+reply-untested (untested k a) n at e = ap₂ (λ m p. untested m p) (same-number e) (same-place a at (same-length e) (same-value 0 e))

@@ -25,20 +25,12 @@ use Rattle.verdict.specs.WordTest.{Answer, tested, untested}
 use Rattle.verdict.specs.Reply.{_giving_, replyOf, answerReply}
 use Rattle.verdict.specs.Promise.{WellFormed, EachCertified, done, bare, certified, Passes, FirstFault, RefusedFor, while-reading, wrong-count, AnswerForm, with-count, with-place, with-fault, Loads, WordRefusedFor, sheet-refused, no-such-condition, word-too-long, stray-event, TakesWord, TestsWord}
 use Rattle.verdict.specs.Cases.{M, M′, W}
+use Rattle.verdict.proofs.Reply.{IsAccepted, IsTested}
 use Rattle.verdict.proofs.Judged.{pass-all, fault-found}
 use Rattle.verdict.proofs.RulesMet.{all-pass}
 use Rattle.verdict.proofs.Witnesses.{M-premises}
 
 -- Answers told apart ------------------------------------------------------------------------------------------------------
-
-abbrev IsAccepted : Report → Type 0
-IsAccepted (accepted n) = Unit {0}
-IsAccepted (refused n at) = ⊥
-IsAccepted (unproved r k c i e l) = ⊥
-
-abbrev IsTested : Answer → Type 0
-IsTested (tested b) = Unit {0}
-IsTested (untested n at) = ⊥
 
 abbrev IsWhole : Outcome → Type 0
 IsWhole (whole r) = Unit {0}

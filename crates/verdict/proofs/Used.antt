@@ -2,7 +2,7 @@
 use mathlib.Core.Path.{_≡_, refl}
 use mathlib.Core.Bool.{false}
 use mathlib.Core.Option.{none, some}
-use mathlib.Core.List.{List, [], _∷_}
+use mathlib.Core.List.{List, [], _∷_, List·Memᴰ}
 use Prim.Native.Nat.{ℕ, _<_}
 use native.Mathlib.Omega.{arith}
 use lib.ListN.{length, getElem?}
@@ -10,15 +10,15 @@ use Rattle.condition.specs.Condition.{Word, empty, event, Holds}
 use Rattle.condition.specs.Places.{nullable, accepts}
 use Rattle.certificate.specs.Certificate.{Certificate, Exact}
 use Rattle.sheet.specs.Model.{Model, large}
-use Rattle.sheet.specs.Sheet.{call-step, body, trace}
+use Rattle.sheet.specs.Sheet.{event-step, call-step, body, trace}
 use Rattle.sheet.specs.Record.{empty-symbol}
-use Rattle.sheet.specs.Names.{HasBody}
-use Rattle.sheet.specs.Decode.{symbolsAt, postfix, conditionAt, sheetOf}
-use Rattle.sheet.proofs.Each.{each-head}
+use Rattle.sheet.specs.Reading.{Reading, whole, readSheet}
+use Rattle.sheet.specs.Names.{HasBody, EventBelow}
+use Rattle.sheet.specs.Decode.{symbolsAt, postfix, sheetOf}
+use Rattle.sheet.proofs.Each.{each-head, each-member}
 use Rattle.runs.specs.Rules.{rules, count}
 use Rattle.runs.specs.Runs.{State, Grown, Move, by-step, newCall, raise, returnedNow, move, run}
 use Rattle.runs.specs.Owing.{OwingWhenOpen}
-use Rattle.verdict.specs.Verdict.{accepted}
 use Rattle.verdict.specs.Promise.{EachCertified, bare, certified, ExactFor}
 use Rattle.verdict.specs.Facts.{Facts}
 use Rattle.verdict.specs.Cases.{M}
@@ -79,6 +79,11 @@ module _ (f : Facts large M) where
 
   its-owing : (ms : List Move) → OwingWhenOpen (sheetOf large M) 0 ms
   its-owing = f .owing-when-open 6 M-accepted
+
+-- the events of the steps of a sheet that is read whole are below the instrument's number
+its-events : (I : Model) (s : List ℕ) → Facts I s → (r : Reading) → readSheet I s ≡ whole r → (p q e : ℕ)
+    → List·Memᴰ (event-step p q e) (sheetOf I s .steps) → e < I .events
+its-events I s f r read p q e i = each-member (EventBelow (I .events)) (f .events-below r read) i
 
 -- a primitive's step with a word of its trace is made, and with another is not
 module _ (I : Model) (s : List ℕ) (f : Facts I s) (t : State) (i q m : ℕ) (w : Word) (going : t .ended ≡ false)

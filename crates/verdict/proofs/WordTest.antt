@@ -21,11 +21,7 @@ use Rattle.sheet.specs.Decode.{sheetOf}
 use Rattle.verdict.specs.WordTest.{Answer, tested, untested, unlessStray, testedAfter, wordTest}
 use Rattle.verdict.specs.Reply.{answerReply}
 use Rattle.verdict.specs.Promise.{FindsCondition, FirstStray, WordRefusedFor, sheet-refused, no-such-condition, word-too-long, stray-event, TakesWord, TestsWord, TestsAsPromised}
-use Rattle.verdict.proofs.Reply.{reply-untested}
-
-abbrev IsTested : Answer → Type 0
-IsTested (tested b) = Unit {0}
-IsTested (untested n at) = ⊥
+use Rattle.verdict.proofs.Reply.{IsTested, reply-untested}
 
 abbrev saidIn : Answer → Bool
 saidIn (tested b) = b

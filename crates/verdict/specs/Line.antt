@@ -41,6 +41,7 @@ refusedLine n at = ascii "refused " ++ (decimal n ++ labelled (ascii " at " ∷ 
 abbrev pub subjectName : ℕ → List ℕ
 subjectName rule = cond (ltb rule 7) (ascii " method ") (ascii " step ")
 
+-- the texts of "unproved rule 5 method 0 clause 3 pair 0 event 0 place 0"
 abbrev pub unprovedTexts : ℕ → List (List ℕ)
 unprovedTexts rule =
     ascii "unproved rule " ∷ subjectName rule ∷ ascii " clause " ∷ ascii " pair " ∷ ascii " event " ∷ ascii " place " ∷ []

@@ -11,6 +11,7 @@ pub record Reply : Type 0 where
   pub number : Option ℕ
   pub values : List ℕ
 
+-- a row with a number: "2, record's offset"
 infix 20 _giving_
 abbrev pub _giving_ : ℕ → List ℕ → Reply
 n giving values = record { number = some n; values = values }
@@ -20,7 +21,7 @@ abbrev pub placeValue : Option ℕ → List ℕ
 placeValue none = []
 placeValue (some at) = at ∷ []
 
--- "accepted, count"; "1, place 65,536", "2, record's offset" and so on; "11, rule, subject, clause, pair, event, place"
+-- "accepted, count"; "1, place 65,536" and so on; "11, rule, subject, clause, pair, event, place"
 abbrev pub replyOf : Report → Reply
 replyOf (accepted n) = record { number = none; values = n ∷ [] }
 replyOf (refused n at) = n giving placeValue at
