@@ -4,7 +4,7 @@ use mathlib.Core.Bool.{true, false}
 use mathlib.Core.Option.{Option, none, some}
 use Rattle.verdict.specs.Verdict.{Report, accepted, refused, unproved}
 use Rattle.verdict.specs.WordTest.{Answer, tested, untested}
-use Rattle.records.specs.Refusal.{numberOf, placeOf}
+use Rattle.format.specs.Refusal.{numberOf, placeOf}
 use Rattle.answers.specs.declared.Rule.{Rule}
 use Rattle.answers.specs.declared.Rule.the-variants.{FirstPre, FirstFuture, EntryPast, EntryOwn, ExitOwn, ExitDue, EventPast, EventOwn, EventDue, CallPre, CallPast, CallOwn, CallFuture, CallDue, PassPast, PassOwn, PassDue}
 use Rattle.answers.specs.declared.Place.{Place}

@@ -1,9 +1,9 @@
 // The answers of the loader and of the word test, and document 01's numbers for them.
 ghost use mathlib.Core.Path.{_≡_};
 ghost use Prim.Native.Nat.{_≤_};
-ghost use Rattle.records.specs.Refusal.{numberOf, placeOf};
+ghost use Rattle.format.specs.Refusal.{numberOf, placeOf};
 ghost use Rattle.answers.specs.Answers.{ruleNumber, ruleSubject, placeIn};
-use records::Refusal;
+use format::Refusal;
 
 // The rules 1 to 17, each with its method or its step.
 pub enum Rule {

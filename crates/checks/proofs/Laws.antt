@@ -6,7 +6,7 @@ use native.Mathlib.Omega.{arith}
 use lib.Dec.{ltb, leb, eqb, lit≤}
 use borrow.Author.Tests.{ltb-true, ltb-false, leb-false}
 use Rattle.sheet.specs.Model.{conditionLimit, symbolLimit, leafLimit}
-use Rattle.records.proofs.Laws.{cond-by}
+use Rattle.format.proofs.Laws.{cond-by}
 use Rattle.checks.specs.declared.Begun.{Begun}
 use Rattle.checks.specs.declared.Stepped.{Stepped}
 use Rattle.checks.specs.declared.Stepped.the-variants as stepped

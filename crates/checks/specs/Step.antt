@@ -3,7 +3,7 @@ use Prim.Native.Nat.{ℕ, _+_, _-_, _≤_}
 use mathlib.Core.Bool.{cond, _&&_}
 use lib.Dec.{ltb, leb, eqb}
 use Rattle.sheet.specs.Model.{conditionLimit, symbolLimit, leafLimit}
-use Rattle.records.specs.declared.Refusal.the-variants.{WrongItems, OverLimit}
+use Rattle.format.specs.declared.Refusal.the-variants.{WrongItems, OverLimit}
 use Rattle.checks.specs.declared.Begun.{Begun}
 use Rattle.checks.specs.declared.Stepped.{Stepped}
 use Rattle.checks.specs.declared.Stepped.the-variants.{On, Refused}

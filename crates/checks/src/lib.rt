@@ -11,7 +11,7 @@ use fields::both;
 use fields::byte_at;
 use fields::index;
 use fields::short_at;
-use records::Refusal;
+use format::Refusal;
 use tally::Tally;
 
 // The name at an offset is one of the first n.

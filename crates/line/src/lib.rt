@@ -5,7 +5,7 @@ ghost use Prim.Native.Nat.{_+_, _≤_, _<_};
 ghost use lib.ListN.{length};
 ghost use Rattle.verdict.specs.Verdict.{unproved};
 ghost use Rattle.verdict.specs.Line.{ascii, decimal, subjectName, refusedLine, line, answerLine};
-ghost use Rattle.records.specs.Refusal.{numberOf, placeOf};
+ghost use Rattle.format.specs.Refusal.{numberOf, placeOf};
 ghost use Rattle.answers.specs.Answers.{ruleNumber, ruleSubject, reportOf, answerOf};
 ghost use Rattle.line.specs.Put.{Put, Written, LineIn};
 use answers::Place;
@@ -16,7 +16,7 @@ use answers::refusal_number;
 use answers::refusal_place;
 use answers::rule_number;
 use answers::rule_subject;
-use records::Refusal;
+use format::Refusal;
 
 // A line: the first bytes of a buffer, as many as `size` says.
 pub struct Line {

@@ -22,8 +22,8 @@ use Rattle.verdict.specs.Verdict.{accepted, refused, unproved, verdictOf}
 use Rattle.verdict.specs.WordTest.{tested, untested, wordTest}
 use Rattle.verdict.specs.Promise.{FindsCondition, sheet-refused, no-such-condition, word-too-long, stray-event}
 use Rattle.verdict.proofs.WordTest.{refused-in, taken-in}
-use Rattle.records.specs.declared.Refusal.{Refusal}
-use Rattle.records.specs.Refusal.{numberOf, placeOf}
+use Rattle.format.specs.declared.Refusal.{Refusal}
+use Rattle.format.specs.Refusal.{numberOf, placeOf}
 use Rattle.answers.specs.declared.Rule.{Rule}
 use Rattle.answers.specs.Answers.{ruleNumber, ruleSubject}
 use Rattle.tally.specs.Tally.{tallyOf}

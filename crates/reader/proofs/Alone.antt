@@ -13,8 +13,8 @@ use Rattle.sheet.specs.Sheet.{Body}
 use Rattle.sheet.specs.Record.{Record, byteAt, sectionOf, nextAt, recordsByKind, recordAt, point-record, pointAt, method-record, methodAt, step-record, stepAt}
 use Rattle.sheet.specs.Reading.{Tally as Counts, Offsets, countsOf, Unended, nothing, Reading, conditionOpen, startOf, wrongItems, overLimit, named, isPrimitive, firstIsPrimitive, unendedPast, tallyPast, offsetsPast}
 use Rattle.sheet.proofs.Kind.{kind-is}
-use Rattle.records.specs.declared.Refusal.the-variants.{OverLimit, UnknownName, NoFirstBody}
-use Rattle.records.proofs.Laws.{Stood}
+use Rattle.format.specs.declared.Refusal.the-variants.{OverLimit, UnknownName, NoFirstBody}
+use Rattle.format.proofs.Laws.{Stood}
 use Rattle.tally.specs.declared.Tally.{Tally}
 use Rattle.tally.specs.Tally.{tallyOf, tallyAfter, Room}
 use Rattle.tally.proofs.Laws.{counted-past}

@@ -12,10 +12,10 @@ use Rattle.sheet.specs.Model.{Model, conditionLimit, symbolLimit, leafLimit}
 use Rattle.sheet.specs.Record.{Symbol, leaf-symbol, empty-symbol, join-symbol, either-symbol, star-symbol, symbol-record, end-of-condition, byteAt, setAt, sectionOf, nextAt, recordsByKind, recordAt}
 use Rattle.sheet.specs.Reading.{Tally as Counts, Offsets, countsOf, Unended, nothing, a-condition, a-certificate, Reading, itemsOf, symbolsOf, leavesOf, startOf, conditionOpen, takes, isLeaf, leafCount, overLimit, unendedPast, offsetsPast, readingPast, taken, not-taken, takeAt, endsInside}
 use Rattle.sheet.proofs.Kind.{kind-is}
-use Rattle.records.specs.declared.Refusal.{Refusal}
-use Rattle.records.specs.declared.Refusal.the-variants.{WrongSection, Unfinished}
-use Rattle.records.specs.Refusal.{numberOf, placeOf}
-use Rattle.records.proofs.Laws.{cond-by, Stood}
+use Rattle.format.specs.declared.Refusal.{Refusal}
+use Rattle.format.specs.declared.Refusal.the-variants.{WrongSection, Unfinished}
+use Rattle.format.specs.Refusal.{numberOf, placeOf}
+use Rattle.format.proofs.Laws.{cond-by, Stood}
 use Rattle.tally.specs.declared.Tally.{Tally}
 use Rattle.tally.specs.Tally.{tallyOf, tallyAfter, Room}
 use Rattle.reader.specs.declared.Section.{Section}

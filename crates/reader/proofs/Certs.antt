@@ -12,13 +12,13 @@ use Rattle.sheet.specs.Model.{Model}
 use Rattle.sheet.specs.Record.{byteAt, sectionOf, nextAt, pair-record, pairAt, end-of-certificate}
 use Rattle.sheet.specs.Reading.{Tally as Counts, Offsets, Unended, nothing, a-condition, a-certificate, Reading, conditionOpen, startOf, offsetsPast, not-taken, takeAt, whole, endsInside, noneYet, endRefusal, endedBy, readSheet}
 use Rattle.sheet.proofs.Kind.{kind-is}
-use Rattle.records.specs.declared.Refusal.{Refusal}
-use Rattle.records.specs.declared.Refusal.the-variants.{WrongSection, Unfinished, NoFirstBody}
-use Rattle.records.specs.declared.Found.{Found}
-use Rattle.records.specs.declared.Found.the-variants as found
-use Rattle.records.specs.Refusal.{numberOf, placeOf}
-use Rattle.records.specs.Found.{foundAt}
-use Rattle.records.proofs.Laws.{Stood, refused}
+use Rattle.format.specs.declared.Refusal.{Refusal}
+use Rattle.format.specs.declared.Refusal.the-variants.{WrongSection, Unfinished, NoFirstBody}
+use Rattle.format.specs.declared.Found.{Found}
+use Rattle.format.specs.declared.Found.the-variants as found
+use Rattle.format.specs.Refusal.{numberOf, placeOf}
+use Rattle.format.specs.Found.{foundAt}
+use Rattle.format.proofs.Laws.{Stood, refused}
 use Rattle.tally.specs.declared.Tally.{Tally}
 use Rattle.tally.specs.Tally.{tallyOf, tallyAfter, Room}
 use Rattle.reader.specs.declared.Section.{Section}

@@ -14,13 +14,13 @@ use Rattle.sheet.specs.Model.{Model}
 use Rattle.sheet.specs.Record.{Record, byteAt, sectionOf, recordAt}
 use Rattle.sheet.specs.Reading.{Tally as Counts, countsOf, Reading, tallyPast, readingPast, taken, not-taken, takeAt, noneYet}
 use Rattle.sheet.proofs.Counted.{tally-past}
-use Rattle.records.specs.declared.Refusal.{Refusal}
-use Rattle.records.specs.declared.Refusal.the-variants.{WrongSection}
-use Rattle.records.specs.declared.Found.{Found}
-use Rattle.records.specs.declared.Found.the-variants as found
-use Rattle.records.specs.Refusal.{numberOf, placeOf}
-use Rattle.records.specs.Found.{foundAt}
-use Rattle.records.proofs.Laws.{Stood, refused}
+use Rattle.format.specs.declared.Refusal.{Refusal}
+use Rattle.format.specs.declared.Refusal.the-variants.{WrongSection}
+use Rattle.format.specs.declared.Found.{Found}
+use Rattle.format.specs.declared.Found.the-variants as found
+use Rattle.format.specs.Refusal.{numberOf, placeOf}
+use Rattle.format.specs.Found.{foundAt}
+use Rattle.format.proofs.Laws.{Stood, refused}
 use Rattle.tally.specs.declared.Tally.{Tally}
 use Rattle.tally.specs.Tally.{tallyOf, tallyAfter, Room}
 use Rattle.tally.proofs.Laws.{counted-past}

@@ -8,8 +8,8 @@ use lib.Dec.{lit≤}
 use borrow.Author.Tests.{ne-eqb}
 use Rattle.sheet.specs.Model.{Model}
 use Rattle.sheet.specs.Reading.{Tally as Counts, Offsets, Reading, fresh}
-use Rattle.records.specs.declared.Refusal.{Refusal}
-use Rattle.records.specs.declared.Refusal.the-variants.{TooLong}
+use Rattle.format.specs.declared.Refusal.{Refusal}
+use Rattle.format.specs.declared.Refusal.the-variants.{TooLong}
 use Rattle.tally.specs.declared.Tally.{Tally}
 use Rattle.reader.specs.declared.Section.{Section}
 use Rattle.reader.specs.declared.Section.the-variants.{Done, Refused}

@@ -6,8 +6,8 @@ use mathlib.Core.List.{List}
 use lib.ListN.{length, getD}
 use Rattle.sheet.specs.Model.{Model}
 use Rattle.sheet.specs.Reading.{Offsets, whole, refusal, readSheet}
-use Rattle.records.specs.declared.Refusal.{Refusal}
-use Rattle.records.specs.Refusal.{numberOf, placeOf}
+use Rattle.format.specs.declared.Refusal.{Refusal}
+use Rattle.format.specs.Refusal.{numberOf, placeOf}
 use Rattle.tally.specs.Tally.{tallyOf}
 use Rattle.reader.specs.declared.Contents.{Contents}
 use Rattle.reader.specs.declared.Read.{Read}

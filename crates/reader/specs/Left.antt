@@ -8,8 +8,8 @@ use lib.Dec.{eqb}
 use Rattle.sheet.specs.Model.{Model}
 use Rattle.sheet.specs.Record.{byteAt, sectionOf}
 use Rattle.sheet.specs.Reading.{Offsets, countsOf, nothing, readOn, readSheet}
-use Rattle.records.specs.declared.Found.{Found}
-use Rattle.records.specs.declared.Found.the-variants as found
+use Rattle.format.specs.declared.Found.{Found}
+use Rattle.format.specs.declared.Found.the-variants as found
 use Rattle.checks.specs.declared.Stepped.{Stepped}
 use Rattle.checks.specs.declared.Stepped.the-variants as stepped
 use Rattle.tally.specs.declared.Tally.{Tally}

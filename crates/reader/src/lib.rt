@@ -15,9 +15,9 @@ use checks::names_of_point;
 use checks::names_of_step;
 use checks::nothing_begun;
 use fields::both;
-use records::Found;
-use records::Refusal;
-use records::record_at;
+use format::Found;
+use format::Refusal;
+use format::record_at;
 use tally::Tally;
 use tally::past;
 

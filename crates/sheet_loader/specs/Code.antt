@@ -3,7 +3,7 @@ use Prim.Native.Nat.{ℕ}
 use mathlib.Core.Path.{_≡_}
 use mathlib.Core.List.{List}
 use lib.ListN.{getD}
-use Rattle.records.specs.Refusal.{numberOf, placeOf}
+use Rattle.format.specs.Refusal.{numberOf, placeOf}
 use Rattle.tally.specs.Tally.{tallyOf}
 use Rattle.reader.specs.declared.Read.{Read}
 use Rattle.reader.specs.declared.Read.the-variants.{Whole, Refused}

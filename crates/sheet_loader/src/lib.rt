@@ -1,7 +1,7 @@
 // Doors for C and Rust: reading a sheet, the loader and the word test on lent slices, the answer as a status and eight numbers.
 // C passes a slice as a pointer and the number of its elements; usize is size_t.
 ghost use mathlib.Core.Path.{_≡_};
-ghost use Rattle.records.specs.Refusal.{numberOf, placeOf};
+ghost use Rattle.format.specs.Refusal.{numberOf, placeOf};
 ghost use Rattle.verdict.specs.Verdict.{refused};
 ghost use Rattle.answers.specs.Answers.{reportOf, answerOf};
 ghost use Rattle.sheet_loader.specs.Numbers.{reportNumbers, answerNumbers, LoadsInto, TestsWordInto, ReadsInto};
@@ -13,11 +13,11 @@ use answers::refusal_number;
 use answers::refusal_place;
 use answers::rule_number;
 use answers::rule_subject;
+use format::Refusal;
 use loader::load;
 use loader::word_test;
 use reader::Read;
 use reader::read_sheet;
-use records::Refusal;
 
 // How many numbers a door writes; harness/include/sheet_loader.h has the same constants for C.
 const ROOM: usize = 8;

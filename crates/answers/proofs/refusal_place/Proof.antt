@@ -1,7 +1,7 @@
 -- `answers::refusal_place` meets its contract: in each arm the refusal is known, and so is its place.
 use mathlib.Core.Path.{sym, ap}
 use borrow.Author.Needs.{needs}
-use Rattle.records.specs.Refusal.{placeOf}
+use Rattle.format.specs.Refusal.{placeOf}
 use Rattle.answers.proofs.refusal_place.Statement.{statement}
 use Rattle.answers.proofs.refusal_place.Tie as tie
 

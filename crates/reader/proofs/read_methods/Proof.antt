@@ -8,7 +8,7 @@ use borrow.Author.Needs.{needs}
 use borrow.Author.Tests.{not-true, not-false}
 use Rattle.sheet.specs.Model.{Model, large}
 use Rattle.sheet.proofs.Fields.{next-lt}
-use Rattle.records.proofs.Laws.{Stood, stood}
+use Rattle.format.proofs.Laws.{Stood, stood}
 use Rattle.tally.specs.Tally.{tallyOf, Room}
 use Rattle.reader.specs.Left.{Kept}
 use Rattle.reader.proofs.Step.{in-order, no-record, too-early, later-section, no-more}

@@ -4,7 +4,7 @@ use Prim.Native.Nat.{_-_}
 use native.Mathlib.Omega.{arith}
 use borrow.Author.Tests.{not-true, not-false}
 use Rattle.sheet.proofs.Fields.{next-lt}
-use Rattle.records.proofs.Laws.{Stood, stood}
+use Rattle.format.proofs.Laws.{Stood, stood}
 use Rattle.reader.proofs.Step.{in-order, no-record, too-early, later-section, no-more}
 use Rattle.reader.proofs.Alone.{a-point, full, unnamed, again}
 use lib.ListN.{length}

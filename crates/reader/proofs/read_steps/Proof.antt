@@ -7,7 +7,7 @@ use lib.Dec.{lit≤}
 use borrow.Author.Needs.{needs}
 use borrow.Author.Tests.{not-true, not-false}
 use Rattle.sheet.proofs.Fields.{next-lt}
-use Rattle.records.proofs.Laws.{Stood, stood}
+use Rattle.format.proofs.Laws.{Stood, stood}
 use Rattle.reader.specs.Left.{modelOf, Kept}
 use Rattle.reader.proofs.Step.{in-order, no-record, too-early, later-section, no-more}
 use Rattle.reader.proofs.Alone.{a-step, full, unnamed, again}

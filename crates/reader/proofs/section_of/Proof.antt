@@ -1,5 +1,5 @@
 use mathlib.Core.Path.{sym, ap}
-use Rattle.records.specs.declared.Found.{Found}
+use Rattle.format.specs.declared.Found.{Found}
 use Rattle.reader.specs.Left.{sectionOfFound}
 use borrow.Author.Needs.{needs}
 use Rattle.reader.proofs.section_of.Statement.{statement}

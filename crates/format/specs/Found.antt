@@ -5,9 +5,9 @@ use mathlib.Core.List.{List}
 use lib.ListN.{length}
 use lib.Dec.{ltb}
 use Rattle.sheet.specs.Record.{byteAt, nextAt}
-use Rattle.records.specs.declared.Refusal.the-variants.{UnknownKind, BodyPastEnd}
-use Rattle.records.specs.declared.Found.{Found}
-use Rattle.records.specs.declared.Found.the-variants.{Record, Refused}
+use Rattle.format.specs.declared.Refusal.the-variants.{UnknownKind, BodyPastEnd}
+use Rattle.format.specs.declared.Found.{Found}
+use Rattle.format.specs.declared.Found.the-variants.{Record, Refused}
 
 -- 2: "kind not 1 to 14"; 3: "body runs past the end"
 unfoldable pub foundAt : List ℕ → ℕ → Found

@@ -15,12 +15,12 @@ use Rattle.sheet.proofs.Fields.{next-is}
 use Rattle.sheet.proofs.Kind.{numbered, kind-is, kind-above}
 use Rattle.sheet.proofs.Take.{take-is}
 use Rattle.fields.proofs.Laws.{byte-past}
-use Rattle.records.specs.declared.Refusal.{Refusal}
-use Rattle.records.specs.declared.Refusal.the-variants.{UnknownKind, BodyPastEnd}
-use Rattle.records.specs.declared.Found.{Found}
-use Rattle.records.specs.declared.Found.the-variants as found
-use Rattle.records.specs.Refusal.{numberOf, placeOf}
-use Rattle.records.specs.Found.{foundAt}
+use Rattle.format.specs.declared.Refusal.{Refusal}
+use Rattle.format.specs.declared.Refusal.the-variants.{UnknownKind, BodyPastEnd}
+use Rattle.format.specs.declared.Found.{Found}
+use Rattle.format.specs.declared.Found.the-variants as found
+use Rattle.format.specs.Refusal.{numberOf, placeOf}
+use Rattle.format.specs.Found.{foundAt}
 
 pub cond-by : {A : Type 0} (P : A → Type 0) (b : Bool) {x y : A} → (b ≡ true → P x) → (b ≡ false → P y) → P (cond b x y)
 cond-by P true f g = f refl

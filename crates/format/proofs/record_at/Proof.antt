@@ -1,10 +1,10 @@
 -- The tests of a kind and of the end, in the order of `foundAt`.
 use mathlib.Core.Path.{sym}
 use native.Mathlib.Omega.{arith}
-use Rattle.records.proofs.Laws.{inside, next-by, next-le, kind-low, kind-high, body-past-end, whole-record}
+use Rattle.format.proofs.Laws.{inside, next-by, next-le, kind-low, kind-high, body-past-end, whole-record}
 use borrow.Author.Needs.{needs}
-use Rattle.records.proofs.record_at.Statement.{statement}
-use Rattle.records.proofs.record_at.Tie as tie
+use Rattle.format.proofs.record_at.Statement.{statement}
+use Rattle.format.proofs.record_at.Tie as tie
 
 byte-at-requires : tie.Need-byte-at-requires
 byte-at-requires c κs = search needs

@@ -1,6 +1,6 @@
 // The records of a sheet: one byte of kind, then a body whose length the kind fixes.
 ghost use mathlib.Core.Path.{_≡_};
-ghost use Rattle.records.specs.Found.{foundAt};
+ghost use Rattle.format.specs.Found.{foundAt};
 use fields::byte_at;
 use fields::index;
 
