@@ -6,31 +6,31 @@ use Prim.Native.Nat.{ℕ, zero, suc, _<_}
 use native.Mathlib.Nat.{not-suc-le-zero, le-of-suc-le-suc, le-refl, eq-or-lt-of-le}
 use native.Mathlib.Omega.{arith}
 use lib.Dec.{T}
-use Rattle.certificate.specs.Certificate.{Finding, fine, fault, _then_, inOrder, unless}
+use Rattle.certificate.specs.Certificate.{Fault, Finding, fine, found, _then_, inOrder, unless}
 
 -- the finding is no fault
 abbrev pub Fine : Finding → Type 0
 Fine fine = Unit {0}
-Fine (fault c i e l) = ⊥
+Fine (found x) = ⊥
 
 pub fine-is : (v : Finding) → Fine v → v ≡ fine
 fine-is fine h = refl
-fine-is (fault c i e l) h = absurd h
+fine-is (found x) h = absurd h
 
 pub is-fine : (v : Finding) → v ≡ fine → Fine v
 is-fine v h = rw h tt
 
 pub then-out : (u v : Finding) → Fine (u then v) → Fine u × Fine v
 then-out fine v h = (tt, h)
-then-out (fault c i e l) v h = absurd h
+then-out (found x) v h = absurd h
 
 pub then-in : (u v : Finding) → Fine u → Fine v → Fine (u then v)
 then-in fine v h k = k
-then-in (fault c i e l) v h k = absurd h
+then-in (found x) v h k = absurd h
 
-pub unless-out : (b : Bool) (c i e l : ℕ) → Fine (unless b (fault c i e l)) → T b
-unless-out true c i e l h = tt
-unless-out false c i e l h = absurd h
+pub unless-out : (b : Bool) (x : Fault) → Fine (unless b (found x)) → T b
+unless-out true x h = tt
+unless-out false x h = absurd h
 
 pub unless-in : (b : Bool) (v : Finding) → T b → Fine (unless b v)
 unless-in true v h = tt
@@ -57,11 +57,11 @@ inOrder-cong (suc n) f g h =
 
 -- where the tests before k find nothing wrong and test k finds a fault, that fault is the first of all n
 pub inOrder-stops : (n : ℕ) (f : ℕ → Finding) (k : ℕ) → k < n → Fine (inOrder k f)
-    → (c i e l : ℕ) → f k ≡ fault c i e l → inOrder n f ≡ fault c i e l
+    → (x : Fault) → f k ≡ found x → inOrder n f ≡ found x
 unfolding inOrder
-inOrder-stops zero f k h o c i e l g = absurd (not-suc-le-zero h)
-inOrder-stops (suc n) f k h o c i e l g =
+inOrder-stops zero f k h o v g = absurd (not-suc-le-zero h)
+inOrder-stops (suc n) f k h o v g =
     ⊎-elim
     (λ (x : k ≡ n). let p : inOrder n f ≡ fine = rw x at (fine-is (inOrder k f) o) in rw (p, (rw x at g)))
-    (λ (x : k < n). rw (inOrder-stops n f k x o c i e l g))
+    (λ (x : k < n). rw (inOrder-stops n f k x o v g))
     (eq-or-lt-of-le (le-of-suc-le-suc h))

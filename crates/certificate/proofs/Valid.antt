@@ -50,11 +50,11 @@ module _ (events : ℕ) (left right : Condition) (c : Certificate) where
       let (a, d) = then-out (finding2 i p then finding3 i p) (inOrder events (finding4 i p)) h in
       let (x, y) = then-out (finding2 i p) (finding3 i p) a in
       record {
-        clause2 = unless-out (test2 p) 2 i 0 0 x;
-        clause3 = if-out (ends left (p .place)) (someEnds right (p .set)) (unless-out (test3 p) 3 i 0 0 y);
+        clause2 = unless-out (test2 p) _ x;
+        clause3 = if-out (ends left (p .place)) (someEnds right (p .set)) (unless-out (test3 p) _ y);
         clause4 = λ e q l n t.
             if-out (follows left (p .place) q && leafHolds left q e) (listed right c q (step right (p .set) e))
-            (unless-out (test4 p e q) 4 i e q
+            (unless-out (test4 p e q) _
             (inOrder-out (places left) (λ q. unless (test4 p e q) (fault 4 i e q))
             (inOrder-out events (finding4 i p) d e l)
             q
@@ -91,7 +91,7 @@ module _ (events : ℕ) (left right : Condition) (c : Certificate) where
     λ h.
         let (x, y) = then-out finding1 (inOrder (length c) findings) (rw check-is at (is-fine _ h)) in
         record {
-          clause1 = unless-out (startsRight c) 1 0 0 0 x;
+          clause1 = unless-out (startsRight c) _ x;
           pairs = λ i l. pair-out i (pairOf c i) (inOrder-out (length c) findings y i l);
         },
     λ v.

@@ -27,16 +27,26 @@ pairOf c i = getD c i (pair 0 0)
 
 -- What a test finds -----------------------------------------------------------------------------------------------------
 
--- nothing wrong, or "clause, pair, event, place" of a fault
+-- a fault: "clause, pair, event, place"
+pub record Fault : Type 0 where
+  pub clause : ℕ
+  pub pair : ℕ
+  pub event : ℕ
+  pub place : ℕ
+
+-- nothing wrong, or a fault
 pub data Finding : Type 0 where
   fine : Finding
-  fault : (clause pair event place : ℕ) → Finding
+  found : Fault → Finding
+
+abbrev pub fault : ℕ → ℕ → ℕ → ℕ → Finding
+fault c i e l = found (record { clause = c; pair = i; event = e; place = l })
 
 -- the first fault of two
 infixl 20 _then_
 abbrev pub _then_ : Finding → Finding → Finding
 fine then v = v
-fault c i e l then v = fault c i e l
+found x then v = found x
 
 -- the first fault of f 0, f 1, .. up to f (n - 1)
 unfoldable pub inOrder : ℕ → (ℕ → Finding) → Finding

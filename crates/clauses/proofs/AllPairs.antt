@@ -43,7 +43,7 @@ fine-more i f h e = rw (add-one i, h, e)
 pub first-found : {r : Fault} {k j e l : ℕ} (n i : ℕ) (f : ℕ → Finding) → i < n → inOrder i f ≡ fine → findingOf r ≡ f i → r ≡ At k j e l
     → findingOf r ≡ inOrder n f
 first-found {r} {k} {j} {e} {l} n i f a h g x =
-    ap findingOf x ∙ sym (inOrder-stops n f i a (is-fine (inOrder i f) h) k j e l (sym g ∙ ap findingOf x))
+    ap findingOf x ∙ sym (inOrder-stops n f i a (is-fine (inOrder i f) h) _ (sym g ∙ ap findingOf x))
 
 -- where a fault is found, all is not fine
 pub not-fine : {r : Finding} {k i e l : ℕ} {A : Type 0} → r ≡ fault k i e l → r ≡ fine → A

@@ -58,14 +58,14 @@ module _ (missers : ℕ) (rows : List ℕ) (n i all : ℕ) (all-is : (k : ℕ) �
     event-fault h =
         inOrder-stops n (λ l. unless (not (misses missers rows l e)) (fault 4 i e l)) l (on-side h)
         (inOrder-in l (λ l. unless (not (misses missers rows l e)) (fault 4 i e l)) (λ k a. unless-in (not (misses missers rows k e)) (fault 4 i e k) (fails (at-place .before k a))))
-        4 i e l
+        _
         (ap (λ (b : Bool). unless (not b) (fault 4 i e l)) (at-place .stops (on-side h)))
 
     pub missing-first : (events : ℕ) → IsLowest events (λ k. has all k) e → e < events → fault 4 i e l ≡ inOrder events (missingAt n i missers rows)
     missing-first events low h =
         sym (inOrder-stops events (missingAt n i missers rows) e h
         (inOrder-in e (missingAt n i missers rows) (λ k a. event-fine k (low .before k a)))
-        4 i e l
+        _
         (event-fault (low .stops h)))
 
 -- In the certificate --------------------------------------------------------------------------------------------------

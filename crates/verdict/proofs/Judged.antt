@@ -4,7 +4,7 @@ use mathlib.Core.List.{List, [], _∷_, _++_, append-assoc}
 use Prim.Native.Nat.{ℕ, _+_}
 use native.Mathlib.Omega.{arith}
 use lib.ListN.{length}
-use Rattle.certificate.specs.Certificate.{Certificate, Finding, fine, fault}
+use Rattle.certificate.specs.Certificate.{Certificate, Finding, fine, found, fault}
 use Rattle.runs.specs.Rules.{Claim, _isIn_, holdsEmpty, Rule, _of_says_, rules, total}
 use Rattle.verdict.specs.Verdict.{Report, unproved, testOf, needed, certificatesNeeded, nextOf, leftAfter, reported, firstFault}
 use Rattle.verdict.specs.Promise.{EachCertified, done, bare, certified, Passes, FirstFault}
@@ -78,7 +78,7 @@ module _ (events : ℕ) (otherwise : Report) where
       go : (f : Finding) → testOf events claim (nextOf (mine ++ cs)) ≡ f
           → Tried ((n of k says claim) ∷ xs) (mine ++ cs) (reported (n of k says claim) f after)
       go fine h = tried-more (n of k says claim) mine (λ ys ds p. longer ys ds h p) xs cs after t
-      go (fault c i e l) h = one-fails n k c i e l (fails-here n k claim xs (mine ++ cs) c i e l h) refl
+      go (found f) h = one-fails n k _ _ _ _ (fails-here n k claim xs (mine ++ cs) (f .clause) (f .pair) (f .event) (f .place) h) refl
 
   -- TRIED: with as many certificates as the rules need
   pub tried : (xs : List Rule) (cs : List Certificate) → length cs ≡ certificatesNeeded xs → Tried xs cs (firstFault events xs cs otherwise)

@@ -28,7 +28,7 @@ LeftBelow n (holdsEmpty a) = Unit {0}
 
 passed-met : (n : ℕ) (claim : Claim) (c : Certificate) → LeftBelow n claim → Passes n claim c → Met claim
 passed-met n (a isIn b) c w h = sound n a b c w h
-passed-met n (holdsEmpty a) c w h = nullable-holds a .0 (unless-out (nullable a) 5 0 0 0 (is-fine _ h))
+passed-met n (holdsEmpty a) c w h = nullable-holds a .0 (unless-out (nullable a) _ (is-fine _ h))
 
 met-passes : (n : ℕ) (claim : Claim) (c : Certificate) → Met claim → ExactFor n claim c → Passes n claim c
 met-passes n (a isIn b) c h e = complete n a b c h e

@@ -4,7 +4,7 @@ use mathlib.Core.List.{List, [], _∷_, _++_, map}
 use Prim.Native.Nat.{ℕ, suc, _+_, _*_}
 use native.Mathlib.Omega.{arith}
 use lib.ListN.{length}
-use Rattle.certificate.specs.Certificate.{Certificate, Finding, fine, fault}
+use Rattle.certificate.specs.Certificate.{Certificate, Finding, fine, found}
 use Rattle.sheet.specs.Decode.{certificateAt}
 use Rattle.sheet.proofs.Certified.{certified-length, Chain, no-certificate, a-certificate-more}
 use Rattle.runs.specs.Rules.{Claim, _isIn_, holdsEmpty, Rule, _of_says_}
@@ -32,7 +32,7 @@ module _ (events : ℕ) (s : List ℕ) where
 
   after-onward : (x : Rule) (f : Finding) (t : Trial) (more : ℕ → Trial) → afterTest x f (onward t more) ≡ onward (afterTest x f t) more
   after-onward x fine t more = refl
-  after-onward x (fault c i e l) t more = refl
+  after-onward x (found f) t more = refl
 
   -- some rules and then others
   pub trial-append : (xs ys : List Rule) (at : ℕ) → trial (xs ++ ys) at ≡ onward (trial xs at) (trial ys)
@@ -54,7 +54,7 @@ module _ (events : ℕ) (s : List ℕ) (otherwise : Report) where
 
   report-after : (x : Rule) (f : Finding) (t : Trial) → reported x f (reportOn otherwise t) ≡ reportOn otherwise (afterTest x f t)
   report-after x fine t = refl
-  report-after x (fault c i e l) t = refl
+  report-after x (found f) t = refl
 
   module _ (end : ℕ) where
     module _ (n k : ℕ) (xs : List Rule)

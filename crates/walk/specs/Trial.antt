@@ -2,7 +2,7 @@
 use Prim.Native.Nat.{ℕ, suc, _+_, _*_}
 use mathlib.Core.List.{List, [], _∷_}
 use lib.ListN.{length}
-use Rattle.certificate.specs.Certificate.{Finding, fine, fault, check}
+use Rattle.certificate.specs.Certificate.{Finding, fine, found, check}
 use Rattle.condition.specs.Places.{nullable}
 use Rattle.sheet.specs.Decode.{certificateAt}
 use Rattle.runs.specs.Rules.{Claim, _isIn_, holdsEmpty, Rule}
@@ -21,7 +21,7 @@ afterCertificate s (holdsEmpty a) at = at
 
 abbrev pub afterTest : Rule → Finding → Trial → Trial
 afterTest x fine more = more
-afterTest x (fault c i e l) more = failed (x .number) (x .subject) c i e l
+afterTest x (found f) more = failed (x .number) (x .subject) (f .clause) (f .pair) (f .event) (f .place)
 
 unfoldable pub tryRules : ℕ → List ℕ → List Rule → ℕ → Trial
 unfolding certificateAt check nullable
