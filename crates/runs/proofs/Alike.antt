@@ -9,7 +9,7 @@ use native.Mathlib.Omega.{arith}
 use lib.ListN.{getElem?}
 use Rattle.condition.specs.Condition.{empty, star, event, any, globally}
 use Rattle.condition.proofs.Words.{words}
-use Rattle.sheet.specs.Sheet.{event-step, call-step, pass-step, Sheet, condition}
+use Rattle.sheet.specs.Sheet.{event-step, callFrom, pass-step, Sheet, condition}
 use Rattle.runs.specs.Runs.{Call, Returned, Move, return, by-step, run}
 use Rattle.runs.specs.Owing.{InCaller, LiesInFuture}
 
@@ -23,7 +23,7 @@ visits = record {
       record { pre = 2; trace = 2; future = 2; body = some (record { entry = 0; exit = 2 }) }
       ∷ record { pre = 1; trace = 0; future = 3; body = none }
       ∷ [];
-  steps = call-step 0 1 1 ∷ call-step 1 1 0 ∷ pass-step 1 2 ∷ event-step 1 2 2 ∷ [];
+  steps = callFrom 0 1 1 ∷ callFrom 1 1 0 ∷ pass-step 1 2 ∷ event-step 1 2 2 ∷ [];
   certificates = [];
 }
 

@@ -8,7 +8,7 @@ use Rattle.condition.specs.Condition.{Word, Condition, empty, join, either, sta
 use Rattle.condition.specs.Places.{accepts}
 use Rattle.condition.proofs.Words.{words}
 use Rattle.sheet.proofs.Each.{each-head, each-tail}
-use Rattle.sheet.specs.Sheet.{event-step, call-step, Sheet}
+use Rattle.sheet.specs.Sheet.{event-step, callFrom, Sheet}
 use Rattle.runs.specs.Runs.{Move, return, by-step, run}
 use Rattle.runs.specs.Owing.{Owing}
 
@@ -36,7 +36,7 @@ opening = record {
       ∷ record { pre = 1; trace = 1; future = 4; body = some (record { entry = 3; exit = 4 }) }
       ∷ record { pre = 1; trace = 3; future = 4; body = none }
       ∷ [];
-  steps = call-step 0 1 1 ∷ event-step 1 2 0 ∷ call-step 3 4 2 ∷ call-step 0 1 2 ∷ [];
+  steps = callFrom 0 1 1 ∷ event-step 1 2 0 ∷ callFrom 3 4 2 ∷ callFrom 0 1 2 ∷ [];
   certificates = [];
 }
 

@@ -7,7 +7,7 @@ use mathlib.Core.Option.{none, some}
 use mathlib.Core.List.{List, [], _∷_, _++_, map}
 use Rattle.condition.specs.Condition.{Word, empty, join, star, event, any, _⊆_}
 use Rattle.sheet.specs.Each.{nil, cons}
-use Rattle.sheet.specs.Sheet.{Point, Method, event-step, call-step, pass-step, Sheet}
+use Rattle.sheet.specs.Sheet.{Point, Method, event-step, callFrom, pass-step, Sheet}
 use Rattle.runs.specs.Rules.{_isIn_, holdsEmpty, rules, AllMet}
 use Rattle.runs.specs.Runs.{Call, Returned, State, Move, return, by-step, run}
 
@@ -24,7 +24,7 @@ sheet = record {
   conditions = star (any 32) ∷ event 7 ∷ [];
   points = anywhere ∷ anywhere ∷ anywhere ∷ anywhere ∷ anywhere ∷ anywhere ∷ [];
   methods = with-body 0 3 ∷ with-body 4 5 ∷ record { pre = 0; trace = 1; future = 0; body = none } ∷ [];
-  steps = event-step 0 1 2 ∷ call-step 1 2 1 ∷ pass-step 2 3 ∷ call-step 4 5 2 ∷ event-step 3 3 5 ∷ [];
+  steps = event-step 0 1 2 ∷ callFrom 1 2 1 ∷ pass-step 2 3 ∷ callFrom 4 5 2 ∷ event-step 3 3 5 ∷ [];
   certificates = [];
 }
 
@@ -122,7 +122,7 @@ told = record {
       record { pre = 6; trace = 7; future = 8; body = some (record { entry = 0; exit = 1 }) }
       ∷ record { pre = 9; trace = 10; future = 11; body = none }
       ∷ [];
-  steps = event-step 0 1 31 ∷ call-step 0 1 1 ∷ pass-step 0 1 ∷ [];
+  steps = event-step 0 1 31 ∷ callFrom 0 1 1 ∷ pass-step 0 1 ∷ [];
   certificates = [];
 }
 

@@ -49,9 +49,9 @@ module _ (S : Sheet) where
   made-grows : (s t : State) → s .ended ≡ false → Makes S s t → EachGrowsAt s → EachGrowsAt t
   made-grows s t z (event-made {a = a} i found) g = raise-grows (a ∷ []) g
   made-grows s t z (pass-made i found) g = raise-grows [] g
-  made-grows s t z (primitive-made {m = m} i w found is h) g =
-      return-grows (newCall s i m) (grows-more w (grows-self (s .history))) (raise-grows w g)
-  made-grows s t z (open-made i found is) g =
+  made-grows s t z (primitive-made {t = x} i w found at is h) g =
+      return-grows (newCall s i x) (grows-more w (grows-self (s .history))) (raise-grows w g)
+  made-grows s t z (open-made i found at is) g =
       record { opened = cons (grows-self (s .history)) (g .opened); raised = g .raised; returned = g .returned }
   made-grows s t z (return-made {c = c} {cs = cs} opened is at) g =
       let k : EachGrows (s .history) (c ∷ cs) (s .returned-calls) = subst (λ x. EachGrows (s .history) x (s .returned-calls)) opened g in

@@ -6,17 +6,21 @@ use mathlib.Core.Option.{Option, none, some}
 use mathlib.Core.List.{List, [], _∷_, _++_}
 use Rattle.condition.specs.Condition.{Word, Holds}
 use Rattle.sheet.specs.Each.{Each}
-use Rattle.sheet.specs.Sheet.{Step, call-step, Sheet, past, own, due, pre, trace, future}
-use Rattle.runs.specs.Runs.{Call, Returned, State, fromOf, stepOf}
+use Rattle.sheet.specs.Sheet.{Step, Sheet, past, own, due}
+use Rattle.runs.specs.Runs.{Call, Returned, State, preOf, traceOf, futureOf, fromOf, stepOf, targetOr}
 use Rattle.runs.proofs.Adds.{Adds}
+use Rattle.runs.proofs.Rules.{ReturnRules}
 use Rattle.runs.specs.Owing.{IsCaller}
 
 module _ (S : Sheet) where
   -- The open calls -------------------------------------------------------------------------------------------------------
 
+  abbrev pub Begun : Call → Type 0
+  Begun c = Holds (preOf S c) (c .began)
+
   -- the call c stands at the point p after the history h: control is there, or at a call that c made from there
   pub record Stands (p : ℕ) (h : Word) (c : Call) : Type 0 where
-    pub in-pre : Holds (pre S (c .method)) (c .began)
+    pub in-pre : Begun c
     pub in-past : Holds (past S p) h
     pub in-own : Adds (c .began) h (Holds (own S p))
 
@@ -28,27 +32,35 @@ module _ (S : Sheet) where
   abbrev pub origin : Call → ℕ
   origin c = source (stepOf S (c .step))
 
-  -- Control is at p after h. The future of the outermost call holds the empty word. Each other call was made by a call step, and its caller
-  -- stands where that step starts, after the history at the call's beginning.
+  -- wherever a return from c leads, the step that made c has the rules of that return
+  abbrev pub ReturnsWell : Call → Option Step → Type 0
+  ReturnsWell c t = (here : ℕ) → ReturnRules S (source t) (targetOr here t) (traceOf S c) (futureOf S c)
+
+  -- Control is at p after h. The future of the outermost call holds the empty word. Each other call was made by a step with its rules, and its
+  -- caller stands where that step starts, after the history at the call's beginning.
   pub data Frames : ℕ → Word → List Call → Type 0 where
-    outermost : {p : ℕ} {h : Word} {c : Call} → Stands p h c → Holds (future S (c .method)) [] → Frames p h (c ∷ [])
-    inner : {p q : ℕ} {h : Word} {c : Call} {cs : List Call} → Stands p h c → stepOf S (c .step) ≡ some (call-step (origin c) q (c .method))
+    outermost : {p : ℕ} {h : Word} {c : Call} → Stands p h c → Holds (futureOf S c) [] → Frames p h (c ∷ [])
+    inner : {p : ℕ} {h : Word} {c : Call} {cs : List Call} → Stands p h c → ReturnsWell c (stepOf S (c .step))
         → Frames (origin c) (c .began) cs → Frames p h (c ∷ cs)
 
   -- The returned calls ---------------------------------------------------------------------------------------------------
 
   pub record Well (r : Returned) : Type 0 where
-    pub began : Holds (pre S (r .call .method)) (r .call .began)
-    pub raised : Adds (r .call .began) (r .at) (Holds (trace S (r .call .method)))
+    pub began : Begun (r .call)
+    pub raised : Adds (r .call .began) (r .at) (Holds (traceOf S (r .call)))
 
   -- what was raised since r's return, followed by any word of the due at p, is in r's future
   abbrev pub Due : Returned → ℕ → Word → Type 0
-  Due r p h = Adds (r .at) h (λ u. (v : Word) → Holds (due S p) v → Holds (future S (r .call .method)) (u ++ v))
+  Due r p h = Adds (r .at) h (λ u. (v : Word) → Holds (due S p) v → Holds (futureOf S (r .call)) (u ++ v))
 
   -- it is so where the active call stands, or where one below it stands; the calls above that one began after r's return, and are not r's callers
   pub data Owed (r : Returned) : ℕ → Word → List Call → Type 0 where
     here : {p : ℕ} {h : Word} {c : Call} {cs : List Call} → Due r p h → Owed r p h (c ∷ cs)
     below : {p : ℕ} {h : Word} {c : Call} {cs : List Call} → (IsCaller c (r .call) → ⊥) → Owed r (origin c) (c .began) cs → Owed r p h (c ∷ cs)
+
+  -- what was raised since r's return is in r's future
+  abbrev pub Ended : Word → Returned → Type 0
+  Ended h r = Adds (r .at) h (Holds (futureOf S (r .call)))
 
   -- The state ------------------------------------------------------------------------------------------------------------
 
@@ -59,7 +71,7 @@ module _ (S : Sheet) where
 
   pub record Over (h : Word) (cs : List Call) (rs : List Returned) : Type 0 where
     pub none-open : cs ≡ []
-    pub met : Each (λ r. Adds (r .at) h (Holds (future S (r .call .method)))) rs
+    pub met : Each (Ended h) rs
     pub well : Each Well rs
 
   pub data Good (s : State) : Type 0 where

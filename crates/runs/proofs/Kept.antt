@@ -8,16 +8,15 @@ use lib.ListN.{getElem?}
 use Rattle.condition.specs.Condition.{Word, Holds}
 use Rattle.sheet.specs.Each.{Each, nil, cons}
 use Rattle.sheet.proofs.Each.{each-map, each-zip}
-use Rattle.sheet.specs.Sheet.{Body, call-step, Sheet, past, trace, future, body}
-use Rattle.runs.specs.Runs.{Call, Returned, State, entryOf, start, Move, raise, newCall, openCall, returnedNow, stepOf, targetOr, noneOpen, close, run}
+use Rattle.sheet.specs.Sheet.{Body, CallStep, call-step, Sheet, past, body}
+use Rattle.runs.specs.Runs.{Call, Returned, State, preOf, traceOf, futureOf, entryOf, start, Move, raise, newCall, openCall, returnedNow, stepOf, targetOr, noneOpen, close, run}
 use Rattle.runs.specs.Owing.{IsCaller}
 use Rattle.sheet.specs.Names.{HasBody}
-use Rattle.runs.proofs.Rules.{BodyRules, CallRules, MethodRules, StepRules, SheetRules}
+use Rattle.runs.proofs.Rules.{ExitRules, BodyRules, Leads, ReturnRules, CallRules, MethodRules, StepRules, SheetRules}
 use Rattle.runs.proofs.Adds.{Adds, adds-more, adds-weaker, adds-nothing}
-use Rattle.runs.proofs.Leads.{Leads, event-leads, pass-leads, call-leads}
 use Rattle.runs.proofs.Moves.{Makes, event-made, pass-made, primitive-made, open-made, return-made, run-keeps}
 use Rattle.runs.proofs.Numbers.{NumbersAt, next-is-new, made-numbers, start-numbers}
-use Rattle.runs.proofs.Invariant.{Stands, source, origin, Frames, outermost, inner, Well, Due, Owed, here, below, Running, Good, running, over}
+use Rattle.runs.proofs.Invariant.{Begun, Stands, source, origin, ReturnsWell, Frames, outermost, inner, Well, Due, Ended, Owed, here, below, Running, Good, running, over}
 
 module _ (S : Sheet) where
   -- A word is raised: rules 7 to 9, 11, 12 and 14 to 17 -------------------------------------------------------------------
@@ -28,78 +27,81 @@ module _ (S : Sheet) where
 
     advance-frames : {h : Word} {cs : List Call} → Frames S p h cs → Frames S q (h ++ w) cs
     advance-frames (outermost x f) = outermost (advance-stands x) f
-    advance-frames (inner x m f) = inner (advance-stands x) m f
+    advance-frames (inner x k f) = inner (advance-stands x) k f
 
-    advance-owed : {h : Word} {cs : List Call} {r : Returned} → Owed S r p h cs → Owed S r q (h ++ w) cs
-    advance-owed (here d) = here (adds-more d w (λ u f v x. rw append-assoc (f (w ++ v) (l .due-back v x))))
-    advance-owed (below n o) = below n o
+    advance-owed : {h : Word} {cs : List Call} (r : Returned) → Owed S r p h cs → Owed S r q (h ++ w) cs
+    advance-owed r (here d) = here (adds-more d w (λ u f v x. rw append-assoc (f (w ++ v) (l .due-back v x))))
+    advance-owed r (below n o) = below n o
 
     advance : {h : Word} {cs : List Call} {rs : List Returned} → Running S p h cs rs → Running S q (h ++ w) cs rs
-    advance g = record { frames = advance-frames (g .frames); owed = each-map (λ r. advance-owed) (g .owed); well = g .well }
+    advance g = record { frames = advance-frames (g .frames); owed = each-map advance-owed (g .owed); well = g .well }
 
   -- A call begins: rules 3, 4 and 10, and 13 of a primitive, which returns at once -----------------------------------------
 
   frames-past : {p : ℕ} {h : Word} {cs : List Call} → Frames S p h cs → Holds (past S p) h
   frames-past (outermost x f) = x .in-past
-  frames-past (inner x m f) = x .in-past
+  frames-past (inner x k f) = x .in-past
 
   owed-here : {p : ℕ} {h : Word} {cs : List Call} (r : Returned) → Frames S p h cs → Due S r p h → Owed S r p h cs
   owed-here r (outermost x f) d = here d
-  owed-here r (inner x m f) d = here d
+  owed-here r (inner x k f) d = here d
 
-  module _ (s : State) (going : s .ended ≡ false) (g : Running S (s .point) (s .history) (s .open-calls) (s .returned-calls)) where
-    primitive-good : {q m : ℕ} (i : ℕ) (w : Word) → CallRules S (s .point) q m → Holds (trace S m) w
-        → Good S (returnedNow (newCall s i m) (raise w q s))
-    primitive-good {q} {m} i w k t =
-        let a : Running S q (s .history ++ w) (s .open-calls) (s .returned-calls) = advance (call-leads S k w t) g in
+  -- step i, which is t, makes a call; control is at its from
+  module _ (s : State) (going : s .ended ≡ false) (i : ℕ) {t : CallStep} (k : CallRules S t)
+      (g : Running S (t .from) (s .history) (s .open-calls) (s .returned-calls)) where
+    begun : Begun S (newCall s i t)
+    begun = k .rule-10 _ (frames-past (g .frames))
+
+    primitive-good : (w : Word) → Holds (traceOf S (newCall s i t)) w → Good S (returnedNow (newCall s i t) (raise w (t .to) s))
+    primitive-good w h =
+        let a : Running S (t .to) (s .history ++ w) (s .open-calls) (s .returned-calls) = advance (k .return .leads w h) g in
         running going
         record {
           frames = a .frames;
-          owed = cons (owed-here _ (a .frames) (adds-nothing (k .rule-13))) (a .owed);
-          well =
-              cons
-              (record { began = k .rule-10 _ (frames-past (g .frames)); raised = record { word = w; is = refl; inside = t } })
-              (g .well);
+          owed = cons (owed-here _ (a .frames) (adds-nothing (k .return .rule-13))) (a .owed);
+          well = cons (record { began = begun; raised = record { word = w; is = refl; inside = h } }) (g .well);
         }
 
-    open-good : {q m entry exit : ℕ} (i : ℕ) → getElem? (S .steps) i ≡ some (call-step (s .point) q m) → CallRules S (s .point) q m
-        → BodyRules S m entry exit → Each (λ r. IsCaller (newCall s i m) (r .call) → ⊥) (s .returned-calls)
-        → Good S (openCall (newCall s i m) entry s)
-    open-good {q} {m} i found k b new =
-        let begun = k .rule-10 _ (frames-past (g .frames)) in
+    open-good : {b : Body} → getElem? (S .steps) i ≡ some (call-step t)
+        → BodyRules S (preOf S (newCall s i t)) (traceOf S (newCall s i t)) (futureOf S (newCall s i t)) b
+        → Each (λ r. IsCaller (newCall s i t) (r .call) → ⊥) (s .returned-calls) → Good S (openCall (newCall s i t) (b .entry) s)
+    open-good found rules new =
         running going
         record {
           frames =
               inner
-              (record { in-pre = begun; in-past = b .rule-3 _ begun; in-own = adds-nothing (b .rule-4) })
-              (subst (λ t. t ≡ some (call-step (source S t) q m)) (sym found) refl)
-              (subst (λ t. Frames S (source S t) (s .history) (s .open-calls)) (sym found) (g .frames));
-          owed = each-zip (λ r o n. below n (subst (λ t. Owed S r (source S t) (s .history) (s .open-calls)) (sym found) o)) (g .owed) new;
+              (record { in-pre = begun; in-past = rules .rule-3 _ begun; in-own = adds-nothing (rules .rule-4) })
+              (subst (ReturnsWell S (newCall s i t)) (sym found) (λ here. k .return))
+              (from (λ p. Frames S p (s .history) (s .open-calls)) (g .frames));
+          owed = each-zip (λ r o n. below n (from (λ p. Owed S r p (s .history) (s .open-calls)) o)) (g .owed) new;
           well = g .well;
         }
+      where
+        from : (P : ℕ → Type 0) → P (t .from) → P (origin S (newCall s i t))
+        from P = subst P (sym (ap (source S) found))
 
   -- A call returns: rules 5, 6 and 13 -------------------------------------------------------------------------------------
 
-  module _ {p : ℕ} {h : Word} {c : Call} {entry : ℕ} (b : BodyRules S (c .method) entry p) (x : Stands S p h c) where
+  module _ {p : ℕ} {h : Word} (c : Call) (e : ExitRules S (traceOf S c) (futureOf S c) p) (x : Stands S p h c) where
     well-now : Well S (record { call = c; at = h })
-    well-now = record { began = x .in-pre; raised = adds-weaker (x .in-own) (b .rule-5) }
+    well-now = record { began = x .in-pre; raised = adds-weaker (x .in-own) (e .rule-5) }
 
     -- the outermost
-    met-at-end : (r : Returned) → Holds (future S (c .method)) [] → Owed S r p h (c ∷ []) → Adds (r .at) h (Holds (future S (r .call .method)))
-    met-at-end r f (here d) = adds-weaker d (λ u k. rw append-nil at (k [] (b .rule-6 [] f)))
+    met-at-end : (r : Returned) → Holds (futureOf S c) [] → Owed S r p h (c ∷ []) → Ended S h r
+    met-at-end r f (here d) = adds-weaker d (λ u k. rw append-nil at (k [] (e .rule-6 [] f)))
     met-at-end r f (below n o) = absurd (elim o [ ])
 
     -- another, to the target q of its step
-    module _ {q : ℕ} {cs : List Call} (k : CallRules S (origin S c) q (c .method)) (f : Frames S (origin S c) (c .began) cs) where
+    module _ {q : ℕ} {cs : List Call} (k : ReturnRules S (origin S c) q (traceOf S c) (futureOf S c)) (f : Frames S (origin S c) (c .began) cs) where
       back-leads : Leads S (origin S c) (x .in-own .word) q
-      back-leads = call-leads S k (x .in-own .word) (b .rule-5 _ (x .in-own .inside))
+      back-leads = k .leads (x .in-own .word) (e .rule-5 _ (x .in-own .inside))
 
       back-frames : Frames S q h cs
       back-frames = subst (λ y. Frames S q y cs) (sym (x .in-own .is)) (advance-frames back-leads f)
 
       back-owed : (r : Returned) → Owed S r p h (c ∷ cs) → Owed S r q h cs
-      back-owed r (here d) = owed-here r back-frames (adds-weaker d (λ u f v y. f v (b .rule-6 v (k .rule-13 v y))))
-      back-owed r (below n o) = subst (λ y. Owed S r q y cs) (sym (x .in-own .is)) (advance-owed back-leads o)
+      back-owed r (here d) = owed-here r back-frames (adds-weaker d (λ u f v y. f v (e .rule-6 v (k .rule-13 v y))))
+      back-owed r (below n o) = subst (λ y. Owed S r q y cs) (sym (x .in-own .is)) (advance-owed back-leads r o)
 
       back : {rs : List Returned} → Running S p h (c ∷ cs) rs → Running S q h cs (record { call = c; at = h } ∷ rs)
       back g =
@@ -111,39 +113,41 @@ module _ (S : Sheet) where
 
   some-open : {p : ℕ} {h : Word} {cs : List Call} → Frames S p h cs → noneOpen cs ≡ false
   some-open (outermost x f) = refl
-  some-open (inner x m f) = refl
+  some-open (inner x k f) = refl
+
+  return-good : (s : State) {c : Call} {cs : List Call} → ExitRules S (traceOf S c) (futureOf S c) (s .point)
+      → Frames S (s .point) (s .history) (c ∷ cs) → Running S (s .point) (s .history) (c ∷ cs) (s .returned-calls)
+      → Good S (close s c cs (targetOr (s .point) (stepOf S (c .step))))
+  return-good s {c} e (outermost x f) g =
+      over refl
+      record {
+        none-open = refl;
+        met = cons (adds-nothing f) (each-map (λ r. met-at-end c e x r f) (g .owed));
+        well = cons (well-now c e x) (g .well);
+      }
+  return-good s {c} e (inner x k f) g = running (some-open f) (back c e x (k (s .point)) f g)
 
   -- Every move -----------------------------------------------------------------------------------------------------------
 
-  module _ {m₀ : ℕ} (R : SheetRules S m₀) where
-    rules-of : (i : Option ℕ) → StepRules S (stepOf S i)
-    rules-of none = tt
-    rules-of (some i) = R .steps i
+  stands-at : (s : State) {p : ℕ} → s .point ≡ p → Running S (s .point) (s .history) (s .open-calls) (s .returned-calls)
+      → Running S p (s .history) (s .open-calls) (s .returned-calls)
+  stands-at s at = subst (λ p. Running S p (s .history) (s .open-calls) (s .returned-calls)) at
 
-    return-good : (s : State) {c : Call} {cs : List Call} {entry : ℕ} → BodyRules S (c .method) entry (s .point)
-        → Frames S (s .point) (s .history) (c ∷ cs) → Running S (s .point) (s .history) (c ∷ cs) (s .returned-calls) → Good S (close S s c cs)
-    return-good s b (outermost x f) g =
-        over refl
-        record {
-          none-open = refl;
-          met = cons (adds-nothing f) (each-map (λ r. met-at-end b x r f) (g .owed));
-          well = cons (well-now b x) (g .well);
-        }
-    return-good s {c} {cs} b (inner x m f) g =
-        running (some-open f)
-        (subst (λ y. Running S y (s .history) cs (record { call = c; at = s .history } ∷ s .returned-calls)) (sym (ap (targetOr (s .point)) m))
-        (back b x (subst (StepRules S) m (rules-of (c .step))) f g))
+  module _ {m₀ : ℕ} (R : SheetRules S m₀) where
+    rules-of : (c : Call) {b : Body} → body S (c .method) ≡ some b → BodyRules S (preOf S c) (traceOf S c) (futureOf S c) b
+    rules-of c is = subst (MethodRules S (c .method)) is (R .methods (c .method))
 
     made-good : (s t : State) → s .ended ≡ false → Makes S s t → NumbersAt s → Good S s → Good S t
     made-good s t z made n (over e g) = absurd (false≢true (sym z ∙ e))
-    made-good s t z (event-made i found) n (running e g) = running z (advance (event-leads S (subst (StepRules S) found (R .steps i))) g)
-    made-good s t z (pass-made i found) n (running e g) = running z (advance (pass-leads S (subst (StepRules S) found (R .steps i))) g)
-    made-good s t z (primitive-made i w found is h) n (running e g) = primitive-good s z g i w (subst (StepRules S) found (R .steps i)) h
-    made-good s t z (open-made {m = m} i found is) n (running e g) =
-        open-good s z g i found (subst (StepRules S) found (R .steps i)) (subst (MethodRules S m) is (R .methods m)) (next-is-new s i m n)
-    made-good s t z (return-made {c = c} {b = b} opened is at) n (running e g) =
+    made-good s t z (event-made i found) n (running e g) = running z (advance (subst (StepRules S) found (R .steps i)) g)
+    made-good s t z (pass-made i found) n (running e g) = running z (advance (subst (StepRules S) found (R .steps i)) g)
+    made-good s t z (primitive-made i w found at is h) n (running e g) =
+        primitive-good s z i (subst (StepRules S) found (R .steps i)) (stands-at s at g) w h
+    made-good s t z (open-made {t = x} i found at is) n (running e g) =
+        open-good s z i (subst (StepRules S) found (R .steps i)) (stands-at s at g) found (rules-of (newCall s i x) is) (next-is-new s i x n)
+    made-good s t z (return-made {c = c} opened is at) n (running e g) =
         let k = subst (λ cs. Running S (s .point) (s .history) cs (s .returned-calls)) opened g in
-        return-good s {entry = b .entry} (rw at (subst (MethodRules S (c .method)) is (R .methods (c .method)))) (k .frames) k
+        return-good s (subst (ExitRules S (traceOf S c) (futureOf S c)) (sym at) (rules-of c is .exit)) (k .frames) k
 
     start-good : HasBody (body S m₀) → Good S (start S m₀)
     unfolding start

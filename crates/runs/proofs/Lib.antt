@@ -9,7 +9,6 @@ pub mod Grow
 pub mod Numbers
 pub mod Apart
 pub mod WhenOpen
-pub mod Leads
 pub mod Invariant
 pub mod Kept
 pub mod Safe

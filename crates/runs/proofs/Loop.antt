@@ -14,12 +14,12 @@ use Rattle.bits.proofs.Tests.{T-true}
 use Rattle.condition.specs.Condition.{Word, Condition, empty, join, either, star, any, event, Holds}
 use Rattle.condition.specs.Places.{accepts}
 use Rattle.certificate.specs.Certificate.{Certificate}
-use Rattle.sheet.specs.Sheet.{Point, Step, event-step, call-step, pass-step, Sheet, trace, future, body}
+use Rattle.sheet.specs.Sheet.{Point, CallStep, event-step, call-step, pass-step, Sheet, body}
 use Rattle.sheet.proofs.Each.{each-member}
 use Rattle.sheet.specs.Names.{HasBody}
-use Rattle.runs.specs.Rules.{rules, rulesFrom, AllMet}
-use Rattle.runs.specs.Runs.{Returned, State, since, Move, return, by-step, raise, newCall, returnedNow, makeCall, makeStep, fromOf, tryStep, tryMove, move, runOn, run}
-use Rattle.runs.proofs.Moves.{Makes, event-made, pass-made, primitive-made, open-made, return-made, run-on-keeps}
+use Rattle.runs.specs.Rules.{rulesFrom, AllMet}
+use Rattle.runs.specs.Runs.{Returned, State, traceOf, futureOf, since, Move, return, by-step, raise, newCall, returnedNow, move, runOn, run}
+use Rattle.runs.proofs.Moves.{Makes, event-made, pass-made, primitive-made, open-made, return-made, run-on-append, run-append, run-on-keeps, step-made, by-trace}
 use Rattle.runs.proofs.Safe.{runs-are-safe}
 
 -- What stays ------------------------------------------------------------------------------------------------------------
@@ -42,57 +42,32 @@ module _ (S : Sheet) (r : Returned) (h : Word) where
   later-kept : (s t : State) → s .ended ≡ false → Makes S s t → Later r h s → Later r h t
   later-kept s t z (event-made {q = q} {a = a} i found) l = raised-later s (a ∷ []) q l
   later-kept s t z (pass-made {q = q} i found) l = raised-later s [] q l
-  later-kept s t z (primitive-made {q = q} i w found is held) l =
-      let k = raised-later s w q l in
+  later-kept s t z (primitive-made {t = x} i w found at is held) l =
+      let k = raised-later s w (x .to) l in
       record { returned = List·Memᴰ·tail (k .returned); added = k .added; goes-on = k .goes-on }
-  later-kept s t z (open-made i found is) l = record { returned = l .returned; added = l .added; goes-on = l .goes-on }
+  later-kept s t z (open-made i found at is) l = record { returned = l .returned; added = l .added; goes-on = l .goes-on }
   later-kept s t z (return-made opened is at) l =
       record { returned = List·Memᴰ·tail (l .returned); added = l .added; goes-on = l .goes-on }
 
   later : (s : State) (ms : List Move) → Later r h s → Later r h (runOn S s ms)
   later s ms l = run-on-keeps S (Later r h) later-kept s ms l
 
--- Two moves -------------------------------------------------------------------------------------------------------------
-
-module _ (S : Sheet) where
-  on-append : (s : State) (xs ys : List Move) → runOn S s (xs ++ ys) ≡ runOn S (runOn S s xs) ys
-  unfolding runOn
-  on-append s [] ys = refl
-  on-append s (x ∷ xs) ys = on-append (move S s x) xs ys
-
-  run-append : (m : ℕ) (xs ys : List Move) → run S m (xs ++ ys) ≡ runOn S (run S m xs) ys
-  unfolding run
-  run-append m xs ys = on-append _ xs ys
-
-  on-next : (s : State) (x : Move) (xs : List Move) → runOn S s (x ∷ xs) ≡ runOn S (move S s x) xs
-  unfolding runOn
-  on-next s x xs = refl
-
-  -- a step that starts where control is can be made
-  step-made : (s : State) (i : ℕ) (w : Word) (t : Step) → s .ended ≡ false → getElem? (S .steps) i ≡ some t → s .point ≡ fromOf t
-      → move S s (by-step i w) ≡ makeStep S s i w t
-  unfolding move
-  step-made s i w t going found at =
-      ap (λ b. cond b s (tryMove S s (by-step i w))) going
-      ∙ (ap (λ o. tryStep S s i w o) found
-      ∙ ap (λ b. cond b (makeStep S s i w t) s) (subst (λ x. eqb (s .point) x ≡ true) at (T-true _ (eqb-refl (s .point)))))
-
 -- Going round twice -----------------------------------------------------------------------------------------------------
 
--- A run that ends, in which a call of the primitive `close` is followed, without an event between them, by an event step that raises 0: "called
--- last in a loop whose body starts with event 0".
-pub record TwiceRound (S : Sheet) (m close : ℕ) : Type 0 where
+-- A run that ends, in which the call of a primitive by the step `close` is followed, without an event between them, by an event step that raises 0:
+-- "called last in a loop whose body starts with event 0".
+pub record TwiceRound (S : Sheet) (m : ℕ) (close : CallStep) : Type 0 where
   pub before : List Move
   pub between : List Move
   pub after : List Move
   -- the last step of the first round
   pub last : ℕ
   pub word : Word
-  pub last-to : ℕ
   pub running : run S m before .ended ≡ false
-  pub last-is : getElem? (S .steps) last ≡ some (call-step (run S m before .point) last-to close)
-  pub primitive : body S close ≡ none
-  pub in-trace : accepts (trace S close) word ≡ true
+  pub last-is : getElem? (S .steps) last ≡ some (call-step close)
+  pub last-from : run S m before .point ≡ close .from
+  pub primitive : body S (close .method) ≡ none
+  pub in-trace : accepts (traceOf S (newCall (run S m before) last close)) word ≡ true
   -- the way back, which raises nothing
   pub quiet : runOn S (move S (run S m before) (by-step last word)) between .history ≡ run S m before .history ++ word
   -- the first step of the second round
@@ -103,7 +78,7 @@ pub record TwiceRound (S : Sheet) (m close : ℕ) : Type 0 where
   -- the run ends
   pub ends : run S m (before ++ (by-step last word ∷ (between ++ (by-step first [] ∷ after)))) .ended ≡ true
 
-module _ (S : Sheet) (m close : ℕ) (t : TwiceRound S m close) where
+module _ (S : Sheet) (m : ℕ) (close : CallStep) (t : TwiceRound S m close) where
   abbrev s₁ : State
   s₁ = run S m (t .before)
 
@@ -123,21 +98,22 @@ module _ (S : Sheet) (m close : ℕ) (t : TwiceRound S m close) where
   abbrev closed : Returned
   closed = record { call = newCall s₁ (t .last) close; at = s₁ .history ++ t .word }
 
-  closes : s₂ ≡ returnedNow (newCall s₁ (t .last) close) (raise (t .word) (t .last-to) s₁)
-  closes =
-      step-made S s₁ (t .last) (t .word) (call-step (s₁ .point) (t .last-to) close) (t .running) (t .last-is) refl
-      ∙ (ap (λ d. makeCall s₁ (newCall s₁ (t .last) close) (t .word) (t .last-to) (trace S close) d) (t .primitive)
-      ∙ ap (λ b. cond b (returnedNow (newCall s₁ (t .last) close) (raise (t .word) (t .last-to) s₁)) s₁) (t .in-trace))
+  closes : s₂ ≡ returnedNow (newCall s₁ (t .last) close) (raise (t .word) (close .to) s₁)
+  closes = by-trace S s₁ (t .last) (t .word) (t .running) close (t .last-is) (t .last-from) (t .primitive) true (t .in-trace)
 
   opens : s₄ ≡ raise (0 ∷ []) (t .first-to) s₃
-  opens = step-made S s₃ (t .first) [] (event-step (s₃ .point) (t .first-to) 0) (t .still-running) (t .first-is) refl
+  opens = step-made S s₃ (t .first) [] (t .still-running) (event-step (s₃ .point) (t .first-to) 0) (t .first-is) refl
+
+  on-next : (s : State) (x : Move) (xs : List Move) → runOn S s (x ∷ xs) ≡ runOn S (move S s x) xs
+  unfolding runOn
+  on-next s x xs = refl
 
   whole-run : run S m all-moves ≡ runOn S s₄ (t .after)
   whole-run =
       run-append S m (t .before) _
-      ∙ (on-next S s₁ _ _
-      ∙ (on-append S s₂ (t .between) _
-      ∙ on-next S s₃ _ _))
+      ∙ (on-next s₁ _ _
+      ∙ (run-on-append S s₂ (t .between) _
+      ∙ on-next s₃ _ _))
 
   -- at the end, the history goes on from the close by event 0
   closed-then-0 : Later closed (closed .at ++ (0 ∷ [])) (run S m all-moves)
@@ -160,12 +136,12 @@ module _ (S : Sheet) (m close : ℕ) (t : TwiceRound S m close) where
       ∙ drop-append-seam (closed .at) (0 ∷ closed-then-0 .added)
 
   -- where no word of close's future starts with 0, the rules are not all true
-  pub not-all-met : HasBody (body S m) → ((v : Word) → Holds (future S close) (0 ∷ v) → ⊥) → AllMet (rulesFrom m S) → ⊥
+  pub not-all-met : HasBody (body S m) → ((v : Word) → Holds (futureOf S (closed .call)) (0 ∷ v) → ⊥) → AllMet (rulesFrom (m ∷ []) S) → ⊥
   not-all-met b no-0 h =
-      let ended = runs-are-safe S m b h all-moves .ended-well (t .ends) in
+      let ended = runs-are-safe S (m ∷ []) h m (List·Memᴰ·head refl) b all-moves .ended-well (t .ends) in
       no-0 (closed-then-0 .added)
-      (subst (Holds (future S close)) since-close
-      (each-member (λ r. Holds (future S (r .call .method)) (since (r .at) (run S m all-moves .history))) ended (closed-then-0 .returned)))
+      (subst (Holds (futureOf S (closed .call))) since-close
+      (each-member (λ r. Holds (futureOf S (r .call)) (since (r .at) (run S m all-moves .history))) ended (closed-then-0 .returned)))
 
 -- The future of document 01: "With 0 open, 1 close, 2 advance" --------------------------------------------------------------
 
@@ -188,6 +164,10 @@ no-0 v (inr h) =
 -- An example: point 0 is the start of the loop, event 0 leads to 1, "close" to 2, and from there a pass back to 0 or on to 3, the exit.
 -- Condition 0 is close's trace and 1 its future; all else is free.
 module _ (conditions : List Condition) (points : List Point) (pre trace future close-pre : ℕ) (certificates : List Certificate) where
+  -- the call of "close"
+  abbrev closing : CallStep
+  closing = record { from = 1; to = 2; method = 1 }
+
   abbrev loop : Sheet
   loop = record {
     conditions = event 1 ∷ advanceNext ∷ conditions;
@@ -196,11 +176,11 @@ module _ (conditions : List Condition) (points : List Point) (pre trace future c
         record { pre = pre; trace = trace; future = future; body = some (record { entry = 0; exit = 3 }) }
         ∷ record { pre = close-pre; trace = 0; future = 1; body = none }
         ∷ [];
-    steps = event-step 0 1 0 ∷ call-step 1 2 1 ∷ pass-step 2 0 ∷ pass-step 2 3 ∷ [];
+    steps = event-step 0 1 0 ∷ call-step closing ∷ pass-step 2 0 ∷ pass-step 2 3 ∷ [];
     certificates = certificates;
   }
 
-  twice-round : TwiceRound loop 0 1
+  twice-round : TwiceRound loop 0 closing
   unfolding run
   twice-round = record {
     before = by-step 0 [] ∷ [];
@@ -208,9 +188,9 @@ module _ (conditions : List Condition) (points : List Point) (pre trace future c
     after = by-step 1 (1 ∷ []) ∷ by-step 3 [] ∷ return ∷ [];
     last = 1;
     word = 1 ∷ [];
-    last-to = 2;
     running = refl;
     last-is = refl;
+    last-from = refl;
     primitive = refl;
     in-trace = refl;
     quiet = refl;
@@ -222,5 +202,5 @@ module _ (conditions : List Condition) (points : List Point) (pre trace future c
   }
 
   -- "no point conditions or certificates get the sheet accepted"
-  loop-not-met : AllMet (rulesFrom 0 loop) → ⊥
-  loop-not-met = not-all-met loop 0 1 twice-round tt no-0
+  loop-not-met : AllMet (rulesFrom (0 ∷ []) loop) → ⊥
+  loop-not-met = not-all-met loop 0 closing twice-round tt no-0

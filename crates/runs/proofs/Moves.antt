@@ -10,8 +10,8 @@ use Rattle.bits.proofs.Tests.{T-true, T-false}
 use Rattle.condition.specs.Condition.{Word, Condition, Holds}
 use Rattle.condition.specs.Places.{accepts}
 use Rattle.condition.proofs.Words.{words}
-use Rattle.sheet.specs.Sheet.{Body, Step, event-step, call-step, pass-step, Sheet, trace, body}
-use Rattle.runs.specs.Runs.{Call, State, start, Move, return, by-step, raise, newCall, openCall, returnedNow, makeCall, makeStep, fromOf, tryStep, close, exitsAt, tryReturn, tryMove, move, MadeByTrace, runOn, run}
+use Rattle.sheet.specs.Sheet.{Body, CallStep, Step, event-step, call-step, pass-step, Sheet, body}
+use Rattle.runs.specs.Runs.{Call, State, traceOf, start, Move, return, by-step, raise, newCall, openCall, returnedNow, makeCall, makeStep, fromOf, tryStep, stepOf, targetOr, close, exitsAt, tryReturn, tryMove, move, MadeByTrace, runOn, run}
 
 -- what holds of both sides holds of the choice
 by-test : {A : Type 0} (P : A → Type 0) (b : Bool) {x y : A} → (b ≡ true → P x) → (b ≡ false → P y) → P (cond b x y)
@@ -29,23 +29,24 @@ module _ (S : Sheet) where
   pub data Makes (s : State) : State → Type 0 where
     event-made : {q a : ℕ} (i : ℕ) → getElem? (S .steps) i ≡ some (event-step (s .point) q a) → Makes s (raise (a ∷ []) q s)
     pass-made : {q : ℕ} (i : ℕ) → getElem? (S .steps) i ≡ some (pass-step (s .point) q) → Makes s (raise [] q s)
-    primitive-made : {q m : ℕ} (i : ℕ) (w : Word) → getElem? (S .steps) i ≡ some (call-step (s .point) q m) → body S m ≡ none
-        → Holds (trace S m) w → Makes s (returnedNow (newCall s i m) (raise w q s))
-    open-made : {q m : ℕ} {b : Body} (i : ℕ) → getElem? (S .steps) i ≡ some (call-step (s .point) q m) → body S m ≡ some b
-        → Makes s (openCall (newCall s i m) (b .entry) s)
+    primitive-made : {t : CallStep} (i : ℕ) (w : Word) → getElem? (S .steps) i ≡ some (call-step t) → s .point ≡ t .from
+        → body S (t .method) ≡ none → Holds (traceOf S (newCall s i t)) w → Makes s (returnedNow (newCall s i t) (raise w (t .to) s))
+    open-made : {t : CallStep} {b : Body} (i : ℕ) → getElem? (S .steps) i ≡ some (call-step t) → s .point ≡ t .from
+        → body S (t .method) ≡ some b → Makes s (openCall (newCall s i t) (b .entry) s)
     return-made : {c : Call} {cs : List Call} {b : Body} → s .open-calls ≡ c ∷ cs → body S (c .method) ≡ some b → s .point ≡ b .exit
-        → Makes s (close S s c cs)
+        → Makes s (close s c cs (targetOr (s .point) (stepOf S (c .step))))
 
   -- what holds of s, and of what each move that can be made from s leads to, holds after trying any move
   module _ (P : State → Type 0) (s : State) (same : P s) (made : (t : State) → Makes s t → P t) where
-    call-case : {q m : ℕ} (i : ℕ) (w : Word) → getElem? (S .steps) i ≡ some (call-step (s .point) q m) → (d : Option Body) → body S m ≡ d
-        → P (makeCall s (newCall s i m) w q (trace S m) d)
-    call-case {m} i w found none is = by-test P _ (λ e. made _ (primitive-made i w found is (held (trace S m) w e))) (λ e. same)
-    call-case i w found (some b) is = made _ (open-made i found is)
+    call-case : {t : CallStep} (i : ℕ) (w : Word) → getElem? (S .steps) i ≡ some (call-step t) → s .point ≡ t .from → (d : Option Body)
+        → body S (t .method) ≡ d → P (makeCall S s (newCall s i t) w (t .to) d)
+    call-case {t} i w found at none is =
+        by-test P _ (λ e. made _ (primitive-made i w found at is (held (traceOf S (newCall s i t)) w e))) (λ e. same)
+    call-case i w found at (some b) is = made _ (open-made i found at is)
 
     step-case : (i : ℕ) (w : Word) (t : Step) → getElem? (S .steps) i ≡ some t → s .point ≡ fromOf t → P (makeStep S s i w t)
     step-case i w (event-step p q a) found at = made _ (event-made i (rw at found))
-    step-case i w (call-step p q m) found at = call-case i w (rw at found) (body S m) refl
+    step-case i w (call-step t) found at = call-case i w found at (body S (t .method)) refl
     step-case i w (pass-step p q) found at = made _ (pass-made i (rw at found))
 
     try-step-case : (i : ℕ) (w : Word) (t : Option Step) → getElem? (S .steps) i ≡ t → P (tryStep S s i w t)
@@ -53,7 +54,7 @@ module _ (S : Sheet) where
     try-step-case i w (some t) found = by-test P _ (λ e. step-case i w t found (same-number _ _ e)) (λ e. same)
 
     exit-case : {c : Call} {cs : List Call} → s .open-calls ≡ c ∷ cs → (d : Option Body) → body S (c .method) ≡ d
-        → P (cond (exitsAt d (s .point)) (close S s c cs) s)
+        → P (cond (exitsAt d (s .point)) (close s c cs (targetOr (s .point) (stepOf S (c .step)))) s)
     exit-case e none is = same
     exit-case e (some b) is = by-test P _ (λ x. made _ (return-made e is (same-number _ _ x))) (λ x. same)
 
@@ -74,7 +75,7 @@ module _ (S : Sheet) where
   unfolding run
   run-is m ms = refl
 
-  run-on-append : (s : State) (xs ys : List Move) → runOn S s (xs ++ ys) ≡ runOn S (runOn S s xs) ys
+  pub run-on-append : (s : State) (xs ys : List Move) → runOn S s (xs ++ ys) ≡ runOn S (runOn S s xs) ys
   unfolding runOn
   run-on-append s [] ys = refl
   run-on-append s (x ∷ xs) ys = run-on-append (move S s x) xs ys
@@ -93,22 +94,28 @@ module _ (S : Sheet) where
     pub run-keeps : (m : ℕ) → P (start S m) → (ms : List Move) → P (run S m ms)
     run-keeps m h ms = subst P (run-is m ms) (run-on-keeps (start S m) ms h)
 
--- A primitive's step is made with exactly the words of its trace -----------------------------------------------------------
+-- A step that starts where control is, and a primitive's step, which is made with exactly the words of its trace -----------------
 
-module _ (S : Sheet) (t : State) (i q m : ℕ) (w : Word) (going : t .ended ≡ false) (found : getElem? (S .steps) i ≡ some (call-step (t .point) q m))
-    (primitive : body S m ≡ none) where
-  by-trace : (b : Bool) → accepts (trace S m) w ≡ b → move S t (by-step i w) ≡ cond b (returnedNow (newCall t i m) (raise w q t)) t
+module _ (S : Sheet) (s : State) (i : ℕ) (w : Word) (going : s .ended ≡ false) where
+  pub step-made : (t : Step) → getElem? (S .steps) i ≡ some t → s .point ≡ fromOf t → move S s (by-step i w) ≡ makeStep S s i w t
   unfolding move
-  by-trace b e =
-      ap (λ (x : Bool). cond x t (tryMove S t (by-step i w))) going
-      ∙ (ap (tryStep S t i w) found
-      ∙ (ap (λ (x : Bool). cond x (makeStep S t i w (call-step (t .point) q m)) t) (T-true (eqb (t .point) (t .point)) (eqb-refl (t .point)))
-      ∙ (ap (makeCall t (newCall t i m) w q (trace S m)) primitive
-      ∙ ap (λ (x : Bool). cond x (returnedNow (newCall t i m) (raise w q t)) t) e)))
+  step-made t found at =
+      ap (λ (b : Bool). cond b s (tryMove S s (by-step i w))) going
+      ∙ (ap (tryStep S s i w) found
+      ∙ ap (λ (b : Bool). cond b (makeStep S s i w t) s) (subst (λ x. eqb (s .point) x ≡ true) at (T-true _ (eqb-refl (s .point)))))
 
-  pub made-by-trace : MadeByTrace S t i q m w
-  made-by-trace =
-      record {
-        made = λ h. by-trace true (T-true (accepts (trace S m) w) (words (trace S m) w .1 h));
-        not-made = λ n. by-trace false (T-false (accepts (trace S m) w) (λ a. n (words (trace S m) w .0 a)));
-      }
+  module _ (t : CallStep) (found : getElem? (S .steps) i ≡ some (call-step t)) (at : s .point ≡ t .from) (primitive : body S (t .method) ≡ none) where
+    pub by-trace : (b : Bool) → accepts (traceOf S (newCall s i t)) w ≡ b
+        → move S s (by-step i w) ≡ cond b (returnedNow (newCall s i t) (raise w (t .to) s)) s
+    by-trace b e =
+        step-made (call-step t) found at
+        ∙ (ap (makeCall S s (newCall s i t) w (t .to)) primitive
+        ∙ ap (λ (x : Bool). cond x (returnedNow (newCall s i t) (raise w (t .to) s)) s) e)
+
+    pub made-by-trace : MadeByTrace S s i t w
+    made-by-trace =
+        let T = traceOf S (newCall s i t) in
+        record {
+          made = λ h. by-trace true (T-true (accepts T w) (words T w .1 h));
+          not-made = λ n. by-trace false (T-false (accepts T w) (λ a. n (words T w .0 a)));
+        }

@@ -7,7 +7,7 @@ use mathlib.Core.List.{List, _∷_, List·Memᴰ, List·Memᴰ·cases-cons, List
 use lib.ListN.{length}
 use Rattle.sheet.specs.Each.{Each, nil, cons}
 use Rattle.sheet.proofs.Each.{each-map, each-head, each-tail, each-append, each-mapped}
-use Rattle.sheet.specs.Sheet.{Sheet}
+use Rattle.sheet.specs.Sheet.{CallStep, Sheet}
 use Rattle.runs.specs.Runs.{Call, Returned, State, calls, start, callersNow, newCall}
 use Rattle.runs.specs.Owing.{callNumber, IsCaller}
 use Rattle.runs.proofs.Moves.{Makes, event-made, pass-made, primitive-made, open-made, return-made}
@@ -39,8 +39,8 @@ numbers-below s g = each-map (λ c x. x .self) (each-append (g .opened) (each-ma
     n = length (s .open-calls) + length (s .returned-calls)
 
 -- the next call is not a caller of one that has returned
-pub next-is-new : (s : State) (i m : ℕ) → NumbersAt s → Each (λ r. IsCaller (newCall s i m) (r .call) → ⊥) (s .returned-calls)
-next-is-new s i m g = each-map (λ r x. not-below (x .callers)) (g .returned)
+pub next-is-new : (s : State) (i : ℕ) (t : CallStep) → NumbersAt s → Each (λ r. IsCaller (newCall s i t) (r .call) → ⊥) (s .returned-calls)
+next-is-new s i t g = each-map (λ r x. not-below (x .callers)) (g .returned)
 
 -- the callers of the next call
 callers-below : {n : ℕ} {cs : List Call} → Each (Numbered n) cs → Each (λ k. k < n) (callersNow cs)
@@ -48,22 +48,22 @@ callers-below nil = nil
 callers-below (cons x t) = cons (x .self) (x .callers)
 
 module _ (S : Sheet) where
-  new-numbered : {n : ℕ} (s : State) (i m : ℕ) → NumbersAt s → length (s .open-calls) + length (s .returned-calls) < n
-      → Numbered n (newCall s i m)
-  new-numbered s i m g b = record { self = b; callers = each-map (λ k x. omega arith) (callers-below (g .opened)) }
+  new-numbered : {n : ℕ} (s : State) (i : ℕ) (t : CallStep) → NumbersAt s → length (s .open-calls) + length (s .returned-calls) < n
+      → Numbered n (newCall s i t)
+  new-numbered s i t g b = record { self = b; callers = each-map (λ k x. omega arith) (callers-below (g .opened)) }
 
   pub made-numbers : (s t : State) → Makes S s t → NumbersAt s → NumbersAt t
   made-numbers s t (event-made i found) g = g
   made-numbers s t (pass-made i found) g = g
-  made-numbers s t (primitive-made {m = m} i w found is h) g =
+  made-numbers s t (primitive-made {t = x} i w found at is h) g =
       record {
         opened = each-map (more-calls (omega arith)) (g .opened);
-        returned = cons (new-numbered s i m g (omega arith)) (each-map (λ x. more-calls (omega arith) (x .call)) (g .returned));
+        returned = cons (new-numbered s i x g (omega arith)) (each-map (λ r. more-calls (omega arith) (r .call)) (g .returned));
       }
-  made-numbers s t (open-made {m = m} i found is) g =
+  made-numbers s t (open-made {t = x} i found at is) g =
       record {
-        opened = cons (new-numbered s i m g (omega arith)) (each-map (more-calls (omega arith)) (g .opened));
-        returned = each-map (λ x. more-calls (omega arith) (x .call)) (g .returned);
+        opened = cons (new-numbered s i x g (omega arith)) (each-map (more-calls (omega arith)) (g .opened));
+        returned = each-map (λ r. more-calls (omega arith) (r .call)) (g .returned);
       }
   made-numbers s t (return-made {c = c} {cs = cs} opened is at) g =
       let k : Numbers (c ∷ cs) (s .returned-calls) = subst (λ x. Numbers x (s .returned-calls)) opened g in
@@ -71,7 +71,7 @@ module _ (S : Sheet) where
         opened = each-map (more-calls (omega arith)) (each-tail (k .opened));
         returned =
             cons (more-calls (omega arith) c (each-head (k .opened)))
-            (each-map (λ x. more-calls (omega arith) (x .call)) (k .returned));
+            (each-map (λ r. more-calls (omega arith) (r .call)) (k .returned));
       }
 
   pub start-numbers : (m : ℕ) → NumbersAt (start S m)

@@ -1,7 +1,7 @@
 -- While a caller of a returned call has control, what followed the return and any word of the present due make a word of its future.
 use mathlib.Core.Path.{subst}
 use Prim.Native.Nat.{ℕ}
-use mathlib.Core.List.{List}
+use mathlib.Core.List.{List, List·Memᴰ}
 use Rattle.condition.specs.Condition.{Word}
 use Rattle.sheet.proofs.Each.{each-map, each-all}
 use Rattle.sheet.specs.Sheet.{Sheet, body}
@@ -23,6 +23,7 @@ module _ (S : Sheet) where
   good-is-owing (running e g) = each-map (λ r o i. adds-since (owed-due r o i)) (g .owed)
   good-is-owing (over e g) = each-all (λ r i. absurd (subst (λ cs. InCaller cs (r .call)) (g .none-open) i))
 
--- request 12, of every list of moves
-pub runs-owe : (S : Sheet) (m : ℕ) → HasBody (body S m) → AllMet (rulesFrom m S) → (ms : List Move) → Owing S (run S m ms)
-runs-owe S m b h ms = good-is-owing S (runs-are-good S (by-number S m h) b ms)
+-- request 12, of every list of moves from any of the starts
+pub runs-owe : (S : Sheet) (starts : List ℕ) → AllMet (rulesFrom starts S) → (m : ℕ) → List·Memᴰ m starts → HasBody (body S m)
+    → (ms : List Move) → Owing S (run S m ms)
+runs-owe S starts h m is b ms = good-is-owing S (runs-are-good S (by-number S starts is h) b ms)

@@ -9,7 +9,7 @@ use Rattle.condition.specs.Condition.{Condition, empty, join, event}
 use Rattle.condition.proofs.Words.{words}
 use Rattle.sheet.specs.Each.{nil, cons}
 use Rattle.sheet.proofs.Each.{each-head, each-tail}
-use Rattle.sheet.specs.Sheet.{Point, Method, event-step, call-step, Sheet}
+use Rattle.sheet.specs.Sheet.{Point, Method, event-step, callFrom, Sheet}
 use Rattle.runs.specs.Runs.{Move, return, by-step, run, Safe}
 
 -- The sheets --------------------------------------------------------------------------------------------------------------
@@ -33,7 +33,7 @@ sheet pre0 trace0 future0 pre1 trace1 future1 = record {
   conditions = empty ∷ event 0 ∷ event 1 ∷ event 2 ∷ all-three ∷ [];
   points = somewhere ∷ somewhere ∷ somewhere ∷ somewhere ∷ somewhere ∷ somewhere ∷ [];
   methods = method pre0 trace0 future0 0 3 ∷ method pre1 trace1 future1 4 5 ∷ [];
-  steps = event-step 0 1 0 ∷ call-step 1 2 1 ∷ event-step 4 5 1 ∷ event-step 2 3 2 ∷ [];
+  steps = event-step 0 1 0 ∷ callFrom 1 2 1 ∷ event-step 4 5 1 ∷ event-step 2 3 2 ∷ [];
   certificates = [];
 }
 
@@ -158,7 +158,7 @@ calling pre trace future = record {
   conditions = empty ∷ event 0 ∷ event 1 ∷ event 2 ∷ all-three ∷ [];
   points = somewhere ∷ somewhere ∷ somewhere ∷ somewhere ∷ somewhere ∷ somewhere ∷ [];
   methods = method 0 4 0 0 3 ∷ method 1 2 3 4 5 ∷ record { pre = pre; trace = trace; future = future; body = none } ∷ [];
-  steps = event-step 0 1 0 ∷ call-step 1 2 1 ∷ call-step 4 5 2 ∷ event-step 2 3 2 ∷ [];
+  steps = event-step 0 1 0 ∷ callFrom 1 2 1 ∷ callFrom 4 5 2 ∷ event-step 2 3 2 ∷ [];
   certificates = [];
 }
 

@@ -7,8 +7,8 @@ use mathlib.Core.List.{List, [], _∷_, _++_, map, List·Memᴰ, List·Nodup}
 use lib.ListN.{take}
 use Rattle.condition.specs.Condition.{Word, Holds}
 use Rattle.sheet.specs.Each.{Each}
-use Rattle.sheet.specs.Sheet.{Sheet, due, future}
-use Rattle.runs.specs.Runs.{Call, Returned, State, calls, since, Move, run}
+use Rattle.sheet.specs.Sheet.{Sheet, due}
+use Rattle.runs.specs.Runs.{Call, Returned, State, calls, futureOf, since, Move, run}
 
 -- What is owed ----------------------------------------------------------------------------------------------------------
 
@@ -27,7 +27,7 @@ InCaller (d ∷ ds) c = IsCaller d c
 
 -- "the events raised since that return, followed by any word of the due at the present point, lie in the call's future"
 abbrev pub LiesInFuture : Sheet → State → Returned → Type 0
-LiesInFuture S s r = (v : Word) → Holds (due S (s .point)) v → Holds (future S (r .call .method)) (since (r .at) (s .history) ++ v)
+LiesInFuture S s r = (v : Word) → Holds (due S (s .point)) v → Holds (futureOf S (r .call)) (since (r .at) (s .history) ++ v)
 
 -- "after a call has returned, and whenever control is in the activation that made it or in one of that activation's callers"
 abbrev pub Owing : Sheet → State → Type 0

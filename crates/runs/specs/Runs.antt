@@ -9,7 +9,7 @@ use lib.Dec.{eqb}
 use Rattle.condition.specs.Condition.{Word, Condition, Holds}
 use Rattle.condition.specs.Places.{accepts}
 use Rattle.sheet.specs.Each.{Each}
-use Rattle.sheet.specs.Sheet.{Body, Step, event-step, call-step, pass-step, Sheet, pre, trace, future, body}
+use Rattle.sheet.specs.Sheet.{Body, CallStep, Step, event-step, call-step, pass-step, Sheet, pre, trace, future, body}
 
 -- The state of a run ----------------------------------------------------------------------------------------------------
 
@@ -46,6 +46,16 @@ pub record State : Type 0 where
 -- "every call so far"
 abbrev pub calls : State → List Call
 calls s = s .open-calls ++ map (λ r. r .call) (s .returned-calls)
+
+-- its pre, trace and future: those that its method declares
+abbrev pub preOf : Sheet → Call → Condition
+preOf S c = pre S (c .method)
+
+abbrev pub traceOf : Sheet → Call → Condition
+traceOf S c = trace S (c .method)
+
+abbrev pub futureOf : Sheet → Call → Condition
+futureOf S c = future S (c .method)
 
 -- What a history adds to an earlier one, which it begins with: `Grown` says so of each that is asked of a state.
 abbrev pub since : Word → Word → Word
@@ -99,11 +109,11 @@ abbrev pub callersNow : List Call → List ℕ
 callersNow [] = []
 callersNow (c ∷ cs) = c .activation .number ∷ c .activation .callers
 
--- the call of the method m that step i makes in the state s
-abbrev pub newCall : State → ℕ → ℕ → Call
-newCall s i m =
+-- the call that step i, which is t, makes in the state s
+abbrev pub newCall : State → ℕ → CallStep → Call
+newCall s i t =
     record {
-      method = m;
+      method = t .method;
       step = some i;
       began = s .history;
       activation =
@@ -131,24 +141,24 @@ returnedNow c s =
 
 -- "A call of a primitive needs a word of the primitive's trace, whichever it is; it raises that word and returns to the step's target, all in
 -- one move."
-abbrev pub makeCall : State → Call → Word → ℕ → Condition → Option Body → State
-makeCall s c w q raises none = cond (accepts raises w) (returnedNow c (raise w q s)) s
-makeCall s c w q raises (some b) = openCall c (b .entry) s
+abbrev pub makeCall : Sheet → State → Call → Word → ℕ → Option Body → State
+makeCall S s c w q none = cond (accepts (traceOf S c) w) (returnedNow c (raise w q s)) s
+makeCall S s c w q (some b) = openCall c (b .entry) s
 
 -- "An event step raises its event; a pass raises none; both lead to their target."
 abbrev pub makeStep : Sheet → State → ℕ → Word → Step → State
 makeStep S s i w (event-step p q a) = raise (a ∷ []) q s
-makeStep S s i w (call-step p q m) = makeCall s (newCall s i m) w q (trace S m) (body S m)
+makeStep S s i w (call-step t) = makeCall S s (newCall s i t) w (t .to) (body S (t .method))
 makeStep S s i w (pass-step p q) = raise [] q s
 
 abbrev pub fromOf : Step → ℕ
 fromOf (event-step p q a) = p
-fromOf (call-step p q m) = p
+fromOf (call-step t) = t .from
 fromOf (pass-step p q) = p
 
 abbrev pub toOf : Step → ℕ
 toOf (event-step p q a) = q
-toOf (call-step p q m) = q
+toOf (call-step t) = t .to
 toOf (pass-step p q) = q
 
 -- "A step needs control at its from."
@@ -171,13 +181,13 @@ noneOpen (c ∷ cs) = false
 
 -- "it closes that call and leads to the target of the call's step, if it has one. The run ends when the outermost method 0 returns": then no
 -- call is open
-abbrev pub close : Sheet → State → Call → List Call → State
-close S s c callers =
+abbrev pub close : State → Call → List Call → ℕ → State
+close s c callers q =
     record {
       history = s .history;
       open-calls = callers;
       returned-calls = record { call = c; at = s .history } ∷ s .returned-calls;
-      point = targetOr (s .point) (stepOf S (c .step));
+      point = q;
       ended = noneOpen callers;
     }
 
@@ -188,7 +198,8 @@ exitsAt (some b) p = eqb p (b .exit)
 
 abbrev pub tryReturn : Sheet → State → List Call → State
 tryReturn S s [] = s
-tryReturn S s (c ∷ callers) = cond (exitsAt (body S (c .method)) (s .point)) (close S s c callers) s
+tryReturn S s (c ∷ callers) =
+    cond (exitsAt (body S (c .method)) (s .point)) (close s c callers (targetOr (s .point) (stepOf S (c .step)))) s
 
 abbrev pub tryMove : Sheet → State → Move → State
 tryMove S s return = tryReturn S s (s .open-calls)
@@ -198,11 +209,11 @@ tryMove S s (by-step i w) = tryStep S s i w (getElem? (S .steps) i)
 unfoldable pub move : Sheet → State → Move → State
 move S s m = cond (s .ended) s (tryMove S s m)
 
--- "A call of a primitive needs a word of the primitive's trace, whichever it is", said with the language: in the state t a step i that calls the
--- primitive m and leads to q is made with exactly the words that the trace holds (proofs/Moves).
-pub record MadeByTrace (S : Sheet) (t : State) (i q m : ℕ) (w : Word) : Type 0 where
-  pub made : Holds (trace S m) w → move S t (by-step i w) ≡ returnedNow (newCall t i m) (raise w q t)
-  pub not-made : (Holds (trace S m) w → ⊥) → move S t (by-step i w) ≡ t
+-- "A call of a primitive needs a word of the primitive's trace, whichever it is", said with the language: in the state s the step i, which is t and
+-- calls a primitive, is made with exactly the words that the trace holds (proofs/Moves).
+pub record MadeByTrace (S : Sheet) (s : State) (i : ℕ) (t : CallStep) (w : Word) : Type 0 where
+  pub made : Holds (traceOf S (newCall s i t)) w → move S s (by-step i w) ≡ returnedNow (newCall s i t) (raise w (t .to) s)
+  pub not-made : (Holds (traceOf S (newCall s i t)) w → ⊥) → move S s (by-step i w) ≡ s
 
 -- "Each move starts from what the last one left, and nothing else changes a run or its sheet."
 unfoldable pub runOn : Sheet → State → List Move → State
@@ -219,8 +230,8 @@ run S m ms = runOn S (start S m) ms
 -- What is promised of a state of a run, said with the conditions' languages.
 pub record Safe (S : Sheet) (s : State) : Type 0 where
   -- "every call so far began after a history in its pre"
-  pub began-well : Each (λ c. Holds (pre S (c .method)) (c .began)) (calls s)
+  pub began-well : Each (λ c. Holds (preOf S c) (c .began)) (calls s)
   -- "every returned call raised a word of its trace"
-  pub raised-well : Each (λ r. Holds (trace S (r .call .method)) (raised r)) (s .returned-calls)
+  pub raised-well : Each (λ r. Holds (traceOf S (r .call)) (raised r)) (s .returned-calls)
   -- "if the run ends, what followed each return is in its future"
-  pub ended-well : s .ended ≡ true → Each (λ r. Holds (future S (r .call .method)) (since (r .at) (s .history))) (s .returned-calls)
+  pub ended-well : s .ended ≡ true → Each (λ r. Holds (futureOf S (r .call)) (since (r .at) (s .history))) (s .returned-calls)

@@ -7,7 +7,7 @@ use Prim.Native.Nat.{ℕ, zero, suc}
 use lib.ListN.{replicate}
 use Rattle.certificate.specs.Certificate.{pair}
 use Rattle.sheet.specs.Model.{large}
-use Rattle.sheet.specs.Sheet.{event-step, call-step, pass-step}
+use Rattle.sheet.specs.Sheet.{event-step, callFrom, pass-step}
 use Rattle.sheet.specs.Record.{leaf-symbol, empty-symbol, join-symbol, either-symbol, star-symbol, Record, symbol-record, end-of-condition, point-record, method-record, step-record, pair-record, end-of-certificate, recordAt}
 use Rattle.sheet.specs.Reading.{Tally, startingFrom, Outcome, whole, refusal, readFrom, readSheet}
 
@@ -37,7 +37,7 @@ fields =
     ∷ ((0x09 ∷ 0x01 ∷ 0x11 ∷ 0x02 ∷ 0x12 ∷ 0x03 ∷ 0x13 ∷ 0x04 ∷ 0x14 ∷ 0x05 ∷ 0x15 ∷ []) are
     method-record (record { pre = 0x1101; trace = 0x1202; future = 0x1303; body = some (record { entry = 0x1404; exit = 0x1505 }) }))
     ∷ ((0x0A ∷ 0x01 ∷ 0x11 ∷ 0x02 ∷ 0x12 ∷ 0x03 ∷ []) are step-record (event-step 0x1101 0x1202 0x03))
-    ∷ ((0x0B ∷ 0x01 ∷ 0x11 ∷ 0x02 ∷ 0x12 ∷ 0x03 ∷ 0x13 ∷ []) are step-record (call-step 0x1101 0x1202 0x1303))
+    ∷ ((0x0B ∷ 0x01 ∷ 0x11 ∷ 0x02 ∷ 0x12 ∷ 0x03 ∷ 0x13 ∷ []) are step-record (callFrom 0x1101 0x1202 0x1303))
     ∷ ((0x0C ∷ 0x01 ∷ 0x11 ∷ 0x02 ∷ 0x12 ∷ []) are step-record (pass-step 0x1101 0x1202))
     ∷ ((0x0D ∷ 0x05 ∷ 0x01 ∷ 0x02 ∷ 0x03 ∷ 0x04 ∷ []) are pair-record (pair 0x05 0x04030201))
     ∷ ((0x0E ∷ []) are end-of-certificate)

@@ -22,7 +22,7 @@ use Rattle.sheet.proofs.SheetOf.{steps-are, methods-are}
 
 event-below : (n : ℕ) (t : Tally) (x : Step) → T (stepNamed n t x) → EventBelow n x
 event-below n t (event-step p q a) h = ltb→lt a n (and-out (ltb p (t .points) && ltb q (t .points)) (ltb a n) h .1)
-event-below n t (call-step p q m) h = tt
+event-below n t (call-step c) h = tt
 event-below n t (pass-step p q) h = tt
 
 -- the first of the methods at these offsets, if there is one, has a body

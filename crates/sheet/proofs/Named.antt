@@ -52,7 +52,7 @@ module _ (n : ℕ) (t : Tally) where
 
   step-named : (x : Step) → T (stepNamed n t x) → StepNamed (t .points) (t .methods) x
   step-named (event-step p q a) h = let (x, y, z) = three-below p q (t .points) a n h in (x, y)
-  step-named (call-step p q m) h = three-below p q (t .points) m (t .methods) h
+  step-named (call-step x) h = three-below (x .from) (x .to) (t .points) (x .method) (t .methods) h
   step-named (pass-step p q) h = two-below p q (t .points) h
 
 -- The invariant -------------------------------------------------------------------------------------------------------
@@ -83,7 +83,7 @@ module _ {c c′ p p′ m m′ : ℕ} (more-conditions : c ≤ c′) (more-point
 
   step-still : (x : Step) → StepNamed p m x → StepNamed p′ m′ x
   step-still (event-step a b e) h = omega arith
-  step-still (call-step a b k) h = omega arith
+  step-still (call-step x) h = omega arith
   step-still (pass-step a b) h = omega arith
 
   all-still : {s ps ms ss : List ℕ} → AllNamed s c p m ps ms ss → AllNamed s c′ p′ m′ ps ms ss

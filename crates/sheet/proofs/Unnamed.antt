@@ -6,7 +6,7 @@ use Prim.Native.Nat.{ℕ}
 use native.Mathlib.Omega.{arith}
 use Rattle.condition.specs.Condition.{empty}
 use Rattle.sheet.specs.Each.{nil, cons}
-use Rattle.sheet.specs.Sheet.{Point, Method, Step, event-step, call-step, pass-step, Sheet}
+use Rattle.sheet.specs.Sheet.{Point, Method, Step, event-step, callFrom, pass-step, Sheet}
 use Rattle.sheet.specs.Names.{PointNamed, MethodNamed, StepNamed, NamesExist, HasBody, EventBelow}
 use Rattle.sheet.proofs.Each.{each-head}
 
@@ -29,11 +29,11 @@ all-named : (p : Point) (m : Method) (t : Step) → PointNamed 1 p → MethodNam
 all-named p m t x y z = record { points-named = cons x nil; methods-named = cons y nil; steps-named = cons z nil }
 
 all-exist : NamesExist (sheet (point 0 0 0) (method 0 0 0 0 0) (event-step 0 0 31))
-    × NamesExist (sheet (point 0 0 0) (primitive 0 0 0) (call-step 0 0 0))
+    × NamesExist (sheet (point 0 0 0) (primitive 0 0 0) (callFrom 0 0 0))
     × NamesExist (sheet (point 0 0 0) (method 0 0 0 0 0) (pass-step 0 0))
 all-exist = (
   all-named (point 0 0 0) (method 0 0 0 0 0) (event-step 0 0 31) (omega arith) (omega arith) (omega arith),
-  all-named (point 0 0 0) (primitive 0 0 0) (call-step 0 0 0) (omega arith) (omega arith) (omega arith),
+  all-named (point 0 0 0) (primitive 0 0 0) (callFrom 0 0 0) (omega arith) (omega arith) (omega arith),
   all-named (point 0 0 0) (method 0 0 0 0 0) (pass-step 0 0) (omega arith) (omega arith) (omega arith),
 )
 
@@ -72,13 +72,13 @@ no-event-from n = omega (arith, each-head (n .steps-named) .0)
 no-event-to : NamesExist (sheet (point 0 0 0) (method 0 0 0 0 0) (event-step 0 1 0)) → ⊥
 no-event-to n = omega (arith, each-head (n .steps-named) .1)
 
-no-call-from : NamesExist (sheet (point 0 0 0) (method 0 0 0 0 0) (call-step 1 0 0)) → ⊥
+no-call-from : NamesExist (sheet (point 0 0 0) (method 0 0 0 0 0) (callFrom 1 0 0)) → ⊥
 no-call-from n = omega (arith, each-head (n .steps-named) .0)
 
-no-call-to : NamesExist (sheet (point 0 0 0) (method 0 0 0 0 0) (call-step 0 1 0)) → ⊥
+no-call-to : NamesExist (sheet (point 0 0 0) (method 0 0 0 0 0) (callFrom 0 1 0)) → ⊥
 no-call-to n = omega (arith, each-head (n .steps-named) .1)
 
-no-call-method : NamesExist (sheet (point 0 0 0) (method 0 0 0 0 0) (call-step 0 0 1)) → ⊥
+no-call-method : NamesExist (sheet (point 0 0 0) (method 0 0 0 0 0) (callFrom 0 0 1)) → ⊥
 no-call-method n = omega (arith, each-head (n .steps-named) .2)
 
 no-pass-from : NamesExist (sheet (point 0 0 0) (method 0 0 0 0 0) (pass-step 1 0)) → ⊥

@@ -24,7 +24,7 @@ pub record MethodNamed (conditions points : ℕ) (x : Method) : Type 0 where
 
 abbrev pub StepNamed : ℕ → ℕ → Step → Type 0
 StepNamed points methods (event-step p q a) = (p < points) × (q < points)
-StepNamed points methods (call-step p q m) = (p < points) × (q < points) × (m < methods)
+StepNamed points methods (call-step t) = (t .from < points) × (t .to < points) × (t .method < methods)
 StepNamed points methods (pass-step p q) = (p < points) × (q < points)
 
 pub record NamesExist (S : Sheet) : Type 0 where
@@ -40,5 +40,5 @@ HasBody (some b) = Unit {0}
 -- the event of a step, if it has one, is below n
 abbrev pub EventBelow : ℕ → Step → Type 0
 EventBelow n (event-step p q a) = a < n
-EventBelow n (call-step p q m) = Unit {0}
+EventBelow n (call-step c) = Unit {0}
 EventBelow n (pass-step p q) = Unit {0}

@@ -139,7 +139,7 @@ bodyNamed t (some b) = ltb (b .entry) (t .points) && ltb (b .exit) (t .points)
 
 abbrev pub stepNamed : ℕ → Tally → Step → Bool
 stepNamed events t (event-step p q a) = ltb p (t .points) && ltb q (t .points) && ltb a events
-stepNamed events t (call-step p q m) = ltb p (t .points) && ltb q (t .points) && ltb m (t .methods)
+stepNamed events t (call-step x) = ltb (x .from) (t .points) && ltb (x .to) (t .points) && ltb (x .method) (t .methods)
 stepNamed events t (pass-step p q) = ltb p (t .points) && ltb q (t .points)
 
 -- not 7: "a name that does not exist yet, or an event above 31"

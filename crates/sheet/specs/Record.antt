@@ -6,7 +6,7 @@ use mathlib.Core.List.{List, [], _∷_}
 use lib.ListN.{getD}
 use lib.Dec.{eqb}
 use Rattle.certificate.specs.Certificate.{Pair, pair}
-use Rattle.sheet.specs.Sheet.{Point, Method, Step, event-step, call-step, pass-step}
+use Rattle.sheet.specs.Sheet.{Point, Method, Step, event-step, callFrom, pass-step}
 
 -- a sheet is "bytes": each element is below 256
 abbrev pub Bytes : List ℕ → Type 0
@@ -58,7 +58,7 @@ unfoldable pub stepAt : List ℕ → ℕ → Step
 unfolding shortAt
 stepAt s at =
     cond (eqb (byteAt s at) 10) (event-step (shortAt s (at + 1)) (shortAt s (at + 3)) (byteAt s (at + 5)))
-    (cond (eqb (byteAt s at) 11) (call-step (shortAt s (at + 1)) (shortAt s (at + 3)) (shortAt s (at + 5)))
+    (cond (eqb (byteAt s at) 11) (callFrom (shortAt s (at + 1)) (shortAt s (at + 3)) (shortAt s (at + 5)))
     (pass-step (shortAt s (at + 1)) (shortAt s (at + 3))))
 
 -- kind 13: "left place (1), right set (4)"

@@ -24,11 +24,21 @@ pub record Method : Type 0 where
   pub future : ℕ
   pub body : Option Body
 
--- an event step: "from, to (2 each), event (1)"; a call step: "from, to, method"; a pass step: "from, to"
+-- a call step: "from, to, method"
+pub record CallStep : Type 0 where
+  pub from : ℕ
+  pub to : ℕ
+  pub method : ℕ
+
+-- an event step: "from, to (2 each), event (1)"; a pass step: "from, to"
 pub data Step : Type 0 where
   event-step : (from to event : ℕ) → Step
-  call-step : (from to method : ℕ) → Step
+  call-step : CallStep → Step
   pass-step : (from to : ℕ) → Step
+
+-- the step of kind 11
+abbrev pub callFrom : (from to method : ℕ) → Step
+callFrom p q m = call-step (record { from = p; to = q; method = m })
 
 pub record Sheet : Type 0 where
   pub conditions : List Condition
@@ -39,32 +49,35 @@ pub record Sheet : Type 0 where
 
 -- Conditions by the numbers that name them. A number that names nothing stands for a condition without words; no name of a well formed
 -- sheet is such a number.
-abbrev pub condition : Sheet → ℕ → Condition
-condition S c = getD (S .conditions) c noWord
+abbrev pub conditionIn : List Condition → ℕ → Condition
+conditionIn cs c = getD cs c noWord
 
-abbrev pub conditionNamed : {A : Type 0} → Sheet → (A → ℕ) → Option A → Condition
-conditionNamed S name none = noWord
-conditionNamed S name (some x) = condition S (name x)
+abbrev pub condition : Sheet → ℕ → Condition
+condition S c = conditionIn (S .conditions) c
+
+abbrev pub conditionNamed : {A : Type 0} → List Condition → (A → ℕ) → Option A → Condition
+conditionNamed cs name none = noWord
+conditionNamed cs name (some x) = conditionIn cs (name x)
 
 -- past(p), own(p), due(p) of the point p
 abbrev pub past : Sheet → ℕ → Condition
-past S p = conditionNamed S (λ (x : Point). x .past) (getElem? (S .points) p)
+past S p = conditionNamed (S .conditions) (λ (x : Point). x .past) (getElem? (S .points) p)
 
 abbrev pub own : Sheet → ℕ → Condition
-own S p = conditionNamed S (λ (x : Point). x .own) (getElem? (S .points) p)
+own S p = conditionNamed (S .conditions) (λ (x : Point). x .own) (getElem? (S .points) p)
 
 abbrev pub due : Sheet → ℕ → Condition
-due S p = conditionNamed S (λ (x : Point). x .due) (getElem? (S .points) p)
+due S p = conditionNamed (S .conditions) (λ (x : Point). x .due) (getElem? (S .points) p)
 
 -- pre, trace and future of the method m
 abbrev pub pre : Sheet → ℕ → Condition
-pre S m = conditionNamed S (λ (x : Method). x .pre) (getElem? (S .methods) m)
+pre S m = conditionNamed (S .conditions) (λ (x : Method). x .pre) (getElem? (S .methods) m)
 
 abbrev pub trace : Sheet → ℕ → Condition
-trace S m = conditionNamed S (λ (x : Method). x .trace) (getElem? (S .methods) m)
+trace S m = conditionNamed (S .conditions) (λ (x : Method). x .trace) (getElem? (S .methods) m)
 
 abbrev pub future : Sheet → ℕ → Condition
-future S m = conditionNamed S (λ (x : Method). x .future) (getElem? (S .methods) m)
+future S m = conditionNamed (S .conditions) (λ (x : Method). x .future) (getElem? (S .methods) m)
 
 -- the body of the method m, if it is a method with body
 abbrev pub bodyIn : Option Method → Option Body

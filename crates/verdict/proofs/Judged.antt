@@ -4,7 +4,7 @@ use mathlib.Core.List.{List, [], _∷_, _++_, append-assoc}
 use Prim.Native.Nat.{ℕ, _+_}
 use native.Mathlib.Omega.{arith}
 use lib.ListN.{length}
-use Rattle.certificate.specs.Certificate.{Certificate, Finding, fine, found, fault}
+use Rattle.certificate.specs.Certificate.{Certificate, Fault, Finding, fine, found}
 use Rattle.runs.specs.Rules.{Claim, _isIn_, holdsEmpty, Rule, _of_says_, rules, total}
 use Rattle.verdict.specs.Verdict.{Report, unproved, testOf, needed, certificatesNeeded, nextOf, leftAfter, reported, firstFault}
 use Rattle.verdict.specs.Promise.{EachCertified, done, bare, certified, Passes, FirstFault}
@@ -21,7 +21,7 @@ module _ (events : ℕ) (otherwise : Report) where
   -- what testing the rules with their certificates comes to
   pub data Tried (xs : List Rule) (cs : List Certificate) (report : Report) : Type 0 where
     all-pass : EachCertified (Passes events) xs cs → report ≡ otherwise → Tried xs cs report
-    one-fails : (r k c i e l : ℕ) → FirstFault events xs cs r k c i e l → report ≡ unproved r k c i e l → Tried xs cs report
+    one-fails : (r k : ℕ) (f : Fault) → FirstFault events xs cs r k f → report ≡ unproved r k f → Tried xs cs report
 
   pub first-is : (x : Rule) (xs : List Rule) (cs : List Certificate)
       → firstFault events (x ∷ xs) cs otherwise
@@ -30,9 +30,9 @@ module _ (events : ℕ) (otherwise : Report) where
   first-is x xs cs = refl
 
   -- the next rule fails
-  fails-here : (n k : ℕ) (claim : Claim) (xs : List Rule) (cs : List Certificate) (c i e l : ℕ) → testOf events claim (nextOf cs) ≡ fault c i e l
-      → FirstFault events ((n of k says claim) ∷ xs) cs n k c i e l
-  fails-here n k claim xs cs c i e l h =
+  fails-here : (n k : ℕ) (claim : Claim) (xs : List Rule) (cs : List Certificate) (f : Fault) → testOf events claim (nextOf cs) ≡ found f
+      → FirstFault events ((n of k says claim) ∷ xs) cs n k f
+  fails-here n k claim xs cs f h =
       record {
         before = [];
         failing = claim;
@@ -48,9 +48,9 @@ module _ (events : ℕ) (otherwise : Report) where
   -- the next rule passes, and takes the certificates `mine`
   module _ (x : Rule) (mine : List Certificate)
       (longer : (ys : List Rule) (ds : List Certificate) → EachCertified (Passes events) ys ds → EachCertified (Passes events) (x ∷ ys) (mine ++ ds)) where
-    fails-later : (xs : List Rule) (cs : List Certificate) (r k c i e l : ℕ) → FirstFault events xs cs r k c i e l
-        → FirstFault events (x ∷ xs) (mine ++ cs) r k c i e l
-    fails-later xs cs r k c i e l f =
+    fails-later : (xs : List Rule) (cs : List Certificate) (r k : ℕ) (v : Fault) → FirstFault events xs cs r k v
+        → FirstFault events (x ∷ xs) (mine ++ cs) r k v
+    fails-later xs cs r k v f =
         record {
           before = x ∷ f .before;
           failing = f .failing;
@@ -65,7 +65,7 @@ module _ (events : ℕ) (otherwise : Report) where
 
     tried-more : (xs : List Rule) (cs : List Certificate) (report : Report) → Tried xs cs report → Tried (x ∷ xs) (mine ++ cs) report
     tried-more xs cs report (all-pass p e) = all-pass (longer xs cs p) e
-    tried-more xs cs report (one-fails r k c i e l f h) = one-fails r k c i e l (fails-later xs cs r k c i e l f) h
+    tried-more xs cs report (one-fails r k v f h) = one-fails r k v (fails-later xs cs r k v f) h
 
   -- one rule, by what its test finds
   one-tried : (n k : ℕ) (claim : Claim) (mine : List Certificate) (xs : List Rule) (cs : List Certificate)
@@ -78,7 +78,7 @@ module _ (events : ℕ) (otherwise : Report) where
       go : (f : Finding) → testOf events claim (nextOf (mine ++ cs)) ≡ f
           → Tried ((n of k says claim) ∷ xs) (mine ++ cs) (reported (n of k says claim) f after)
       go fine h = tried-more (n of k says claim) mine (λ ys ds p. longer ys ds h p) xs cs after t
-      go (found f) h = one-fails n k _ _ _ _ (fails-here n k claim xs (mine ++ cs) (f .clause) (f .pair) (f .event) (f .place) h) refl
+      go (found f) h = one-fails n k f (fails-here n k claim xs (mine ++ cs) f h) refl
 
   -- TRIED: with as many certificates as the rules need
   pub tried : (xs : List Rule) (cs : List Certificate) → length cs ≡ certificatesNeeded xs → Tried xs cs (firstFault events xs cs otherwise)
@@ -108,23 +108,23 @@ module _ (events : ℕ) (otherwise : Report) where
 
   -- and the first fault is what is found
   first-found : {ys : List Rule} {used : List Certificate} → EachCertified (Passes events) ys used
-      → (n k : ℕ) (claim : Claim) (after : List Rule) (unused : List Certificate) (c i e l : ℕ) → testOf events claim (nextOf unused) ≡ fault c i e l
-      → firstFault events (ys ++ ((n of k says claim) ∷ after)) (used ++ unused) otherwise ≡ unproved n k c i e l
+      → (n k : ℕ) (claim : Claim) (after : List Rule) (unused : List Certificate) (f : Fault) → testOf events claim (nextOf unused) ≡ found f
+      → firstFault events (ys ++ ((n of k says claim) ∷ after)) (used ++ unused) otherwise ≡ unproved n k f
   unfolding firstFault
-  first-found done n k claim after unused c i e l h =
+  first-found done n k claim after unused f h =
       ap (λ (v : Finding). reported (n of k says claim) v (firstFault events after (leftAfter claim unused) otherwise)) h
-  first-found (bare {n = m} {k = j} {a = a} {xs = xs} {cs = cs} p t) n k claim after unused c i e l h =
+  first-found (bare {n = m} {k = j} {a = a} {xs = xs} {cs = cs} p t) n k claim after unused f h =
       ap (λ (v : Finding). reported (m of j says holdsEmpty a) v (firstFault events (xs ++ ((n of k says claim) ∷ after)) (cs ++ unused) otherwise)) p
-      ∙ first-found t n k claim after unused c i e l h
-  first-found (certified {n = m} {k = j} {a = a} {b = b} {c = d} {xs = xs} {cs = cs} p t) n k claim after unused c i e l h =
+      ∙ first-found t n k claim after unused f h
+  first-found (certified {n = m} {k = j} {a = a} {b = b} {c = d} {xs = xs} {cs = cs} p t) n k claim after unused f h =
       ap (λ (v : Finding). reported (m of j says a isIn b) v (firstFault events (xs ++ ((n of k says claim) ∷ after)) (cs ++ unused) otherwise)) p
-      ∙ first-found t n k claim after unused c i e l h
+      ∙ first-found t n k claim after unused f h
 
-  pub fault-found : {xs : List Rule} {cs : List Certificate} {r k c i e l : ℕ} → FirstFault events xs cs r k c i e l
-      → firstFault events xs cs otherwise ≡ unproved r k c i e l
-  fault-found {r = r} {k = k} {c = c} {i = i} {e = e} {l = l} f =
+  pub fault-found : {xs : List Rule} {cs : List Certificate} {r k : ℕ} {v : Fault} → FirstFault events xs cs r k v
+      → firstFault events xs cs otherwise ≡ unproved r k v
+  fault-found {r = r} {k = k} {v = v} f =
       ap₂ (λ (ys : List Rule) (ds : List Certificate). firstFault events ys ds otherwise) (f .rules-are) (f .certificates-are)
-      ∙ first-found (f .before-pass) r k (f .failing) (f .after) (f .unused) c i e l (f .fails)
+      ∙ first-found (f .before-pass) r k (f .failing) (f .after) (f .unused) v (f .fails)
 
 -- each rule that needs a certificate has one of the list
 pub enough-certified : {P : Claim → Certificate → Type 0} {xs : List Rule} {cs : List Certificate} → EachCertified P xs cs → length cs ≡ certificatesNeeded xs

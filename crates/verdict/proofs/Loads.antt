@@ -3,12 +3,13 @@
 use mathlib.Core.Path.{_≡_, refl, sym, ap, _∙_, subst}
 use mathlib.Core.Bool.{Bool, true, false, cond}
 use mathlib.Core.Option.{none, some}
-use mathlib.Core.List.{List}
+use mathlib.Core.List.{List, [], _∷_, List·Memᴰ·head}
 use Prim.Native.Nat.{ℕ, _≤_}
 use lib.ListN.{length}
 use lib.Dec.{T, eqb, eqb→eq, eqb-refl}
 use borrow.Author.Tests.{eqb-false, ne-eqb}
 use Rattle.bits.proofs.Tests.{T-true}
+use Rattle.certificate.specs.Certificate.{Fault}
 use Rattle.sheet.specs.Model.{Model}
 use Rattle.sheet.specs.Sheet.{Sheet, body}
 use Rattle.sheet.specs.Record.{Bytes}
@@ -36,7 +37,7 @@ use Rattle.verdict.proofs.RulesMet.{all-met, all-pass as exact-pass, ru
 abbrev countIn : Report → ℕ
 countIn (accepted n) = n
 countIn (refused n at) = 0
-countIn (unproved r k c i e l) = 0
+countIn (unproved r k f) = 0
 
 -- The verdict, by what reading finds ------------------------------------------------------------------------------------
 
@@ -72,17 +73,17 @@ module _ (M : Model) (s : List ℕ) where
   RefusalIn (accepted n) = ⊥
   RefusalIn (refused n none) = ⊥
   RefusalIn (refused n (some at)) = RefusedFor M s n at
-  RefusalIn (unproved r k c i e l) = ⊥
+  RefusalIn (unproved r k f) = ⊥
 
   not-both : (x : Report) → RefusalIn x → IsAccepted x → ⊥
   not-both (accepted n) f a = f
   not-both (refused n at) f a = a
-  not-both (unproved r k c i e l) f a = f
+  not-both (unproved r k v) f a = f
 
   nor-unproved : (x : Report) → RefusalIn x → IsUnproved x → ⊥
   nor-unproved (accepted n) f u = f
   nor-unproved (refused n at) f u = u
-  nor-unproved (unproved r k c i e l) f u = f
+  nor-unproved (unproved r k v) f u = f
 
   -- refused, or well formed and then what the tests of the rules come to
   data Decided (report : Report) : Type 0 where
@@ -114,12 +115,12 @@ module _ (M : Model) (s : List ℕ) where
       refused-total (accepted n) f = absurd f
       refused-total (refused n none) f = absurd f
       refused-total (refused n (some at)) f = with-place n at
-      refused-total (unproved r k c i e l) f = absurd f
+      refused-total (unproved r k v) f = absurd f
 
       go : Decided (verdictOf M s) → AnswerForm (verdictOf M s)
       go (refuses x f e) = subst AnswerForm (sym e) (refused-total x f)
       go (tests w (all-pass p e)) = subst AnswerForm (sym e) (with-count (count (sheetOf M s)))
-      go (tests w (one-fails r k c i d l f e)) = subst AnswerForm (sym e) (with-fault r k c i d l)
+      go (tests w (one-fails r k v f e)) = subst AnswerForm (sym e) (with-fault r k v)
 
   -- Demand 2 ------------------------------------------------------------------------------------------------------------
 
@@ -129,7 +130,7 @@ module _ (M : Model) (s : List ℕ) where
       go : Decided (verdictOf M s) → WellFormed M s × Passing × (n ≡ count (sheetOf M s))
       go (refuses x f e) = absurd (not-both x f (subst IsAccepted (sym h ∙ e) tt))
       go (tests w (all-pass p e)) = (w, p, ap countIn (sym h ∙ e))
-      go (tests w (one-fails r k c i d l f e)) = absurd (subst IsAccepted (sym h ∙ e) tt)
+      go (tests w (one-fails r k v f e)) = absurd (subst IsAccepted (sym h ∙ e) tt)
 
   -- of a sheet that is read whole, by whether it has as many certificates as its rules need
   whole-is : {r : Reading} → readSheet M s ≡ whole r → (b : Bool) → enough (sheetOf M s) ≡ b
@@ -156,18 +157,18 @@ module _ (M : Model) (s : List ℕ) where
   abbrev FaultIn : Report → Type 0
   FaultIn (accepted n) = Unit {0}
   FaultIn (refused n at) = Unit {0}
-  FaultIn (unproved r k c i e l) = FirstFault (M .events) (rules (sheetOf M s)) (sheetOf M s .certificates) r k c i e l
+  FaultIn (unproved r k f) = FirstFault (M .events) (rules (sheetOf M s)) (sheetOf M s .certificates) r k f
 
-  unproved-out : (r k c i e l : ℕ) → verdictOf M s ≡ unproved r k c i e l → WellFormed M s × FaultIn (unproved r k c i e l)
-  unproved-out r k c i e l h = go decided
+  unproved-out : (r k : ℕ) (v : Fault) → verdictOf M s ≡ unproved r k v → WellFormed M s × FaultIn (unproved r k v)
+  unproved-out r k v h = go decided
     where
-      go : Decided (verdictOf M s) → WellFormed M s × FaultIn (unproved r k c i e l)
+      go : Decided (verdictOf M s) → WellFormed M s × FaultIn (unproved r k v)
       go (refuses x g y) = absurd (nor-unproved x g (subst IsUnproved (sym h ∙ y) tt))
       go (tests w (all-pass p x)) = absurd (subst IsUnproved (sym h ∙ x) tt)
-      go (tests w (one-fails r′ k′ c′ i′ e′ l′ f x)) = (w, subst FaultIn (sym x ∙ h) f)
+      go (tests w (one-fails r′ k′ v′ f x)) = (w, subst FaultIn (sym x ∙ h) f)
 
-  unproved-in : (r k c i e l : ℕ) → WellFormed M s → FaultIn (unproved r k c i e l) → verdictOf M s ≡ unproved r k c i e l
-  unproved-in r k c i e l w f = well-formed-is w ∙ fault-found (M .events) (accepted (count (sheetOf M s))) f
+  unproved-in : (r k : ℕ) (v : Fault) → WellFormed M s → FaultIn (unproved r k v) → verdictOf M s ≡ unproved r k v
+  unproved-in r k v w f = well-formed-is w ∙ fault-found (M .events) (accepted (count (sheetOf M s))) f
 
   refused-out : (n at : ℕ) → verdictOf M s ≡ refused n (some at) → RefusedFor M s n at
   refused-out n at h = go decided
@@ -175,7 +176,7 @@ module _ (M : Model) (s : List ℕ) where
       go : Decided (verdictOf M s) → RefusedFor M s n at
       go (refuses x f e) = subst RefusalIn (sym e ∙ h) f
       go (tests w (all-pass p e)) = absurd (subst IsAccepted (sym (sym h ∙ e)) tt)
-      go (tests w (one-fails r k c i d l f e)) = absurd (subst IsUnproved (sym (sym h ∙ e)) tt)
+      go (tests w (one-fails r k v f e)) = absurd (subst IsUnproved (sym (sym h ∙ e)) tt)
 
   refused-in : {n at : ℕ} → RefusedFor M s n at → verdictOf M s ≡ refused n (some at)
   refused-in {n} {at} (while-reading e) = verdict-is ∙ (ap (verdictAfter M s) e ∙ after-refusal n at)
@@ -188,20 +189,20 @@ module _ (M : Model) (s : List ℕ) where
 
   module _ (wide : 32 ≤ M .events) (bytes : Bytes s) where
     -- the rules of an accepted sheet are true
-    pub accepted-met : (n : ℕ) → verdictOf M s ≡ accepted n → AllMet (rulesFrom 0 (sheetOf M s))
+    pub accepted-met : (n : ℕ) → verdictOf M s ≡ accepted n → AllMet (rulesFrom (0 ∷ []) (sheetOf M s))
     unfolding rules
     accepted-met n h =
         let (w, p, e) = accepted-out n h in
-        all-met (M .events) p (rules-below (M .events) (sheetOf M s) (conditions-below M s wide bytes) 0 (events-below M s (w .reading) (w .read)))
+        all-met (M .events) p (rules-below (M .events) (sheetOf M s) (conditions-below M s wide bytes) (0 ∷ []) (events-below M s (w .reading) (w .read)))
 
     -- after every list of moves, whichever it is, a run of an accepted sheet is safe
     pub accepted-safe : (n : ℕ) → verdictOf M s ≡ accepted n → (ms : List Move) → Safe (sheetOf M s) (run (sheetOf M s) 0 ms)
     unfolding rules
-    accepted-safe n h ms = runs-are-safe (sheetOf M s) 0 (accepted-has-body n h) (accepted-met n h) ms
+    accepted-safe n h ms = runs-are-safe (sheetOf M s) (0 ∷ []) (accepted-met n h) 0 (List·Memᴰ·head refl) (accepted-has-body n h) ms
 
     -- and meets what it owes
     pub accepted-owing : (n : ℕ) → verdictOf M s ≡ accepted n → (ms : List Move) → Owing (sheetOf M s) (run (sheetOf M s) 0 ms)
-    accepted-owing n h ms = runs-owe (sheetOf M s) 0 (accepted-has-body n h) (accepted-met n h) ms
+    accepted-owing n h ms = runs-owe (sheetOf M s) (0 ∷ []) (accepted-met n h) 0 (List·Memᴰ·head refl) (accepted-has-body n h) ms
 
     -- what the loader promises is true of the definition's answer
     pub loads : Loads M s (verdictOf M s)
@@ -213,7 +214,7 @@ module _ (M : Model) (s : List ℕ) where
           accepted-iff = λ n. (accepted-out n, λ x. accepted-in (x .0) (x .1) ∙ ap (λ k. accepted k) (sym (x .2)));
           refused-iff = λ n at. (λ e. refused-out n at (reply-refused (verdictOf M s) n at e), λ f. ap replyOf (refused-in f));
           unproved-iff =
-              λ r k c i e l. (λ x. unproved-out r k c i e l (reply-unproved (verdictOf M s) r k c i e l x), λ x. ap replyOf (unproved-in r k c i e l (x .0) (x .1)));
+              λ r k v. (λ e. unproved-out r k v (reply-unproved (verdictOf M s) r k v e), λ x. ap replyOf (unproved-in r k v (x .0) (x .1)));
           rules-met = accepted-met;
           sound = accepted-safe;
           owing = accepted-owing;

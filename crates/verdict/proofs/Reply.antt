@@ -5,19 +5,20 @@ use mathlib.Core.List.{[], _∷_}
 use Prim.Native.Nat.{ℕ}
 use native.Mathlib.Omega.{arith}
 use lib.ListN.{length, getD}
+use Rattle.certificate.specs.Certificate.{Fault}
 use Rattle.verdict.specs.Verdict.{Report, accepted, refused, unproved}
 use Rattle.verdict.specs.WordTest.{Answer, tested, untested}
-use Rattle.verdict.specs.Reply.{Reply, _giving_, placeValue, replyOf, answerReply}
+use Rattle.verdict.specs.Reply.{Reply, _giving_, placeValue, faultValues, replyOf, answerReply}
 
 abbrev pub IsAccepted : Report → Type 0
 IsAccepted (accepted n) = Unit {0}
 IsAccepted (refused n at) = ⊥
-IsAccepted (unproved r k c i e l) = ⊥
+IsAccepted (unproved r k f) = ⊥
 
 abbrev pub IsUnproved : Report → Type 0
 IsUnproved (accepted n) = ⊥
 IsUnproved (refused n at) = ⊥
-IsUnproved (unproved r k c i e l) = Unit {0}
+IsUnproved (unproved r k f) = Unit {0}
 
 abbrev pub IsTested : Answer → Type 0
 IsTested (tested b) = Unit {0}
@@ -54,16 +55,16 @@ same-place (some a) (some b) l e = ap (λ k. some k) e
 pub reply-refused : (x : Report) (n at : ℕ) → replyOf x ≡ n giving (at ∷ []) → x ≡ refused n (some at)
 reply-refused (accepted k) n at e = absurd (has-number e tt)
 reply-refused (refused k a) n at e = ap₂ (λ m p. refused m p) (same-number e) (same-place a (some at) (same-length e) (same-value 0 e))
-reply-refused (unproved r k c i d l) n at e = absurd (omega (arith, same-length e))
+reply-refused (unproved r k f) n at e = absurd (omega (arith, same-length e))
 
 few-values : (a : Option ℕ) → length (placeValue a) ≡ 6 → ⊥
 few-values none e = omega (arith, e)
 few-values (some k) e = omega (arith, e)
 
-pub reply-unproved : (x : Report) (r k c i d l : ℕ) → replyOf x ≡ 11 giving (r ∷ k ∷ c ∷ i ∷ d ∷ l ∷ []) → x ≡ unproved r k c i d l
-reply-unproved (accepted n) r k c i d l e = absurd (has-number e tt)
-reply-unproved (refused n a) r k c i d l e = absurd (few-values a (same-length e))
-reply-unproved (unproved r′ k′ c′ i′ d′ l′) r k c i d l e =
+pub reply-unproved : (x : Report) (r k : ℕ) (f : Fault) → replyOf x ≡ 11 giving (r ∷ k ∷ faultValues f) → x ≡ unproved r k f
+reply-unproved (accepted n) r k f e = absurd (has-number e tt)
+reply-unproved (refused n a) r k f e = absurd (few-values a (same-length e))
+reply-unproved (unproved r′ k′ f′) r k f e =
     rw (same-value 0 e, same-value 1 e, same-value 2 e, same-value 3 e, same-value 4 e, same-value 5 e) refl
 
 pub reply-untested : (x : Answer) (n : ℕ) (at : Option ℕ) → answerReply x ≡ n giving placeValue at → x ≡ untested n at

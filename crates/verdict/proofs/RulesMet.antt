@@ -13,10 +13,10 @@ use Rattle.certificate.proofs.Findings.{fine-is, is-fine, unless-out, unless-in
 use Rattle.certificate.proofs.Sound.{sound}
 use Rattle.certificate.proofs.Complete.{complete}
 use Rattle.sheet.specs.Each.{Each, nil, cons}
-use Rattle.sheet.specs.Sheet.{Point, Body, Method, Step, event-step, call-step, pass-step, Sheet, condition, conditionNamed, past, own, due, pre, trace, future}
+use Rattle.sheet.specs.Sheet.{Point, Body, Method, CallStep, Step, event-step, call-step, pass-step, Sheet, condition, conditionNamed, past, own, due, pre, trace, future}
 use Rattle.sheet.proofs.Each.{each-head, each-tail, each-append}
 use Rattle.sheet.specs.Names.{EventBelow}
-use Rattle.runs.specs.Rules.{Claim, _isIn_, holdsEmpty, Met, Rule, methodRules, stepRules, methodsRules, stepsRules, rulesFrom, AllMet}
+use Rattle.runs.specs.Rules.{Claim, _isIn_, holdsEmpty, Met, Rule, exitRules, methodRules, returnRules, stepRules, firstsRules, methodsRules, stepsRules, rulesFrom, AllMet}
 use Rattle.verdict.specs.Promise.{EachCertified, done, bare, certified, Passes, ExactFor}
 
 -- the left side of a claim has only events below n
@@ -52,7 +52,7 @@ module _ (n : ℕ) (S : Sheet) (below : (c : ℕ) → EventsBelow n (condition S
   abbrev Below : List Rule → Type 0
   Below = Each (λ x. LeftBelow n (x .claim))
 
-  named : {A : Type 0} (name : A → ℕ) (x : Option A) → EventsBelow n (conditionNamed S name x)
+  named : {A : Type 0} (name : A → ℕ) (x : Option A) → EventsBelow n (conditionNamed (S .conditions) name x)
   named name none = pow-pos n
   named name (some x) = below (name x)
 
@@ -77,22 +77,34 @@ module _ (n : ℕ) (S : Sheet) (below : (c : ℕ) → EventsBelow n (condition S
   joined : (a b : Condition) → EventsBelow n a → EventsBelow n b → EventsBelow n (join a b)
   joined a b x y = (x, y)
 
+  exit-below : (n m exit : ℕ) → Below (exitRules S n m exit)
+  exit-below n m exit = cons (own-below exit) (cons (future-below m) nil)
+
   method-below : (k : ℕ) (b : Option Body) → Below (methodRules S k b)
   method-below k none = nil
-  method-below k (some b) = cons (pre-below k) (cons tt (cons (own-below (b .exit)) (cons (future-below k) nil)))
+  method-below k (some b) = cons (pre-below k) (cons tt (exit-below 5 k (b .exit)))
+
+  return-below : (n i : ℕ) (t : CallStep) (q : ℕ) → Below (returnRules S n i t q)
+  return-below n i t q =
+      let T = trace S (t .method) in
+      let small = trace-below (t .method) in
+      cons (joined (past S (t .from)) T (past-below (t .from)) small)
+      (cons (joined (own S (t .from)) T (own-below (t .from)) small)
+      (cons (due-below q)
+      (cons (joined T (due S q) small (due-below q)) nil)))
 
   step-below : (k : ℕ) (t : Step) → EventBelow n t → Below (stepRules S k t)
   step-below k (event-step p q a) h =
       cons (joined (past S p) (event a) (past-below p) (pow-lt h))
       (cons (joined (own S p) (event a) (own-below p) (pow-lt h))
       (cons (joined (event a) (due S q) (pow-lt h) (due-below q)) nil))
-  step-below k (call-step p q m) h =
-      cons (past-below p)
-      (cons (joined (past S p) (trace S m) (past-below p) (trace-below m))
-      (cons (joined (own S p) (trace S m) (own-below p) (trace-below m))
-      (cons (due-below q)
-      (cons (joined (trace S m) (due S q) (trace-below m) (due-below q)) nil))))
+  step-below k (call-step t) h = cons (past-below (t .from)) (return-below 11 k t (t .to))
   step-below k (pass-step p q) h = cons (past-below p) (cons (own-below p) (cons (due-below q) nil))
+
+  firsts-below : (ms : List ℕ) → Below (firstsRules S ms)
+  unfolding firstsRules
+  firsts-below [] = nil
+  firsts-below (m ∷ ms) = cons tt (cons tt (firsts-below ms))
 
   methods-below : (k : ℕ) (ms : List Method) → Below (methodsRules S k ms)
   unfolding methodsRules
@@ -104,6 +116,6 @@ module _ (n : ℕ) (S : Sheet) (below : (c : ℕ) → EventsBelow n (condition S
   steps-below k nil = nil
   steps-below k (cons {x = t} h r) = each-append (step-below k t h) (steps-below (suc k) r)
 
-  pub rules-below : (m : ℕ) → Each (EventBelow n) (S .steps) → Below (rulesFrom m S)
+  pub rules-below : (starts : List ℕ) → Each (EventBelow n) (S .steps) → Below (rulesFrom starts S)
   unfolding rulesFrom
-  rules-below m h = cons tt (cons tt (each-append (methods-below 0 (S .methods)) (steps-below 0 h)))
+  rules-below starts h = each-append (firsts-below starts) (each-append (methods-below 0 (S .methods)) (steps-below 0 h))

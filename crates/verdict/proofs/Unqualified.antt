@@ -10,7 +10,7 @@ use lib.ListN.{take, drop}
 use Rattle.condition.specs.Condition.{Word, leaf, empty}
 use Rattle.condition.specs.Places.{nullable, accepts}
 use Rattle.condition.proofs.Words.{words}
-use Rattle.certificate.specs.Certificate.{check}
+use Rattle.certificate.specs.Certificate.{Fault, check}
 use Rattle.sheet.specs.Model.{Model, large}
 use Rattle.sheet.specs.Each.{nil}
 use Rattle.sheet.specs.Sheet.{condition}
@@ -43,12 +43,12 @@ abbrev HasPlace : Report → Type 0
 HasPlace (accepted n) = Unit {0}
 HasPlace (refused n none) = ⊥
 HasPlace (refused n (some at)) = Unit {0}
-HasPlace (unproved r k c i e l) = Unit {0}
+HasPlace (unproved r k f) = Unit {0}
 
 has-place : {x : Report} → AnswerForm x → HasPlace x
 has-place (with-count n) = tt
 has-place (with-place n at) = tt
-has-place (with-fault r k c i e l) = tt
+has-place (with-fault r k f) = tt
 
 refused-nowhere : (s : List ℕ) (n : ℕ) → Loads large s (refused n none) → ⊥
 refused-nowhere s n l = has-place (l .total)
@@ -68,10 +68,14 @@ accepts-M : {answer : Report} → Loads large M answer → answer ≡ accepted 6
 unfolding sheetOf count
 accepts-M l = l .accepted-iff 6 .1 (M-premises .well-formed, M-passes, refl)
 
+-- a clause that fails at pair 0, with event and place 0
+abbrev failsFirst : ℕ → Fault
+failsFirst clause = record { clause = clause; pair = 0; event = 0; place = 0 }
+
 -- "one giving 11 before it reads a pair"
-unproved-at-once : Loads large M (unproved 3 0 1 0 0 0) → ⊥
+unproved-at-once : Loads large M (unproved 3 0 (failsFirst 1)) → ⊥
 unproved-at-once l =
-    let (w, f) = l .unproved-iff 3 0 1 0 0 0 .0 refl in
+    let (w, f) = l .unproved-iff 3 0 (failsFirst 1) .0 refl in
     subst IsAccepted (sym (pass-all 32 (accepted 6) M-passes) ∙ fault-found 32 (accepted 6) f) tt
 
 -- well formed, and this is the first fault: 11, with its six values
@@ -79,7 +83,7 @@ M′-well-formed : WellFormed large M′
 unfolding sheetOf rules certificatesNeeded
 M′-well-formed = record { reading = _; read = refl; enough = refl }
 
-M′-fault : FirstFault 32 (rules (sheetOf large M′)) (sheetOf large M′ .certificates) 5 0 3 0 0 0
+M′-fault : FirstFault 32 (rules (sheetOf large M′)) (sheetOf large M′ .certificates) 5 0 (failsFirst 3)
 unfolding sheetOf rules check nullable
 M′-fault =
     record {
@@ -95,7 +99,7 @@ M′-fault =
     }
 
 names-fault : {answer : Report} → Loads large M′ answer → replyOf answer ≡ 11 giving (5 ∷ 0 ∷ 3 ∷ 0 ∷ 0 ∷ 0 ∷ [])
-names-fault l = l .unproved-iff 5 0 3 0 0 0 .1 (M′-well-formed, M′-fault)
+names-fault l = l .unproved-iff 5 0 (failsFirst 3) .1 (M′-well-formed, M′-fault)
 
 -- "one refusing all"
 refusing-all : Loads large M (refused 2 (some 0)) → ⊥

@@ -10,7 +10,7 @@ use Rattle.condition.specs.Condition.{Word, empty, event, Holds}
 use Rattle.condition.specs.Places.{nullable, accepts}
 use Rattle.certificate.specs.Certificate.{Certificate, Exact}
 use Rattle.sheet.specs.Model.{Model, large}
-use Rattle.sheet.specs.Sheet.{event-step, call-step, body, trace}
+use Rattle.sheet.specs.Sheet.{CallStep, event-step, call-step, body, trace}
 use Rattle.sheet.specs.Record.{empty-symbol}
 use Rattle.sheet.specs.Reading.{Reading, whole, readSheet}
 use Rattle.sheet.specs.Names.{HasBody, EventBelow}
@@ -86,10 +86,10 @@ its-events : (I : Model) (s : List ℕ) → Facts I s → (r : Reading) → read
 its-events I s f r read p q e i = each-member (EventBelow (I .events)) (f .events-below r read) i
 
 -- a primitive's step with a word of its trace is made, and with another is not
-module _ (I : Model) (s : List ℕ) (f : Facts I s) (t : State) (i q m : ℕ) (w : Word) (going : t .ended ≡ false)
-    (found : getElem? (sheetOf I s .steps) i ≡ some (call-step (t .point) q m)) (primitive : body (sheetOf I s) m ≡ none) where
-  of-trace : Holds (trace (sheetOf I s) m) w → move (sheetOf I s) t (by-step i w) ≡ returnedNow (newCall t i m) (raise w q t)
-  of-trace h = f .made-by-trace t i q m w going found primitive .made h
+module _ (I : Model) (s : List ℕ) (f : Facts I s) (u : State) (i : ℕ) (t : CallStep) (w : Word) (going : u .ended ≡ false)
+    (found : getElem? (sheetOf I s .steps) i ≡ some (call-step t)) (at : u .point ≡ t .from) (primitive : body (sheetOf I s) (t .method) ≡ none) where
+  of-trace : Holds (trace (sheetOf I s) (t .method)) w → move (sheetOf I s) u (by-step i w) ≡ returnedNow (newCall u i t) (raise w (t .to) u)
+  of-trace h = f .made-by-trace u i t w going found at primitive .made h
 
-  not-of-trace : (Holds (trace (sheetOf I s) m) w → ⊥) → move (sheetOf I s) t (by-step i w) ≡ t
-  not-of-trace n = f .made-by-trace t i q m w going found primitive .not-made n
+  not-of-trace : (Holds (trace (sheetOf I s) (t .method)) w → ⊥) → move (sheetOf I s) u (by-step i w) ≡ u
+  not-of-trace n = f .made-by-trace u i t w going found at primitive .not-made n

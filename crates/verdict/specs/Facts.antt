@@ -12,7 +12,7 @@ use Rattle.condition.specs.Places.{nullable, accepts}
 use Rattle.certificate.specs.Certificate.{Certificate}
 use Rattle.sheet.specs.Model.{Model}
 use Rattle.sheet.specs.Each.{Each}
-use Rattle.sheet.specs.Sheet.{call-step, body}
+use Rattle.sheet.specs.Sheet.{CallStep, call-step, body}
 use Rattle.sheet.specs.Record.{Bytes}
 use Rattle.sheet.specs.Reading.{Reading, whole, readSheet}
 use Rattle.sheet.specs.Decode.{InPostfix, sheetOf}
@@ -36,8 +36,8 @@ pub record Facts (M : Model) (s : List ℕ) : Type 0 where
   -- the count of the formula is the number of rules
   pub counted : length (rules (sheetOf M s)) ≡ count (sheetOf M s)
   -- a call of a primitive is made with exactly the words of its trace
-  pub made-by-trace : (t : State) (i q m : ℕ) (w : Word) → t .ended ≡ false → getElem? (sheetOf M s .steps) i ≡ some (call-step (t .point) q m)
-      → body (sheetOf M s) m ≡ none → MadeByTrace (sheetOf M s) t i q m w
+  pub made-by-trace : (u : State) (i : ℕ) (t : CallStep) (w : Word) → u .ended ≡ false → getElem? (sheetOf M s .steps) i ≡ some (call-step t)
+      → u .point ≡ t .from → body (sheetOf M s) (t .method) ≡ none → MadeByTrace (sheetOf M s) u i t w
   -- histories only grow, so that what a history adds to an earlier one is what was raised since
   pub histories-grow : (ms : List Move) → Grown (run (sheetOf M s) 0 ms)
   -- exact certificates exist for the rules of every sheet, so the second half of demand 3 asks nothing impossible of a certificate. That they fit

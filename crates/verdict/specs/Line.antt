@@ -50,7 +50,7 @@ unfoldable pub line : Report → List ℕ
 unfolding ascii decimal
 line (accepted n) = labelled (ascii "accepted " ∷ []) (replyOf (accepted n) .values)
 line (refused n at) = refusedLine n at
-line (unproved r k c i e l) = labelled (unprovedTexts r) (replyOf (unproved r k c i e l) .values)
+line (unproved r k f) = labelled (unprovedTexts r) (replyOf (unproved r k f) .values)
 
 -- what the word test's program prints
 unfoldable pub answerLine : Answer → List ℕ

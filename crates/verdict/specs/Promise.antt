@@ -10,7 +10,7 @@ use mathlib.Core.List.{List, [], _∷_, _++_}
 use lib.ListN.{length, getD}
 use lib.Dec.{T}
 use Rattle.condition.specs.Condition.{Condition, Word, Holds}
-use Rattle.certificate.specs.Certificate.{Certificate, fine, fault, Exact}
+use Rattle.certificate.specs.Certificate.{Certificate, Fault, fine, found, Exact}
 use Rattle.sheet.specs.Model.{Model, wordLimit}
 use Rattle.sheet.specs.Each.{Each}
 use Rattle.sheet.specs.Record.{Bytes}
@@ -22,7 +22,7 @@ use Rattle.runs.specs.Runs.{Move, run, Safe}
 use Rattle.runs.specs.Owing.{Owing, ToldApart}
 use Rattle.verdict.specs.Verdict.{Report, accepted, refused, unproved, testOf, certificatesNeeded, nextOf, verdictOf}
 use Rattle.verdict.specs.WordTest.{Answer, tested, wordTest}
-use Rattle.verdict.specs.Reply.{_giving_, placeValue, replyOf, answerReply}
+use Rattle.verdict.specs.Reply.{_giving_, placeValue, faultValues, replyOf, answerReply}
 
 -- Of a sheet's bytes ----------------------------------------------------------------------------------------------------
 
@@ -52,7 +52,7 @@ ExactFor events (a isIn b) c = Exact events a b c
 ExactFor events (holdsEmpty a) c = Unit {0}
 
 -- "this is the first fault": the rules before it pass, and the next one's test finds it. The test of a rule without a certificate looks at none.
-pub record FirstFault (events : ℕ) (xs : List Rule) (cs : List Certificate) (rule subject clause pair event place : ℕ) : Type 0 where
+pub record FirstFault (events : ℕ) (xs : List Rule) (cs : List Certificate) (rule subject : ℕ) (f : Fault) : Type 0 where
   pub before : List Rule
   pub failing : Claim
   pub after : List Rule
@@ -61,7 +61,7 @@ pub record FirstFault (events : ℕ) (xs : List Rule) (cs : List Certificate) (r
   pub rules-are : xs ≡ before ++ ((rule of subject says failing) ∷ after)
   pub certificates-are : cs ≡ used ++ unused
   pub before-pass : EachCertified (Passes events) before used
-  pub fails : testOf events failing (nextOf unused) ≡ fault clause pair event place
+  pub fails : testOf events failing (nextOf unused) ≡ found f
 
 -- one of the refusals 1 to 10 applies, and the first of them has this number and place; what 1 to 9 are is said by sheet/specs/Reading
 pub data RefusedFor (M : Model) (s : List ℕ) : ℕ → ℕ → Type 0 where
@@ -77,7 +77,7 @@ pub data RefusedFor (M : Model) (s : List ℕ) : ℕ → ℕ → Type 0 where
 pub data AnswerForm : Report → Type 0 where
   with-count : (n : ℕ) → AnswerForm (accepted n)
   with-place : (n at : ℕ) → AnswerForm (refused n (some at))
-  with-fault : (r k c i e l : ℕ) → AnswerForm (unproved r k c i e l)
+  with-fault : (r k : ℕ) (f : Fault) → AnswerForm (unproved r k f)
 
 -- What the loader promises of its answer to the bytes s, for every s, on an instrument that has at least the 32 events of a leaf's four-byte set
 -- (`LoadsAsPromised` below). With fewer events clause 4 would leave some events of a leaf untested.
@@ -92,8 +92,8 @@ pub record Loads (M : Model) (s : List ℕ) (answer : Report) : Type 0 where
   -- "else the first fault is named": a refusal's number and place exactly if it is the first that applies,
   pub refused-iff : (n at : ℕ) → (replyOf answer ≡ n giving (at ∷ [])) ↔ RefusedFor M s n at
   -- and "11, rule, subject, clause, pair, event, place" exactly if the sheet is "well formed, and this is the first fault"
-  pub unproved-iff : (r k c i e l : ℕ) → (replyOf answer ≡ 11 giving (r ∷ k ∷ c ∷ i ∷ e ∷ l ∷ []))
-      ↔ (WellFormed M s × FirstFault (M .events) (rules (sheetOf M s)) (sheetOf M s .certificates) r k c i e l)
+  pub unproved-iff : (r k : ℕ) (f : Fault) → (replyOf answer ≡ 11 giving (r ∷ k ∷ faultValues f))
+      ↔ (WellFormed M s × FirstFault (M .events) (rules (sheetOf M s)) (sheetOf M s .certificates) r k f)
   -- the rules of an accepted sheet are true, whoever wrote its point conditions and certificates
   pub rules-met : (n : ℕ) → answer ≡ accepted n → AllMet (rules (sheetOf M s))
   -- Demand 3: "If a sheet is accepted .. then after EVERY list of moves" the state of the run is safe

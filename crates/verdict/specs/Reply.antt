@@ -3,6 +3,7 @@
 use Prim.Native.Nat.{ℕ}
 use mathlib.Core.Option.{Option, none, some}
 use mathlib.Core.List.{List, [], _∷_}
+use Rattle.certificate.specs.Certificate.{Fault}
 use Rattle.verdict.specs.Verdict.{Report, accepted, refused, unproved}
 use Rattle.verdict.specs.WordTest.{Answer, tested, untested}
 
@@ -21,11 +22,15 @@ abbrev pub placeValue : Option ℕ → List ℕ
 placeValue none = []
 placeValue (some at) = at ∷ []
 
+-- "clause, pair, event, place"
+abbrev pub faultValues : Fault → List ℕ
+faultValues f = f .clause ∷ f .pair ∷ f .event ∷ f .place ∷ []
+
 -- "accepted, count"; "1, place 65,536" and so on; "11, rule, subject, clause, pair, event, place"
 abbrev pub replyOf : Report → Reply
 replyOf (accepted n) = record { number = none; values = n ∷ [] }
 replyOf (refused n at) = n giving placeValue at
-replyOf (unproved r k c i e l) = 11 giving (r ∷ k ∷ c ∷ i ∷ e ∷ l ∷ [])
+replyOf (unproved r k f) = 11 giving (r ∷ k ∷ faultValues f)
 
 -- of the word test, yes and no have neither; "12", "13, index", "14", and those of reading
 abbrev pub answerReply : Answer → Reply

@@ -6,7 +6,7 @@ use mathlib.Core.List.{List, [], _∷_}
 use lib.ListN.{length}
 use lib.Dec.{eqb}
 use Rattle.condition.specs.Places.{nullable}
-use Rattle.certificate.specs.Certificate.{Certificate, Finding, fine, found, fault, unless, check}
+use Rattle.certificate.specs.Certificate.{Certificate, Fault, Finding, fine, found, fault, unless, check}
 use Rattle.sheet.specs.Model.{Model}
 use Rattle.sheet.specs.Sheet.{Sheet}
 use Rattle.sheet.specs.Reading.{Outcome, whole, refusal, readSheet}
@@ -19,7 +19,7 @@ pub data Report : Type 0 where
   -- a refusal's number, and its place where it has one
   refused : (number : ℕ) (at : Option ℕ) → Report
   -- "11, rule, subject, clause, pair, event, place"
-  unproved : (rule subject clause pair event place : ℕ) → Report
+  unproved : (rule subject : ℕ) → Fault → Report
 
 -- One rule's test -------------------------------------------------------------------------------------------------------
 
@@ -55,7 +55,7 @@ leftAfter (holdsEmpty a) cs = cs
 -- the report of a rule's fault, and without one that of what comes after
 abbrev pub reported : Rule → Finding → Report → Report
 reported x fine after = after
-reported x (found f) after = unproved (x .number) (x .subject) (f .clause) (f .pair) (f .event) (f .place)
+reported x (found f) after = unproved (x .number) (x .subject) f
 
 -- 11: "well formed, and this is the first fault"; with no fault, the report `otherwise`
 unfoldable pub firstFault : ℕ → List Rule → List Certificate → Report → Report
