@@ -8,7 +8,7 @@ use lib.ListN.{length, getD, getElem?}
 use borrow.Author.Tests.{eq-eqb, ne-eqb}
 use Rattle.condition.specs.Condition.{Condition}
 use Rattle.sheet.specs.Model.{Model, conditionLimit, methodLimit, stepLimit}
-use Rattle.sheet.specs.Sheet.{Point, Body, Method, Step, event-step, call-step, pass-step, Sheet, condition, conditionNamed, bodyIn, body}
+use Rattle.sheet.specs.Sheet.{Point, Body, Method, Step, event-step, callFrom, pass-step, Sheet, condition, conditionNamed, bodyIn, body}
 use Rattle.sheet.specs.Record.{byteAt, shortAt, pointAt, methodAt, stepAt}
 use Rattle.sheet.specs.Reading.{Tally, countsOf, Reading, whole, readSheet}
 use Rattle.sheet.specs.Decode.{conditionAt, sheetOf}
@@ -40,7 +40,7 @@ module _ (M : Model) (s : List ℕ) (r : Reading) (h : readSheet M s ≡ whole r
 
     -- a field that names a condition
     field-named : {A : Type 0} (name : A → ℕ) (x : Option A) (y : A) (at : ℕ) → x ≡ some y → name y ≡ shortAt s at
-        → name y < length (r .offsets .conditions) → NamedAt s conditions at (conditionNamed (sheetOf M s) name x)
+        → name y < length (r .offsets .conditions) → NamedAt s conditions at (conditionNamed (sheetOf M s .conditions) name x)
     field-named name x y at is e l =
         let few : length (r .offsets .conditions) ≤ 256 = omega (arith, read-few M s r h .few-conditions, ap (λ (t : Tally). t .conditions) (read-counted M s r h)) in
         let named : shortAt s at < length (r .offsets .conditions) = omega arith in
@@ -176,7 +176,7 @@ module _ (s : List ℕ) (at p q : ℕ) (from : p ≡ shortAt s (at + 1)) (to : q
   unfolding stepAt
   event-is e a is = rw (from, to, is) (simp (eq-eqb _ _ e))
 
-  pub call-is : (byteAt s at ≡ 10 → ⊥) → byteAt s at ≡ 11 → (m : ℕ) → m ≡ shortAt s (at + 5) → stepAt s at ≡ call-step p q m
+  pub call-is : (byteAt s at ≡ 10 → ⊥) → byteAt s at ≡ 11 → (m : ℕ) → m ≡ shortAt s (at + 5) → stepAt s at ≡ callFrom p q m
   unfolding stepAt
   call-is n e m is = rw (from, to, is) (simp (ne-eqb _ _ n, eq-eqb _ _ e))
 

@@ -29,7 +29,7 @@ module _ (S : Sheet) where
   step-needs : (k : ℕ) (t : Step) → certificatesNeeded (stepRules S k t) ≡ stepCount t
   unfolding certificatesNeeded total
   step-needs k (event-step p q a) = refl
-  step-needs k (call-step p q m) = refl
+  step-needs k (call-step t) = refl
   step-needs k (pass-step p q) = refl
 
   steps-need : (k : ℕ) (ts : List Step) → certificatesNeeded (stepsRules S k ts) ≡ total stepCount ts
@@ -53,7 +53,7 @@ steps-counted : (ts : List Step) → total stepCount ts ≡ 3 * total eventCount
 unfolding total
 steps-counted [] = refl
 steps-counted (event-step p q a ∷ ts) = omega (arith, steps-counted ts)
-steps-counted (call-step p q m ∷ ts) = omega (arith, steps-counted ts)
+steps-counted (call-step t ∷ ts) = omega (arith, steps-counted ts)
 steps-counted (pass-step p q ∷ ts) = omega (arith, steps-counted ts)
 
 pub count-is : (S : Sheet) → count S ≡ 2 + 4 * total bodyCount (S .methods) + total stepCount (S .steps)

@@ -15,7 +15,7 @@ use Rattle.walk.specs.Trial.{Trial, passed, failed, afterCertificate, af
 -- what a trial leads to: the trial of what is left, from the offset that it ends at, or its fault
 abbrev pub onward : Trial → (ℕ → Trial) → Trial
 onward (passed at) more = more at
-onward (failed r k c i e l) more = failed r k c i e l
+onward (failed r k f) more = failed r k f
 
 module _ (events : ℕ) (s : List ℕ) where
   abbrev pub trial : List Rule → ℕ → Trial

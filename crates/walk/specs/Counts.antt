@@ -4,5 +4,5 @@ use Rattle.sheet.specs.Sheet.{Step, event-step, call-step, pass-step}
 
 abbrev pub stepCount : Step → ℕ
 stepCount (event-step p q a) = 3
-stepCount (call-step p q m) = 5
+stepCount (call-step t) = 5
 stepCount (pass-step p q) = 3

@@ -2,7 +2,7 @@
 use Prim.Native.Nat.{ℕ, suc, _+_, _*_}
 use mathlib.Core.List.{List, [], _∷_}
 use lib.ListN.{length}
-use Rattle.certificate.specs.Certificate.{Finding, fine, found, check}
+use Rattle.certificate.specs.Certificate.{Fault, Finding, fine, found, check}
 use Rattle.condition.specs.Places.{nullable}
 use Rattle.sheet.specs.Decode.{certificateAt}
 use Rattle.runs.specs.Rules.{Claim, _isIn_, holdsEmpty, Rule}
@@ -12,7 +12,7 @@ pub data Trial : Type 0 where
   -- each rule passes, and the next certificate starts at an offset
   passed : (at : ℕ) → Trial
   -- the first fault
-  failed : (rule subject clause pair event place : ℕ) → Trial
+  failed : (rule subject : ℕ) → Fault → Trial
 
 -- the offset behind the certificate of a claim, if it needs one: a pair is six bytes, the end of a certificate one
 abbrev pub afterCertificate : List ℕ → Claim → ℕ → ℕ
@@ -21,7 +21,7 @@ afterCertificate s (holdsEmpty a) at = at
 
 abbrev pub afterTest : Rule → Finding → Trial → Trial
 afterTest x fine more = more
-afterTest x (found f) more = failed (x .number) (x .subject) (f .clause) (f .pair) (f .event) (f .place)
+afterTest x (found f) more = failed (x .number) (x .subject) f
 
 unfoldable pub tryRules : ℕ → List ℕ → List Rule → ℕ → Trial
 unfolding certificateAt check nullable
@@ -33,4 +33,4 @@ tryRules events s (x ∷ xs) at =
 -- the report of a trial, and of one that passes the report `otherwise`
 abbrev pub reportOn : Report → Trial → Report
 reportOn otherwise (passed at) = otherwise
-reportOn otherwise (failed r k c i e l) = unproved r k c i e l
+reportOn otherwise (failed r k f) = unproved r k f
