@@ -4,7 +4,8 @@ use mathlib.Core.List.{List}
 use Prim.Native.Nat.{ℕ, _+_, _*_, _≤_}
 use native.Mathlib.Omega.{arith}
 use lib.ListN.{length, List·getD-eq-default}
-use Rattle.sheet.specs.Record.{byteAt, shortAt, setAt}
+use Rattle.sheet.specs.Record.{byteAt}
+use Rattle.sheet.specs.AtOffset.{shortAt, setAt}
 
 module _ (s : List ℕ) (i : ℕ) (past : length s ≤ i) where
   pub byte-past : byteAt s i ≡ 0

@@ -1,8 +1,9 @@
 // Fields of a sheet, low byte first. A byte past the end reads as 0, so each of these is total.
 ghost use mathlib.Core.Path.{_≡_};
-ghost use mathlib.Core.Bool.{_&&_};
-ghost use Prim.Native.Nat.{_+_, _*_};
-ghost use Rattle.sheet.specs.Record.{byteAt, shortAt, setAt};
+ghost use Prim.Native.Nat.{_+_, _*_, _≤_};
+ghost use lib.ListN.{length};
+ghost use Rattle.sheet.specs.Record.{byteAt};
+ghost use Rattle.sheet.specs.AtOffset.{shortAt, setAt};
 
 // The byte at an offset.
 pub fn byte_at(s: &[u8], i: usize) -> u8
@@ -51,6 +52,14 @@ pub fn short_at(s: &[u8], i: usize) -> usize
     }
 }
 
+// The same where both bytes are known to be there.
+pub fn short_inside(s: &[u8], i: usize) -> usize
+    requires { ⌜ i + 2 ≤ length (now s) ⌝ }
+    ensures { λ r. ⌜ r ≡ shortAt (now (s .entry)) i ⌝ }
+{
+    short_of(s[i], s[i + 1])
+}
+
 // The four-byte set at an offset. Where four bytes are there, one test serves them all.
 pub fn set_at(s: &[u8], i: usize) -> u64
     ensures { λ r. ⌜ r ≡ setAt (now (s .entry)) i ⌝ }
@@ -68,11 +77,4 @@ pub fn set_at(s: &[u8], i: usize) -> u64
     } else {
         0
     }
-}
-
-// Both tests pass.
-pub fn both(a: bool, b: bool) -> bool
-    ensures { λ r. ⌜ r ≡ (a && b) ⌝ }
-{
-    if a { b } else { false }
 }

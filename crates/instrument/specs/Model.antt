@@ -10,8 +10,8 @@ modelOf Large = large
 
 -- the model that limits stand for, and the limits of a model
 abbrev pub modelWith : Limits → Model
-modelWith l = record { bytes = l .bytes; points = l .points; events = l .events }
+modelWith l = record { bytes = l .bytes; points = l .points; events = l .events; kinds = l .kinds }
 
 abbrev pub limitsOf : Instrument → Limits
 limitsOf i =
-    let M = modelOf i in record { bytes = M .bytes; points = M .points; events = M .events }
+    let M = modelOf i in record { bytes = M .bytes; points = M .points; events = M .events; kinds = M .kinds }

@@ -7,11 +7,12 @@ pub enum Instrument {
     Large,
 }
 
-// What an instrument takes: how many bytes, points and events.
+// What an instrument takes: how many bytes, points and events, and the highest kind of record.
 pub struct Limits {
     pub bytes: usize,
     pub points: usize,
     pub events: usize,
+    pub kinds: u8,
 }
 
 pub fn limits_of(instrument: Instrument) -> Limits
@@ -22,6 +23,7 @@ pub fn limits_of(instrument: Instrument) -> Limits
             bytes: 65536,
             points: 512,
             events: 32,
+            kinds: 14,
         },
     }
 }

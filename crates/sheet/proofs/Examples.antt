@@ -1,68 +1,132 @@
--- Records and readings by evaluation: the fields of a record of each kind, each limit at its last and at one more, the order of sections, refusals
--- of one record in their order, and the place of refusal 1.
+-- Records, sheets and readings by evaluation: the table of kinds, the fields of a record of each kind and what they stand for, a sheet, each limit at its
+-- last and at one more, the order of sections, refusals of one record in their order, the place of refusal 1, and what was counted before a refusal.
 use mathlib.Core.Path.{_≡_, refl}
-use mathlib.Core.Option.{Option, none, some}
+use mathlib.Core.Option.{none, some}
 use mathlib.Core.List.{List, [], _∷_, _++_, map}
 use Prim.Native.Nat.{ℕ, zero, suc}
-use lib.ListN.{replicate}
+use lib.ListN.{getD, replicate}
+use Rattle.condition.specs.Condition.{leaf, empty, join, either, star}
 use Rattle.certificate.specs.Certificate.{pair}
 use Rattle.sheet.specs.Model.{large}
 use Rattle.sheet.specs.Sheet.{event-step, callFrom, pass-step}
-use Rattle.sheet.specs.Record.{leaf-symbol, empty-symbol, join-symbol, either-symbol, star-symbol, Record, symbol-record, end-of-condition, point-record, method-record, step-record, pair-record, end-of-certificate, recordAt}
-use Rattle.sheet.specs.Reading.{Tally, startingFrom, Outcome, whole, refusal, readFrom, readSheet}
+use Rattle.sheet.specs.Kind.{sectionOf, bodyLength}
+use Rattle.sheet.specs.Record.{Record, recordAt}
+use Rattle.sheet.specs.Reading.{nothing, Counted, fresh, startingFrom, startsOf, Outcome, whole, refusal, stateOf, readFrom, readSheet}
+use Rattle.sheet.specs.Decode.{pointOf, methodOf, stepOf, sheetOf}
+
+-- Kinds -----------------------------------------------------------------------------------------------------------------
+
+abbrev allKinds : List ℕ
+allKinds = 1 ∷ 2 ∷ 3 ∷ 4 ∷ 5 ∷ 6 ∷ 7 ∷ 8 ∷ 9 ∷ 10 ∷ 11 ∷ 12 ∷ 13 ∷ 14 ∷ []
+
+-- "Body lengths by kind, 1 to 14: 4, 0, 0, 0, 0, 0, 6, 6, 10, 5, 6, 4, 5, 0"
+lengths-are : map bodyLength allKinds ≡ 4 ∷ 0 ∷ 0 ∷ 0 ∷ 0 ∷ 0 ∷ 6 ∷ 6 ∷ 10 ∷ 5 ∷ 6 ∷ 4 ∷ 5 ∷ 0 ∷ []
+lengths-are = refl
+
+-- "Sections in order: kinds 1-6, 7, 8-9, 10-12, 13-14"
+sections-are : map sectionOf allKinds ≡ 1 ∷ 1 ∷ 1 ∷ 1 ∷ 1 ∷ 1 ∷ 2 ∷ 3 ∷ 3 ∷ 4 ∷ 4 ∷ 4 ∷ 5 ∷ 5 ∷ []
+sections-are = refl
 
 -- Fields ----------------------------------------------------------------------------------------------------------------
 
--- a record's bytes, and the record
-record Field : Type 0 where
-  bytes : List ℕ
-  stands-for : Option Record
-
-infix 20 _are_
-abbrev _are_ : List ℕ → Record → Field
-s are x = record { bytes = s; stands-for = some x }
-
 -- each field has another value, and those of two bytes have both
-abbrev fields : List Field
-fields =
-    ((0x01 ∷ 0x01 ∷ 0x02 ∷ 0x03 ∷ 0x04 ∷ []) are symbol-record (leaf-symbol 0x04030201))
-    ∷ ((0x02 ∷ []) are symbol-record empty-symbol)
-    ∷ ((0x03 ∷ []) are symbol-record join-symbol)
-    ∷ ((0x04 ∷ []) are symbol-record either-symbol)
-    ∷ ((0x05 ∷ []) are symbol-record star-symbol)
-    ∷ ((0x06 ∷ []) are end-of-condition)
-    ∷ ((0x07 ∷ 0x01 ∷ 0x11 ∷ 0x02 ∷ 0x12 ∷ 0x03 ∷ 0x13 ∷ []) are point-record (record { past = 0x1101; own = 0x1202; due = 0x1303 }))
-    ∷ ((0x08 ∷ 0x01 ∷ 0x11 ∷ 0x02 ∷ 0x12 ∷ 0x03 ∷ 0x13 ∷ []) are
-    method-record (record { pre = 0x1101; trace = 0x1202; future = 0x1303; body = none }))
-    ∷ ((0x09 ∷ 0x01 ∷ 0x11 ∷ 0x02 ∷ 0x12 ∷ 0x03 ∷ 0x13 ∷ 0x04 ∷ 0x14 ∷ 0x05 ∷ 0x15 ∷ []) are
-    method-record (record { pre = 0x1101; trace = 0x1202; future = 0x1303; body = some (record { entry = 0x1404; exit = 0x1505 }) }))
-    ∷ ((0x0A ∷ 0x01 ∷ 0x11 ∷ 0x02 ∷ 0x12 ∷ 0x03 ∷ []) are step-record (event-step 0x1101 0x1202 0x03))
-    ∷ ((0x0B ∷ 0x01 ∷ 0x11 ∷ 0x02 ∷ 0x12 ∷ 0x03 ∷ 0x13 ∷ []) are step-record (callFrom 0x1101 0x1202 0x1303))
-    ∷ ((0x0C ∷ 0x01 ∷ 0x11 ∷ 0x02 ∷ 0x12 ∷ []) are step-record (pass-step 0x1101 0x1202))
-    ∷ ((0x0D ∷ 0x05 ∷ 0x01 ∷ 0x02 ∷ 0x03 ∷ 0x04 ∷ []) are pair-record (pair 0x05 0x04030201))
-    ∷ ((0x0E ∷ []) are end-of-certificate)
+abbrev leafBytes : List ℕ
+leafBytes = 0x01 ∷ 0x01 ∷ 0x02 ∷ 0x03 ∷ 0x04 ∷ []
+
+abbrev pointBytes : List ℕ
+pointBytes = 0x07 ∷ 0x01 ∷ 0x11 ∷ 0x02 ∷ 0x12 ∷ 0x03 ∷ 0x13 ∷ []
+
+abbrev primitiveBytes : List ℕ
+primitiveBytes = 0x08 ∷ 0x01 ∷ 0x11 ∷ 0x02 ∷ 0x12 ∷ 0x03 ∷ 0x13 ∷ []
+
+abbrev methodBytes : List ℕ
+methodBytes = 0x09 ∷ 0x01 ∷ 0x11 ∷ 0x02 ∷ 0x12 ∷ 0x03 ∷ 0x13 ∷ 0x04 ∷ 0x14 ∷ 0x05 ∷ 0x15 ∷ []
+
+abbrev stepBytes : List (List ℕ)
+stepBytes =
+    (0x0A ∷ 0x01 ∷ 0x11 ∷ 0x02 ∷ 0x12 ∷ 0x03 ∷ [])
+    ∷ (0x0B ∷ 0x01 ∷ 0x11 ∷ 0x02 ∷ 0x12 ∷ 0x03 ∷ 0x13 ∷ [])
+    ∷ (0x0C ∷ 0x01 ∷ 0x11 ∷ 0x02 ∷ 0x12 ∷ [])
     ∷ []
 
-fields-are-so : map (λ x. recordAt (x .bytes) 0) fields ≡ map (λ x. x .stands-for) fields
+abbrev pairBytes : List ℕ
+pairBytes = 0x0D ∷ 0x05 ∷ 0x01 ∷ 0x02 ∷ 0x03 ∷ 0x04 ∷ []
+
+abbrev with : ℕ → List ℕ → Record
+with kind values = record { at = 0; kind = kind; values = values }
+
+fields-are-so : map (λ (s : List ℕ). recordAt s 0) (leafBytes ∷ (0x03 ∷ []) ∷ pointBytes ∷ methodBytes ∷ pairBytes ∷ [])
+    ≡ with 1 (0x04030201 ∷ []) ∷ with 3 [] ∷ with 7 (0x1101 ∷ 0x1202 ∷ 0x1303 ∷ []) ∷ with 9 (0x1101 ∷ 0x1202 ∷ 0x1303 ∷ 0x1404 ∷ 0x1505 ∷ [])
+    ∷ with 13 (0x05 ∷ 0x04030201 ∷ []) ∷ []
 unfolding recordAt
 fields-are-so = refl
 
+point-is-so : pointOf (recordAt pointBytes 0) ≡ record { past = 0x1101; own = 0x1202; due = 0x1303 }
+unfolding recordAt
+point-is-so = refl
+
+methods-are-so : map (λ (s : List ℕ). methodOf (recordAt s 0)) (primitiveBytes ∷ methodBytes ∷ [])
+    ≡ record { pre = 0x1101; trace = 0x1202; future = 0x1303; body = none }
+    ∷ record { pre = 0x1101; trace = 0x1202; future = 0x1303; body = some (record { entry = 0x1404; exit = 0x1505 }) }
+    ∷ []
+unfolding recordAt
+methods-are-so = refl
+
+steps-are-so : map (λ (s : List ℕ). stepOf (recordAt s 0)) stepBytes
+    ≡ event-step 0x1101 0x1202 0x03 ∷ callFrom 0x1101 0x1202 0x1303 ∷ pass-step 0x1101 0x1202 ∷ []
+unfolding recordAt
+steps-are-so = refl
+
+-- A sheet ---------------------------------------------------------------------------------------------------------------
+
+-- two conditions, two points, a method and a primitive, a step of each kind, two certificates
+abbrev small : List ℕ
+small =
+    (0x02 ∷ 0x01 ∷ 1 ∷ 0 ∷ 0 ∷ 0 ∷ 0x03 ∷ 0x06 ∷ [])
+    ++ ((0x01 ∷ 2 ∷ 0 ∷ 0 ∷ 0 ∷ 0x02 ∷ 0x04 ∷ 0x05 ∷ 0x06 ∷ [])
+    ++ ((0x07 ∷ 0 ∷ 0 ∷ 1 ∷ 0 ∷ 0 ∷ 0 ∷ 0x07 ∷ 1 ∷ 0 ∷ 0 ∷ 0 ∷ 1 ∷ 0 ∷ [])
+    ++ ((0x09 ∷ 1 ∷ 0 ∷ 0 ∷ 0 ∷ 1 ∷ 0 ∷ 0 ∷ 0 ∷ 1 ∷ 0 ∷ 0x08 ∷ 0 ∷ 0 ∷ 1 ∷ 0 ∷ 0 ∷ 0 ∷ [])
+    ++ ((0x0A ∷ 0 ∷ 0 ∷ 1 ∷ 0 ∷ 31 ∷ 0x0B ∷ 1 ∷ 0 ∷ 0 ∷ 0 ∷ 1 ∷ 0 ∷ 0x0C ∷ 1 ∷ 0 ∷ 0 ∷ 0 ∷ [])
+    ++ (0x0D ∷ 0 ∷ 1 ∷ 0 ∷ 0 ∷ 0 ∷ 0x0D ∷ 5 ∷ 1 ∷ 2 ∷ 3 ∷ 4 ∷ 0x0E ∷ 0x0E ∷ [])))))
+
+small-is-so : sheetOf large small
+    ≡ record {
+      conditions = join empty (leaf 1) ∷ star (either (leaf 2) empty) ∷ [];
+      points = record { past = 0; own = 1; due = 0 } ∷ record { past = 1; own = 0; due = 1 } ∷ [];
+      methods = record { pre = 1; trace = 0; future = 1; body = some (record { entry = 0; exit = 1 }) } ∷ record { pre = 0; trace = 1; future = 0; body = none } ∷ [];
+      steps = event-step 0 1 31 ∷ callFrom 1 0 1 ∷ pass-step 1 0 ∷ [];
+      certificates = (pair 0 1 ∷ pair 5 0x04030201 ∷ []) ∷ [] ∷ [];
+    }
+unfolding sheetOf
+small-is-so = refl
+
+-- where its conditions, points, methods, steps and certificates start
+starts : Outcome → List (List ℕ)
+starts x = map (λ (k : ℕ). startsOf (stateOf x .own k)) (1 ∷ 2 ∷ 3 ∷ 4 ∷ 5 ∷ [])
+
+small-starts : starts (readSheet large small)
+    ≡ (0 ∷ 8 ∷ []) ∷ (17 ∷ 24 ∷ []) ∷ (31 ∷ 42 ∷ []) ∷ (49 ∷ 55 ∷ 62 ∷ []) ∷ (67 ∷ 80 ∷ []) ∷ []
+unfolding starts readSheet
+small-starts = refl
+
 -- Readings --------------------------------------------------------------------------------------------------------------
 
--- bytes that are read from a tally on, and the number and the place of the refusal, neither where there is none
+-- bytes that are read behind others, and the number and the place of the refusal, neither where there is none
 record Row : Type 0 where
-  tally : Tally
+  before : ℕ → List Counted
   bytes : List ℕ
   refused : List ℕ
 
 abbrev numberAndPlace : Outcome → List ℕ
 numberAndPlace (whole r) = []
-numberAndPlace (refusal n at) = n ∷ at ∷ []
+numberAndPlace (refusal n at r) = n ∷ at ∷ []
 
 -- with as many conditions, points, methods and steps before
 abbrev after : ℕ → ℕ → ℕ → ℕ → List ℕ → List ℕ → Row
-after c p m t s refused =
-    record { tally = record { conditions = c; points = p; methods = m; steps = t; certificates = 0 }; bytes = s; refused = refused }
+after c p m t s refused = record { before = λ k. replicate (getD (0 ∷ c ∷ p ∷ m ∷ t ∷ []) k 0) one; bytes = s; refused = refused }
+  where
+    one : Counted
+    one = record { last = with 0 []; opened = nothing }
 
 abbrev times : ℕ → List ℕ → List ℕ
 times zero s = []
@@ -114,6 +178,12 @@ rows =
     -- "a condition is open and the kind is above 6"
     ∷ after 1 0 0 0 (0x02 ∷ point0) (4 ∷ 1 ∷ [])
     ∷ after 1 0 0 0 (0x02 ∷ 0x0E ∷ []) (4 ∷ 1 ∷ [])
+    -- "the end comes inside a condition or a certificate"
+    ∷ after 0 0 0 0 (0x02 ∷ []) (8 ∷ 1 ∷ [])
+    ∷ after 1 1 0 0 (method0 ++ (0x0D ∷ 0 ∷ 1 ∷ 0 ∷ 0 ∷ 0 ∷ [])) (8 ∷ 17 ∷ [])
+    -- "kind not 1 to 14"; "an event above 31"
+    ∷ after 0 0 0 0 (0x0F ∷ []) (2 ∷ 0 ∷ [])
+    ∷ after 1 1 1 0 (0x0A ∷ 0 ∷ 0 ∷ 0 ∷ 0 ∷ 32 ∷ []) (7 ∷ 0 ∷ [])
     -- "at one record the table's order holds": 3 before 4, 4 before 5, 5 before 6, 6 before 7, 7 before 9, and behind each of the last three
     -- the second alone
     ∷ after 1 0 0 0 (point0 ++ (0x01 ∷ [])) (3 ∷ 7 ∷ [])
@@ -126,15 +196,20 @@ rows =
     ∷ after 2 0 0 0 primitive1 (9 ∷ 0 ∷ [])
     ∷ []
 
-rows-are-so : map (λ x. numberAndPlace (readFrom large (startingFrom (x .tally)) (x .bytes))) rows ≡ map (λ x. x .refused) rows
+rows-are-so : map (λ x. numberAndPlace (readFrom large (startingFrom (x .before)) (x .bytes))) rows ≡ map (λ x. x .refused) rows
 unfolding readFrom
 rows-are-so = refl
 
 -- "65,536 bytes 00: `refused 2 at 0`; 65,537: `refused 1 at 65536`"
-longest-read : readSheet large (replicate 65536 0) ≡ refusal 2 0
+longest-read : readSheet large (replicate 65536 0) ≡ refusal 2 0 fresh
 unfolding readSheet
 longest-read = refl
 
-too-long : readSheet large (replicate 65537 0) ≡ refusal 1 65536
+too-long : readSheet large (replicate 65537 0) ≡ refusal 1 65536 fresh
 unfolding readSheet
 too-long = refl
+
+-- a refusal has what was counted before it: here one condition and one point
+counted-before : starts (readSheet large (0x02 ∷ 0x06 ∷ (point0 ++ point1))) ≡ (0 ∷ []) ∷ (2 ∷ []) ∷ [] ∷ [] ∷ [] ∷ []
+unfolding starts readSheet
+counted-before = refl

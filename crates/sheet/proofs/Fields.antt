@@ -1,10 +1,12 @@
--- The fields of a record: what its bytes, shorts and sets are, and below which number; and the offset after the record.
-use mathlib.Core.Path.{_≡_, refl}
-use mathlib.Core.List.{List}
-use Prim.Native.Nat.{ℕ, _+_, _*_, _^_, _<_}
+-- The fields of a record: what its bytes, shorts and sets are, and below which number; and the fields of each kind's body, one after the other.
+use mathlib.Core.Path.{_≡_, refl, ap, _∙_}
+use mathlib.Core.List.{List, [], _∷_}
+use Prim.Native.Nat.{ℕ, zero, suc, _+_, _*_, _^_, _<_}
 use native.Mathlib.Omega.{arith}
 use lib.ListN.{getD}
-use Rattle.sheet.specs.Record.{Bytes, byteAt, shortAt, setAt, bodyLength, nextAt}
+use Rattle.sheet.specs.Kind.{Field, a-set, an-event, a-place, a-name, width}
+use Rattle.sheet.specs.Record.{Bytes, byteAt, numberAt, valuesAt}
+use Rattle.sheet.specs.AtOffset.{shortAt, setAt}
 
 module _ (s : List ℕ) where
   pub byte-is : (i : ℕ) → byteAt s i ≡ getD s i 0
@@ -19,6 +21,67 @@ module _ (s : List ℕ) where
   unfolding setAt
   set-is i = refl
 
+  -- the same as numbers of so many bytes
+
+  pub byte-value : (at : ℕ) → numberAt s 1 at ≡ byteAt s at
+  unfolding numberAt
+  byte-value at = omega arith
+
+  pub short-value : (at : ℕ) → numberAt s 2 at ≡ shortAt s at
+  unfolding numberAt
+  short-value at = omega (arith, short-is at)
+
+  pub set-value : (at : ℕ) → numberAt s 4 at ≡ setAt s at
+  unfolding numberAt
+  set-value at =
+      let two : at + 1 + 1 ≡ at + 2 = omega arith in
+      let three : at + 1 + 1 + 1 ≡ at + 2 + 1 = omega arith in
+      omega (arith, set-is at, short-is at, short-is (at + 2), ap (byteAt s) two, ap (byteAt s) three)
+
+  -- Values --------------------------------------------------------------------------------------------------------------
+
+  pub value-is : (f : Field) (fs : List Field) (at to : ℕ) → at + width f ≡ to → valuesAt s at (f ∷ fs) ≡ numberAt s (width f) at ∷ valuesAt s to fs
+  unfolding valuesAt
+  value-is f fs at to e = ap (λ (to : ℕ). numberAt s (width f) at ∷ valuesAt s to fs) e
+
+  pub no-value : (at : ℕ) → valuesAt s at [] ≡ []
+  unfolding valuesAt
+  no-value at = refl
+
+  -- a field whose number is v, and the fields behind it
+  field-first : (f : Field) (fs : List Field) (at to v : ℕ) {vs : List ℕ} → at + width f ≡ to → numberAt s (width f) at ≡ v → valuesAt s to fs ≡ vs
+      → valuesAt s at (f ∷ fs) ≡ v ∷ vs
+  field-first f fs at to v e is h = value-is f fs at to e ∙ ap (λ (v : ℕ). v ∷ valuesAt s to fs) is ∙ ap (λ (vs : List ℕ). v ∷ vs) h
+
+  pub name-first : (k : ℕ) (fs : List Field) (at to : ℕ) {vs : List ℕ} → at + 2 ≡ to → valuesAt s to fs ≡ vs
+      → valuesAt s at (a-name k ∷ fs) ≡ shortAt s at ∷ vs
+  name-first k fs at to e h = field-first (a-name k) fs at to (shortAt s at) e (short-value at) h
+
+  pub event-value : (at : ℕ) → valuesAt s at (an-event ∷ []) ≡ byteAt s at ∷ []
+  event-value at = field-first an-event [] at (at + 1) (byteAt s at) refl (byte-value at) (no-value (at + 1))
+
+  pub set-value-alone : (at : ℕ) → valuesAt s at (a-set ∷ []) ≡ setAt s at ∷ []
+  set-value-alone at = field-first a-set [] at (at + 4) (setAt s at) refl (set-value at) (no-value (at + 4))
+
+  module _ (at : ℕ) where
+    pub two-names : (j k : ℕ) (fs : List Field) {vs : List ℕ} → valuesAt s (at + 5) fs ≡ vs
+        → valuesAt s (at + 1) (a-name j ∷ a-name k ∷ fs) ≡ shortAt s (at + 1) ∷ shortAt s (at + 3) ∷ vs
+    two-names j k fs h = name-first j (a-name k ∷ fs) (at + 1) (at + 3) (omega arith) (name-first k fs (at + 3) (at + 5) (omega arith) h)
+
+    pub three-names : (j k l : ℕ) (fs : List Field) {vs : List ℕ} → valuesAt s (at + 7) fs ≡ vs
+        → valuesAt s (at + 1) (a-name j ∷ a-name k ∷ a-name l ∷ fs) ≡ shortAt s (at + 1) ∷ shortAt s (at + 3) ∷ shortAt s (at + 5) ∷ vs
+    three-names j k l fs h = two-names j k (a-name l ∷ fs) (name-first l fs (at + 5) (at + 7) (omega arith) h)
+
+    pub five-names : (j k l m n : ℕ) → valuesAt s (at + 1) (a-name j ∷ a-name k ∷ a-name l ∷ a-name m ∷ a-name n ∷ [])
+        ≡ shortAt s (at + 1) ∷ shortAt s (at + 3) ∷ shortAt s (at + 5) ∷ shortAt s (at + 7) ∷ shortAt s (at + 9) ∷ []
+    five-names j k l m n =
+        three-names j k l _ (name-first m _ (at + 7) (at + 9) (omega arith) (name-first n [] (at + 9) (at + 11) (omega arith) (no-value (at + 11))))
+
+    pub pair-values : valuesAt s (at + 1) (a-place ∷ a-set ∷ []) ≡ byteAt s (at + 1) ∷ setAt s (at + 2) ∷ []
+    pair-values = field-first a-place (a-set ∷ []) (at + 1) (at + 2) (byteAt s (at + 1)) (omega arith) (byte-value (at + 1)) (set-value-alone (at + 2))
+
+  -- Bounds --------------------------------------------------------------------------------------------------------------
+
   module _ (bytes : Bytes s) where
     pub byte-lt : (i : ℕ) → byteAt s i < 256
     byte-lt i = omega (arith, byte-is i, bytes i)
@@ -29,9 +92,15 @@ module _ (s : List ℕ) where
     pub set-lt : (i : ℕ) → setAt s i < 2 ^ 32
     set-lt i = omega (arith, set-is i, short-lt i, short-lt (i + 2))
 
-  pub next-is : (at : ℕ) → nextAt s at ≡ at + 1 + bodyLength (byteAt s at)
-  unfolding nextAt
-  next-is at = refl
+    -- no field has more than four bytes
+    number-lt : (f : Field) (at : ℕ) → numberAt s (width f) at < 2 ^ 32
+    number-lt a-set at = omega (arith, set-value at, set-lt at)
+    number-lt an-event at = omega (arith, byte-value at, byte-lt at)
+    number-lt a-place at = omega (arith, byte-value at, byte-lt at)
+    number-lt (a-name k) at = omega (arith, short-value at, short-lt at)
 
-  pub next-lt : (at : ℕ) → at < nextAt s at
-  next-lt at = omega (arith, next-is at)
+    pub value-lt : (fs : List Field) (at i : ℕ) → getD (valuesAt s at fs) i 0 < 2 ^ 32
+    unfolding valuesAt
+    value-lt [] at i = omega arith
+    value-lt (f ∷ fs) at zero = number-lt f at
+    value-lt (f ∷ fs) at (suc i) = value-lt fs (at + width f) i

@@ -1,45 +1,25 @@
--- The record at an offset, by the byte of its kind.
-use mathlib.Core.Path.{_≡_, refl, sym, ap, _∙_, subst}
-use mathlib.Core.Option.{Option, none, some}
-use mathlib.Core.List.{List, [], _∷_}
-use Prim.Native.Nat.{ℕ, zero, suc, _+_, _<_}
-use lib.ListN.{getD, List·getD-eq-default}
-use lib.Dec.{lit<}
-use Rattle.sheet.specs.Record.{Symbol, leaf-symbol, empty-symbol, join-symbol, either-symbol, star-symbol, Record, symbol-record, end-of-condition, point-record, method-record, step-record, pair-record, end-of-certificate, byteAt, setAt, sectionOf, pointAt, methodAt, stepAt, recordsByKind, recordAt}
+-- The table of kinds, read row by row: what the record of a kind at an offset stands for.
+use mathlib.Core.Path.{_≡_, refl, sym, ap, _∙_}
+use mathlib.Core.Bool.{cond}
+use mathlib.Core.Option.{none, some}
+use mathlib.Core.List.{List, [], _∷_, _++_, append-assoc}
+use Prim.Native.Nat.{ℕ, zero, suc, _+_, _≤_}
+use native.Mathlib.Omega.{arith}
+use lib.ListN.{length, getD, drop}
+use Rattle.condition.specs.Condition.{Condition, join, either, star, noWord}
+use Rattle.certificate.specs.Certificate.{pair}
+use Rattle.sheet.specs.Kind.{a-set, Role, symbol, a-pair, counts, Kind, a-kind, kinds, kindOf, sectionOf}
+use Rattle.sheet.specs.Record.{Record, byteAt, valuesAt, recordAt, value}
+use Rattle.sheet.specs.Reading.{isLeaf}
+use Rattle.sheet.specs.Decode.{pointOf, methodOf, stepOf}
+use Rattle.sheet.specs.AtOffset.{pointAt, methodAt, stepAt, pairAt, Symbol, leaf-symbol, empty-symbol, join-symbol, either-symbol, star-symbol, shortAt, setAt, symbolsByKind, symbolAt, postfix}
+use Rattle.sheet.proofs.Fields.{no-value, event-value, set-value-alone, two-names, three-names, five-names, pair-values}
+use Rattle.sheet.proofs.Symbols.{symbolsIn, leafCount}
 
-module _ (s : List ℕ) (at : ℕ) where
-  by-kind : recordAt s at ≡ getD (recordsByKind s at) (byteAt s at) none
-  unfolding recordAt
-  by-kind = refl
-
-  -- the record of a kind that is known; `kind-is 0 e` says that there is none of kind 0
-  pub kind-is : (k : ℕ) → byteAt s at ≡ k → recordAt s at ≡ getD (recordsByKind s at) k none
-  kind-is k e = by-kind ∙ ap (λ (n : ℕ). getD (recordsByKind s at) n none) e
-
-  -- "kind not 1 to 14"
-  pub kind-above : 14 < byteAt s at → recordAt s at ≡ none
-  kind-above h = by-kind ∙ List·getD-eq-default (recordsByKind s at) none h
-
--- the set of a leaf, and the fields of a record, are those at an offset; and what is needed of its kind k
-abbrev pub SetFits : List ℕ → ℕ → Symbol → Type 0
-SetFits s at (leaf-symbol t) = setAt s (at + 1) ≡ t
-SetFits s at empty-symbol = Unit {0}
-SetFits s at join-symbol = Unit {0}
-SetFits s at either-symbol = Unit {0}
-SetFits s at star-symbol = Unit {0}
-
-abbrev pub Fits : List ℕ → ℕ → ℕ → Option Record → Type 0
-Fits s at k none = Unit {0}
-Fits s at k (some (symbol-record y)) = (sectionOf k ≡ 1) × SetFits s at y
-Fits s at k (some end-of-condition) = k ≡ 6
-Fits s at k (some (point-record p)) = pointAt s at ≡ p
-Fits s at k (some (method-record m)) = methodAt s at ≡ m
-Fits s at k (some (step-record t)) = stepAt s at ≡ t
-Fits s at k (some (pair-record p)) = k ≡ 13
-Fits s at k (some end-of-certificate) = k ≡ 14
+-- Rows --------------------------------------------------------------------------------------------------------------------
 
 infixr 20 _and_
-_and_ : {A B : Type 0} → A → B → A × B
+pub _and_ : {A B : Type 0} → A → B → A × B
 a and b = (a, b)
 
 -- P i of the i-th element, for each i, and of the default past the end
@@ -52,35 +32,128 @@ numbered P [] d h i = h i
 numbered P (x ∷ xs) d h zero = h .0
 numbered P (x ∷ xs) d h (suc i) = numbered (λ i. P (suc i)) xs d (h .1) i
 
--- kind 0, the symbols' kinds 1 to 5, kinds 6 to 14, and those above
-by-table : (s : List ℕ) (at k : ℕ) → Fits s at k (getD (recordsByKind s at) k none)
-by-table s at =
-    numbered (Fits s at) (recordsByKind s at) none
-    (tt and (refl, refl) and (refl, tt) and (refl, tt) and (refl, tt) and (refl, tt)
-    and refl and refl and refl and refl and refl and refl and refl and refl and refl and (λ i. tt))
+-- What a record stands for ------------------------------------------------------------------------------------------------
 
--- the record that stands at an offset fits there
-pub fits : (s : List ℕ) (at : ℕ) (x : Option Record) → recordAt s at ≡ x → Fits s at (byteAt s at) x
-fits s at x e = subst (Fits s at (byteAt s at)) (sym (by-kind s at) ∙ e) (by-table s at (byteAt s at))
+-- a symbol y that takes items and makes one of them: its postfix form is theirs and y
+pub record IsSymbol (s : List ℕ) (at : ℕ) (x : Record) (takes : ℕ) (make : ℕ → Condition → Condition → Condition) : Type 0 where
+  pub y : Symbol
+  pub is : symbolAt s at ≡ some y
+  pub made : (items : List Condition) → takes ≤ length items
+      → symbolsIn (make (value x 0) (getD items 1 noWord) (getD items 0 noWord) ∷ drop takes items) ≡ symbolsIn items ++ (y ∷ [])
+  pub leaf : cond (isLeaf x) 1 0 ≡ leafCount y
 
--- the section of a kind k: 5 for the records of certificates, and below for all others
-abbrev pub Placed : ℕ → Option Record → Type 0
-Placed k none = Unit {0}
-Placed k (some (symbol-record y)) = sectionOf k < 5
-Placed k (some end-of-condition) = sectionOf k < 5
-Placed k (some (point-record p)) = sectionOf k < 5
-Placed k (some (method-record m)) = sectionOf k < 5
-Placed k (some (step-record t)) = sectionOf k < 5
-Placed k (some (pair-record p)) = sectionOf k ≡ 5
-Placed k (some end-of-certificate) = sectionOf k ≡ 5
+-- what counts in a section
+abbrev pub Counts : List ℕ → ℕ → Record → ℕ → Type 0
+Counts s at x zero = Unit {0}
+Counts s at x (suc zero) = symbolAt s at ≡ none
+Counts s at x (suc (suc zero)) = pointAt s at ≡ pointOf x
+Counts s at x (suc (suc (suc zero))) = methodAt s at ≡ methodOf x
+Counts s at x (suc (suc (suc (suc zero)))) = stepAt s at ≡ stepOf x
+Counts s at x (suc (suc (suc (suc (suc zero))))) = byteAt s at ≡ 14
+Counts s at x (suc (suc (suc (suc (suc (suc k)))))) = ⊥
 
-pub placed : (s : List ℕ) (at : ℕ) (x : Option Record) → recordAt s at ≡ x → Placed (byteAt s at) x
-placed s at x e =
-    let one : 1 < 5 = lit< tt in
-    let two : 2 < 5 = lit< tt in
-    let three : 3 < 5 = lit< tt in
-    let four : 4 < 5 = lit< tt in
-    subst (Placed (byteAt s at)) (sym (by-kind s at) ∙ e)
-    (numbered Placed (recordsByKind s at) none
-    (tt and one and one and one and one and one and one and two and three and three and four and four and four and refl and refl and (λ i. tt))
-    (byteAt s at))
+-- the record x of a section, by its role
+abbrev pub Fits : List ℕ → ℕ → Record → ℕ → Role → Type 0
+Fits s at x section (symbol takes make) = (section ≡ 1) × IsSymbol s at x takes make
+Fits s at x section a-pair = (section ≡ 5) × (byteAt s at ≡ 13) × (pair (value x 0) (value x 1) ≡ pairAt s at)
+Fits s at x section counts = Counts s at x section
+
+-- Row by row ----------------------------------------------------------------------------------------------------------------
+
+join-made : (items : List Condition) → 2 ≤ length items
+    → symbolsIn (join (getD items 1 noWord) (getD items 0 noWord) ∷ drop 2 items) ≡ symbolsIn items ++ (join-symbol ∷ [])
+unfolding symbolsIn postfix
+join-made [] h = absurd (omega arith)
+join-made (b ∷ []) h = absurd (omega arith)
+join-made (b ∷ a ∷ items) h = simp append-assoc
+
+either-made : (items : List Condition) → 2 ≤ length items
+    → symbolsIn (either (getD items 1 noWord) (getD items 0 noWord) ∷ drop 2 items) ≡ symbolsIn items ++ (either-symbol ∷ [])
+unfolding symbolsIn postfix
+either-made [] h = absurd (omega arith)
+either-made (b ∷ []) h = absurd (omega arith)
+either-made (b ∷ a ∷ items) h = simp append-assoc
+
+star-made : (items : List Condition) → 1 ≤ length items → symbolsIn (star (getD items 0 noWord) ∷ drop 1 items) ≡ symbolsIn items ++ (star-symbol ∷ [])
+unfolding symbolsIn postfix
+star-made [] h = absurd (omega arith)
+star-made (a ∷ items) h = simp append-assoc
+
+module _ (s : List ℕ) (at : ℕ) where
+  -- the record of a kind with these fields
+  abbrev with : ℕ → List ℕ → Record
+  with k vs = record { at = at; kind = k; values = vs }
+
+  pub symbol-is : (k : ℕ) → byteAt s at ≡ k → symbolAt s at ≡ getD (symbolsByKind s at) k none
+  unfolding symbolAt
+  symbol-is k e = ap (λ (k : ℕ). getD (symbolsByKind s at) k none) e
+
+  point-is : pointAt s at ≡ pointOf (with 7 (shortAt s (at + 1) ∷ shortAt s (at + 3) ∷ shortAt s (at + 5) ∷ []))
+  unfolding pointAt
+  point-is = refl
+
+  method-is : (k : ℕ) → byteAt s at ≡ k
+      → methodAt s at ≡ methodOf (with k (shortAt s (at + 1) ∷ shortAt s (at + 3) ∷ shortAt s (at + 5) ∷ shortAt s (at + 7) ∷ shortAt s (at + 9) ∷ []))
+  unfolding methodAt
+  method-is k e =
+      ap (λ (k : ℕ). methodOf (with k (shortAt s (at + 1) ∷ shortAt s (at + 3) ∷ shortAt s (at + 5) ∷ shortAt s (at + 7) ∷ shortAt s (at + 9) ∷ []))) e
+
+  event-is : byteAt s at ≡ 10 → stepAt s at ≡ stepOf (with 10 (shortAt s (at + 1) ∷ shortAt s (at + 3) ∷ byteAt s (at + 5) ∷ []))
+  unfolding stepAt
+  event-is e = simp e
+
+  call-is : byteAt s at ≡ 11 → stepAt s at ≡ stepOf (with 11 (shortAt s (at + 1) ∷ shortAt s (at + 3) ∷ shortAt s (at + 5) ∷ []))
+  unfolding stepAt
+  call-is e = simp e
+
+  pass-is : byteAt s at ≡ 12 → stepAt s at ≡ stepOf (with 12 (shortAt s (at + 1) ∷ shortAt s (at + 3) ∷ []))
+  unfolding stepAt
+  pass-is e = simp e
+
+  pair-is : pairAt s at ≡ pair (byteAt s (at + 1)) (setAt s (at + 2))
+  unfolding pairAt
+  pair-is = refl
+
+  abbrev Row : ℕ → Kind → Type 0
+  Row k row = byteAt s at ≡ k → Fits s at (with k (valuesAt s (at + 1) (row .fields))) (row .section) (row .role)
+
+  leaf-row : Row 1 (kindOf 1)
+  unfolding symbolsIn postfix
+  leaf-row e = (
+    refl,
+    record {
+      y = leaf-symbol (getD (valuesAt s (at + 1) (a-set ∷ [])) 0 0);
+      is = symbol-is 1 e ∙ ap (λ (vs : List ℕ). some (leaf-symbol (getD vs 0 0))) (sym (set-value-alone s (at + 1)));
+      made = λ items h. refl;
+      leaf = refl;
+    },
+  )
+
+  empty-row : Row 2 (kindOf 2)
+  unfolding symbolsIn postfix
+  empty-row e = (refl, record { y = empty-symbol; is = symbol-is 2 e; made = λ items h. refl; leaf = refl })
+
+  fits-row : (k : ℕ) → Row k (kindOf k)
+  fits-row =
+      numbered Row kinds (a-kind 0 counts [])
+      ((λ e. tt)
+      and leaf-row
+      and empty-row
+      and (λ e. (refl, record { y = join-symbol; is = symbol-is 3 e; made = join-made; leaf = refl }))
+      and (λ e. (refl, record { y = either-symbol; is = symbol-is 4 e; made = either-made; leaf = refl }))
+      and (λ e. (refl, record { y = star-symbol; is = symbol-is 5 e; made = star-made; leaf = refl }))
+      and symbol-is 6
+      and (λ e. point-is ∙ ap (λ (vs : List ℕ). pointOf (with 7 vs)) (sym (three-names s at 1 1 1 [] (no-value s (at + 7)))))
+      and (λ e. method-is 8 e ∙ ap (λ (vs : List ℕ). methodOf (with 8 vs)) (sym (three-names s at 1 1 1 [] (no-value s (at + 7)))))
+      and (λ e. method-is 9 e ∙ ap (λ (vs : List ℕ). methodOf (with 9 vs)) (sym (five-names s at 1 1 1 2 2)))
+      and (λ e. event-is e ∙ ap (λ (vs : List ℕ). stepOf (with 10 vs)) (sym (two-names s at 2 2 _ (event-value s (at + 5)))))
+      and (λ e. call-is e ∙ ap (λ (vs : List ℕ). stepOf (with 11 vs)) (sym (three-names s at 2 2 3 [] (no-value s (at + 7)))))
+      and (λ e. pass-is e ∙ ap (λ (vs : List ℕ). stepOf (with 12 vs)) (sym (two-names s at 2 2 [] (no-value s (at + 5)))))
+      and (λ e. (refl, e, ap (λ (vs : List ℕ). pair (getD vs 0 0) (getD vs 1 0)) (pair-values s at) ∙ sym pair-is))
+      and (λ e. e)
+      and (λ i e. tt))
+
+  -- the record at an offset fits there
+  pub fits : Fits s at (recordAt s at) (sectionOf (byteAt s at)) (kindOf (byteAt s at) .role)
+  unfolding recordAt
+  fits = fits-row (byteAt s at) refl

@@ -1,15 +1,16 @@
 -- A record that is taken: none of the refusals 2 to 7 and 9 applies to it.
 use mathlib.Core.Path.{_≡_, refl, sym, ap, _∙_, subst}
 use mathlib.Core.Bool.{Bool, true, false, not, _&&_, _||_}
-use mathlib.Core.Option.{Option, none, some}
 use mathlib.Core.List.{List}
-use Prim.Native.Nat.{ℕ, zero, suc, _≤_}
+use Prim.Native.Nat.{ℕ, zero, suc, _+_, _≤_, _<_}
+use native.Mathlib.Omega.{arith}
 use lib.ListN.{length}
-use lib.Dec.{T, ltb}
+use lib.Dec.{T, eqb, ltb}
 use borrow.Author.Tests.{ltb-false, not-false}
 use Rattle.sheet.specs.Model.{Model}
-use Rattle.sheet.specs.Record.{Record, byteAt, sectionOf, nextAt, recordAt}
-use Rattle.sheet.specs.Reading.{Reading, itemsOf, conditionOpen, wrongItems, overLimit, named, firstIsPrimitive, _when_else_, refusalOf, readingPast, Taken, taken, not-taken, takenBy, takeAt}
+use Rattle.sheet.specs.Kind.{bodyLength, kindOf, sectionOf}
+use Rattle.sheet.specs.Record.{byteAt, valuesAt, recordAt, nextAt}
+use Rattle.sheet.specs.Reading.{Reading, tally, wrongItems, overLimit, allExist, isPrimitive, noneYet, _when_else_, refusalOf, readingPast, Outcome, whole, refusal, refusedOr, takeAt}
 
 pub or-false : (a b : Bool) → (a || b) ≡ false → (a ≡ false) × (b ≡ false)
 or-false true b e = absurd (subst T e tt)
@@ -24,65 +25,87 @@ pub when-zero : (n : ℕ) (b : Bool) (m : ℕ) → (suc n when b else m) ≡ 0 �
 when-zero n true m e = absurd (subst IsZero (sym e) tt)
 when-zero n false m e = (refl, e)
 
--- the record x stands at an offset, and is taken in the state r; t is the state past it
+module _ (s : List ℕ) (at : ℕ) where
+  pub next-is : nextAt s at ≡ at + 1 + bodyLength (byteAt s at)
+  unfolding nextAt
+  next-is = refl
+
+  pub next-lt : at < nextAt s at
+  next-lt = omega (arith, next-is)
+
+  pub record-is : recordAt s at ≡ record { at = at; kind = byteAt s at; values = valuesAt s (at + 1) (kindOf (byteAt s at) .fields) }
+  unfolding recordAt
+  record-is = refl
+
+-- the record at an offset is taken in the state r; t is the state past it
 pub record Took (M : Model) (s : List ℕ) (at : ℕ) (r t : Reading) : Type 0 where
-  pub x : Record
   -- not 2
-  pub is : recordAt s at ≡ some x
+  pub known : (eqb (byteAt s at) 0 || ltb (M .kinds) (byteAt s at)) ≡ false
   -- not 3
   pub inside : nextAt s at ≤ length s
   -- not 4
   pub in-order : r .section ≤ sectionOf (byteAt s at)
-  pub none-open : (conditionOpen (r .unended) && ltb 6 (byteAt s at)) ≡ false
+  pub none-open : (eqb (r .opened .section) 1 && ltb 1 (sectionOf (byteAt s at))) ≡ false
   -- not 5
-  pub items : wrongItems x (itemsOf (r .unended)) ≡ false
+  pub items : wrongItems (sectionOf (byteAt s at)) (kindOf (byteAt s at) .role) (length (r .opened .items)) ≡ false
   -- not 6
-  pub room : overLimit M r x ≡ false
+  pub room : overLimit M r (recordAt s at) (sectionOf (byteAt s at)) (kindOf (byteAt s at) .role) ≡ false
   -- not 7
-  pub names : T (named (M .events) (r .tally) x)
+  pub names : T (allExist (M .events) (tally r) (kindOf (byteAt s at) .fields) (recordAt s at .values))
   -- not 9
-  pub first : firstIsPrimitive (r .offsets) x ≡ false
-  pub past : t ≡ readingPast r (byteAt s at) at x
+  pub first : (isPrimitive (recordAt s at) && noneYet (r .own 3)) ≡ false
+  pub past : t ≡ readingPast r (recordAt s at) (kindOf (byteAt s at))
 
-pub take-is : (M : Model) (s : List ℕ) (at : ℕ) (r : Reading) → takeAt M s at r ≡ takenBy s at r (recordAt s at) (refusalOf M s at r (recordAt s at))
-unfolding takeAt
-take-is M s at r = refl
+module _ (M : Model) (s : List ℕ) (at : ℕ) (r : Reading) where
+  -- the number of the refusal of the record at an offset, 0 if it has none
+  abbrev pub numberAtRecord : ℕ
+  numberAtRecord = refusalOf M s r (recordAt s at) (nextAt s at) (kindOf (byteAt s at))
 
-abbrev IsTaken : Taken → Type 0
-IsTaken (taken t) = Unit {0}
-IsTaken (not-taken n) = ⊥
+  pub take-is : takeAt M s at r ≡ refusedOr numberAtRecord at r (readingPast r (recordAt s at) (kindOf (byteAt s at)))
+  unfolding takeAt
+  take-is = refl
 
-abbrev stateIn : Reading → Taken → Reading
-stateIn d (taken t) = t
-stateIn d (not-taken n) = d
+  kind-is : recordAt s at .kind ≡ byteAt s at
+  unfolding recordAt
+  kind-is = refl
 
-module _ (M : Model) (s : List ℕ) (at : ℕ) (r t : Reading) where
-  by-tests : (x : Record) → recordAt s at ≡ some x → refusalOf M s at r (some x) ≡ 0 → t ≡ readingPast r (byteAt s at) at x → Took M s at r t
-  by-tests x is e past =
+  by-tests : (t : Reading) → numberAtRecord ≡ 0 → t ≡ readingPast r (recordAt s at) (kindOf (byteAt s at)) → Took M s at r t
+  by-tests t e past =
+      let b = byteAt s at in
+      let (two, e) = when-zero 1 (eqb (recordAt s at .kind) 0 || ltb (M .kinds) (recordAt s at .kind)) _ e in
       let (three, e) = when-zero 2 (ltb (length s) (nextAt s at)) _ e in
-      let (four, e) = when-zero 3 (ltb (sectionOf (byteAt s at)) (r .section) || (conditionOpen (r .unended) && ltb 6 (byteAt s at))) _ e in
-      let (five, e) = when-zero 4 (wrongItems x (itemsOf (r .unended))) _ e in
-      let (six, e) = when-zero 5 (overLimit M r x) _ e in
-      let (seven, e) = when-zero 6 (not (named (M .events) (r .tally) x)) _ e in
-      let (nine, e) = when-zero 8 (firstIsPrimitive (r .offsets) x) _ e in
-      let (order, condition) = or-false (ltb (sectionOf (byteAt s at)) (r .section)) (conditionOpen (r .unended) && ltb 6 (byteAt s at)) four in
+      let (four, e) = when-zero 3 (ltb (sectionOf b) (r .section) || (eqb (r .opened .section) 1 && ltb 1 (sectionOf b))) _ e in
+      let (five, e) = when-zero 4 (wrongItems (sectionOf b) (kindOf b .role) (length (r .opened .items))) _ e in
+      let (six, e) = when-zero 5 (overLimit M r (recordAt s at) (sectionOf b) (kindOf b .role)) _ e in
+      let (seven, e) = when-zero 6 (not (allExist (M .events) (tally r) (kindOf b .fields) (recordAt s at .values))) _ e in
+      let (nine, e) = when-zero 8 (isPrimitive (recordAt s at) && noneYet (r .own 3)) _ e in
+      let (order, condition) = or-false (ltb (sectionOf b) (r .section)) (eqb (r .opened .section) 1 && ltb 1 (sectionOf b)) four in
       record {
-        x = x;
-        is = is;
+        known = subst (λ (k : ℕ). (eqb k 0 || ltb (M .kinds) k) ≡ false) kind-is two;
         inside = ltb-false (length s) (nextAt s at) three;
-        in-order = ltb-false (sectionOf (byteAt s at)) (r .section) order;
+        in-order = ltb-false (sectionOf b) (r .section) order;
         none-open = condition;
         items = five;
         room = six;
-        names = subst T (sym (not-false (named (M .events) (r .tally) x) seven)) tt;
+        names = subst T (sym (not-false (allExist (M .events) (tally r) (kindOf b .fields) (recordAt s at .values)) seven)) tt;
         first = nine;
         past = past;
       }
 
-  by-cases : (x : Option Record) → recordAt s at ≡ x → (n : ℕ) → refusalOf M s at r x ≡ n → takenBy s at r x n ≡ taken t → Took M s at r t
-  by-cases none is n e h = absurd (subst IsTaken (sym h) tt)
-  by-cases (some x) is zero e h = by-tests x is e (sym (ap (stateIn r) h))
-  by-cases (some x) is (suc n) e h = absurd (subst IsTaken (sym h) tt)
+abbrev IsWhole : Outcome → Type 0
+IsWhole (whole r) = Unit {0}
+IsWhole (refusal n at r) = ⊥
 
-  pub took : takeAt M s at r ≡ taken t → Took M s at r t
-  took h = by-cases (recordAt s at) refl (refusalOf M s at r (recordAt s at)) refl (sym (take-is M s at r) ∙ h)
+abbrev readingIn : Reading → Outcome → Reading
+readingIn d (whole r) = r
+readingIn d (refusal n at r) = d
+
+-- an outcome that goes on has no refusal
+pub goes-on : (n at : ℕ) (r t t′ : Reading) → refusedOr n at r t ≡ whole t′ → (n ≡ 0) × (t′ ≡ t)
+goes-on zero at r t t′ e = (refl, sym (ap (readingIn r) e))
+goes-on (suc n) at r t t′ e = absurd (subst IsWhole (sym e) tt)
+
+pub took : (M : Model) (s : List ℕ) (at : ℕ) (r t : Reading) → takeAt M s at r ≡ whole t → Took M s at r t
+took M s at r t h =
+    let (none-applies, past) = goes-on (numberAtRecord M s at r) at r _ t (sym (take-is M s at r) ∙ h) in
+    by-tests M s at r t none-applies past

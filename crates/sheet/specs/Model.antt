@@ -2,18 +2,17 @@
 use Prim.Native.Nat.{ℕ}
 
 pub record Model : Type 0 where
-  -- "Limits: 65,536 bytes"
+  -- "65,536 bytes"; "512 points"; "Events are 0 to 31": how many there are; "kind not 1 to 14": the highest kind that is taken
   pub bytes : ℕ
-  -- "512 points"
   pub points : ℕ
-  -- "Events are 0 to 31": how many there are
   pub events : ℕ
+  pub kinds : ℕ
 
 -- the large two-channel instrument, which is document 01's
 abbrev pub large : Model
-large = record { bytes = 65536; points = 512; events = 32 }
+large = record { bytes = 65536; points = 512; events = 32; kinds = 14 }
 
--- "256 conditions; 96 records of kinds 1-5 and 31 leaves in a condition; .. 64 methods; 512 steps"
+-- "256 conditions; 96 records of kinds 1-5 and 31 leaves in a condition; .. 64 methods; 512 steps"; "word longer than 4,096"
 abbrev pub conditionLimit : ℕ
 conditionLimit = 256
 
@@ -29,6 +28,5 @@ methodLimit = 64
 abbrev pub stepLimit : ℕ
 stepLimit = 512
 
--- "word longer than 4,096"
 abbrev pub wordLimit : ℕ
 wordLimit = 4096

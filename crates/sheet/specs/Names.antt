@@ -1,5 +1,5 @@
 -- What holds of each sheet that is read whole: every name exists (document 01, "Names point only backward"; proofs/Named), the event of each step is
--- one of the instrument's, and the first method has a body (proofs/Kept).
+-- one of the instrument's (proofs/Named), and the first method has a body (proofs/First).
 use Prim.Native.Nat.{ℕ, _<_}
 use mathlib.Core.Option.{Option, none, some}
 use lib.ListN.{length}

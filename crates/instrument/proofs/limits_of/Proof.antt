@@ -1,7 +1,5 @@
 use Rattle.instrument.proofs.limits_of.Statement.{statement}
 use Rattle.instrument.proofs.limits_of.Tie as tie
-use Rattle.instrument.proofs.limits_of.Reads as reads
-use Rattle.instrument.proofs.limits_of.Lts as lts
 use mathlib.Core.Path.{_≡_, refl}
 use Rattle.instrument.specs.declared.Instrument.{Instrument}
 use Rattle.instrument.specs.declared.Instrument.the-variants.{Large}

@@ -1,0 +1,63 @@
+-- The pairs of a certificate, record after record.
+use mathlib.Core.Path.{_≡_, refl, ap, _∙_}
+use mathlib.Core.Bool.{Bool, cond}
+use mathlib.Core.List.{List, [], _∷_, _++_}
+use Prim.Native.Nat.{ℕ, zero, suc, _+_, _*_, _<_}
+use native.Mathlib.Nat.{le-of-suc-le-suc, not-suc-le-zero}
+use native.Mathlib.Omega.{arith}
+use lib.ListN.{length}
+use lib.Dec.{eqb}
+use borrow.Author.Tests.{eq-eqb, ne-eqb}
+use Rattle.certificate.specs.Certificate.{Certificate}
+use Rattle.sheet.specs.Kind.{bodyLength}
+use Rattle.sheet.specs.Record.{byteAt, nextAt}
+use Rattle.sheet.specs.AtOffset.{pairAt, pairsOn, certificateAt}
+use Rattle.sheet.proofs.Take.{next-is}
+
+module _ (s : List ℕ) (at : ℕ) where
+  -- a pair is six bytes, the end of a certificate one
+  pub pair-next : byteAt s at ≡ 13 → nextAt s at ≡ at + 6
+  pair-next e = let length : bodyLength (byteAt s at) ≡ 5 = ap bodyLength e in omega (arith, next-is s at)
+
+  pub end-next : byteAt s at ≡ 14 → nextAt s at ≡ suc at
+  end-next e = let length : bodyLength (byteAt s at) ≡ 0 = ap bodyLength e in omega (arith, next-is s at)
+
+  on-is : (fuel : ℕ) → pairsOn s (suc fuel) at ≡ cond (eqb (byteAt s at) 13) (pairAt s at ∷ pairsOn s fuel (nextAt s at)) []
+  unfolding pairsOn
+  on-is fuel = refl
+
+  pub pair-on : (fuel : ℕ) → byteAt s at ≡ 13 → pairsOn s (suc fuel) at ≡ pairAt s at ∷ pairsOn s fuel (at + 6)
+  pair-on fuel e =
+      on-is fuel
+      ∙ ap (λ (b : Bool). cond b (pairAt s at ∷ pairsOn s fuel (nextAt s at)) []) (eq-eqb (byteAt s at) 13 e)
+      ∙ ap (λ (n : ℕ). pairAt s at ∷ pairsOn s fuel n) (pair-next e)
+
+  pub pair-off : (fuel : ℕ) → (byteAt s at ≡ 13 → ⊥) → pairsOn s fuel at ≡ []
+  unfolding pairsOn
+  pair-off zero n = refl
+  pair-off (suc fuel) n = ap (λ (b : Bool). cond b (pairAt s at ∷ pairsOn s fuel (nextAt s at)) []) (ne-eqb (byteAt s at) 13 n)
+
+-- these pairs stand from an offset on, and the record after them at the offset `end`
+pub data PairsTo (s : List ℕ) (end : ℕ) : ℕ → Certificate → Type 0 where
+  no-pair : PairsTo s end end []
+  one-pair : {at : ℕ} {ps : Certificate} → byteAt s at ≡ 13 → PairsTo s end (at + 6) ps → PairsTo s end at (pairAt s at ∷ ps)
+
+module _ (s : List ℕ) (end : ℕ) where
+  pub one-pair-more : {at : ℕ} {ps : Certificate} → byteAt s end ≡ 13 → PairsTo s end at ps → PairsTo s (end + 6) at (ps ++ (pairAt s end ∷ []))
+  one-pair-more e no-pair = one-pair e no-pair
+  one-pair-more e (one-pair f t) = one-pair f (one-pair-more e t)
+
+  pub pairs-end : {at : ℕ} {ps : Certificate} → PairsTo s end at ps → end ≡ at + 6 * length ps
+  pairs-end no-pair = omega arith
+  pairs-end (one-pair e t) = omega (arith, pairs-end t)
+
+  pairs-on : (byteAt s end ≡ 13 → ⊥) → (fuel : ℕ) {at : ℕ} {ps : Certificate} → length ps < fuel → PairsTo s end at ps → pairsOn s fuel at ≡ ps
+  pairs-on closes zero h t = absurd (not-suc-le-zero h)
+  pairs-on closes (suc fuel) h no-pair = pair-off s end (suc fuel) closes
+  pairs-on closes (suc fuel) h (one-pair {at = at} e t) =
+      pair-on s at fuel e ∙ ap (λ (ps : Certificate). pairAt s at ∷ ps) (pairs-on closes fuel (le-of-suc-le-suc h) t)
+
+  -- they are the certificate there
+  pub certificate-stands : (byteAt s end ≡ 13 → ⊥) → end < length s → {at : ℕ} {ps : Certificate} → PairsTo s end at ps → certificateAt s at ≡ ps
+  unfolding certificateAt
+  certificate-stands closes inside t = pairs-on closes (length s) (omega (arith, pairs-end t)) t

@@ -1,0 +1,102 @@
+-- What stands at an offset of a sheet's bytes, in the shapes that the code's contracts cite. No definition of reading or of a verdict uses them;
+-- proofs/Standing shows that they are what was read.
+use Prim.Native.Nat.{ℕ, zero, suc, _+_, _*_}
+use mathlib.Core.Path.{_≡_}
+use mathlib.Core.Bool.{cond}
+use mathlib.Core.Option.{Option, none, some}
+use mathlib.Core.List.{List, [], _∷_, _++_}
+use lib.ListN.{length, getD}
+use lib.Dec.{eqb}
+use Rattle.condition.specs.Condition.{Condition, leaf, empty, join, either, star}
+use Rattle.certificate.specs.Certificate.{Pair, pair, Certificate}
+use Rattle.sheet.specs.Sheet.{Point, Method, Step, event-step, callFrom, pass-step}
+use Rattle.sheet.specs.Record.{byteAt, nextAt}
+use Rattle.sheet.specs.Reading.{Counted, startOf, item}
+
+-- Fields --------------------------------------------------------------------------------------------------------------
+
+-- the numbers in two bytes and in four
+unfoldable pub shortAt : List ℕ → ℕ → ℕ
+unfolding byteAt
+shortAt s i = byteAt s i + 256 * byteAt s (i + 1)
+
+unfoldable pub setAt : List ℕ → ℕ → ℕ
+unfolding shortAt
+setAt s i = shortAt s i + 65536 * shortAt s (i + 2)
+
+-- what a record of kind 7, of kinds 8 and 9, of kinds 10 to 12, and of kind 13 stands for
+unfoldable pub pointAt : List ℕ → ℕ → Point
+unfolding shortAt
+pointAt s at = record { past = shortAt s (at + 1); own = shortAt s (at + 3); due = shortAt s (at + 5) }
+
+unfoldable pub methodAt : List ℕ → ℕ → Method
+unfolding shortAt
+methodAt s at =
+    record {
+      pre = shortAt s (at + 1);
+      trace = shortAt s (at + 3);
+      future = shortAt s (at + 5);
+      body = cond (eqb (byteAt s at) 8) none (some (record { entry = shortAt s (at + 7); exit = shortAt s (at + 9) }));
+    }
+
+unfoldable pub stepAt : List ℕ → ℕ → Step
+unfolding shortAt
+stepAt s at =
+    cond (eqb (byteAt s at) 10) (event-step (shortAt s (at + 1)) (shortAt s (at + 3)) (byteAt s (at + 5)))
+    (cond (eqb (byteAt s at) 11) (callFrom (shortAt s (at + 1)) (shortAt s (at + 3)) (shortAt s (at + 5)))
+    (pass-step (shortAt s (at + 1)) (shortAt s (at + 3))))
+
+unfoldable pub pairAt : List ℕ → ℕ → Pair
+unfolding setAt
+pairAt s at = pair (byteAt s (at + 1)) (setAt s (at + 2))
+
+-- Conditions ----------------------------------------------------------------------------------------------------------
+
+-- kinds 1 to 5, the symbols of a condition's postfix form: "leaf" and "EMPTY, JOIN, EITHER, STAR"
+pub data Symbol : Type 0 where
+  leaf-symbol : (set : ℕ) → Symbol
+  empty-symbol join-symbol either-symbol star-symbol : Symbol
+
+-- the symbol at an offset, by its kind
+abbrev pub symbolsByKind : List ℕ → ℕ → List (Option Symbol)
+symbolsByKind s at =
+    none ∷ some (leaf-symbol (setAt s (at + 1))) ∷ some empty-symbol ∷ some join-symbol ∷ some either-symbol ∷ some star-symbol ∷ []
+
+unfoldable pub symbolAt : List ℕ → ℕ → Option Symbol
+unfolding setAt
+symbolAt s at = getD (symbolsByKind s at) (byteAt s at) none
+
+abbrev pub inFront : {A : Type 0} → Option A → List A → List A
+inFront none xs = []
+inFront (some x) xs = x ∷ xs
+
+-- the symbols from an offset on, up to the first record that is none; a record has a byte or more, so as much fuel as there are bytes is enough
+unfoldable pub symbolsOn : List ℕ → ℕ → ℕ → List Symbol
+symbolsOn s zero at = []
+symbolsOn s (suc fuel) at = let more = symbolsOn s fuel (nextAt s at) in inFront (symbolAt s at) more
+
+unfoldable pub symbolsAt : List ℕ → ℕ → List Symbol
+unfolding symbolAt nextAt symbolsOn
+symbolsAt s at = symbolsOn s (length s) at
+
+unfoldable pub postfix : Condition → List Symbol
+postfix (leaf t) = leaf-symbol t ∷ []
+postfix empty = empty-symbol ∷ []
+postfix (join a b) = postfix a ++ (postfix b ++ (join-symbol ∷ []))
+postfix (either a b) = postfix a ++ (postfix b ++ (either-symbol ∷ []))
+postfix (star a) = postfix a ++ (star-symbol ∷ [])
+
+-- "Conditions are in postfix order": the symbols where a condition starts that was counted are its postfix form
+abbrev pub InPostfix : List ℕ → Counted → Type 0
+InPostfix s c = symbolsAt s (startOf (c .opened) (c .last .at)) ≡ postfix (item (c .opened) 0)
+
+-- Certificates --------------------------------------------------------------------------------------------------------
+
+-- the pairs from an offset on, up to the first record that is none
+unfoldable pub pairsOn : List ℕ → ℕ → ℕ → Certificate
+pairsOn s zero at = []
+pairsOn s (suc fuel) at = let more = pairAt s at ∷ pairsOn s fuel (nextAt s at) in cond (eqb (byteAt s at) 13) more []
+
+unfoldable pub certificateAt : List ℕ → ℕ → Certificate
+unfolding pairAt nextAt pairsOn
+certificateAt s at = pairsOn s (length s) at
