@@ -5,6 +5,7 @@ use mathlib.Core.Option.{Option, none, some}
 use Rattle.verdict.specs.Verdict.{Report, accepted, refused, unproved}
 use Rattle.verdict.specs.WordTest.{Answer, tested, untested}
 use Rattle.format.specs.Refusal.{numberOf, placeOf}
+use Rattle.faults.specs.Fault.{faultOf}
 use Rattle.answers.specs.declared.Rule.{Rule}
 use Rattle.answers.specs.declared.Rule.the-variants.{FirstPre, FirstFuture, EntryPast, EntryOwn, ExitOwn, ExitDue, EventPast, EventOwn, EventDue, CallPre, CallPast, CallOwn, CallFuture, CallDue, PassPast, PassOwn, PassDue}
 use Rattle.answers.specs.declared.Place.{Place}
@@ -33,7 +34,7 @@ ruleNumber (PassPast k) = 15
 ruleNumber (PassOwn k) = 16
 ruleNumber (PassDue k) = 17
 
--- a rule's method, and from rule 7 on its step
+-- the number of a rule's method or step
 abbrev pub ruleSubject : Rule → ℕ
 ruleSubject (FirstPre k) = k
 ruleSubject (FirstFuture k) = k
@@ -60,7 +61,7 @@ placeIn Nowhere = none
 abbrev pub reportOf : Verdict → Report
 reportOf (Accepted n) = accepted n
 reportOf (RefusedSheet x) = refused (numberOf x) (placeOf x)
-reportOf (Unproved r c i e l) = unproved (ruleNumber r) (ruleSubject r) c i e l
+reportOf (Unproved r f) = unproved (ruleNumber r) (ruleSubject r) (faultOf f)
 
 abbrev pub answerOf : WordAnswer → Answer
 answerOf Yes = tested true

@@ -1,8 +1,10 @@
 // The answers of the loader and of the word test, and document 01's numbers for them.
 ghost use mathlib.Core.Path.{_≡_};
-ghost use Prim.Native.Nat.{_≤_};
+ghost use Prim.Native.Nat.{_<_};
+ghost use Rattle.runs.specs.Rules.{ofMethod};
 ghost use Rattle.format.specs.Refusal.{numberOf, placeOf};
 ghost use Rattle.answers.specs.Answers.{ruleNumber, ruleSubject, placeIn};
+use faults::Fault;
 use format::Refusal;
 
 // The rules 1 to 17, each with its method or its step.
@@ -30,13 +32,7 @@ pub enum Rule {
 pub enum Verdict {
     Accepted(usize),
     Refused(Refusal),
-    Unproved {
-        rule: Rule,
-        clause: usize,
-        pair: usize,
-        event: usize,
-        place: usize,
-    },
+    Unproved { rule: Rule, fault: Fault },
 }
 
 // What the word test returns.
@@ -52,9 +48,13 @@ pub enum Place {
     Nowhere,
 }
 
+// The rules about a method; the others are about a step.
+const RULES_OF_METHODS: [usize; 6] = [1, 2, 3, 4, 5, 6];
+
+// A rule's number, which has at most two digits.
 pub fn rule_number(r: Rule) -> usize
     ensures { λ n. ⌜ n ≡ ruleNumber r ⌝ }
-    ensures { λ n. ⌜ n ≤ 17 ⌝ }
+    ensures { λ n. ⌜ n < 100 ⌝ }
 {
     match r {
         Rule::FirstPre(_) => 1,
@@ -77,28 +77,43 @@ pub fn rule_number(r: Rule) -> usize
     }
 }
 
+// The number of a rule's method or step.
 pub fn rule_subject(r: Rule) -> usize
     ensures { λ k. ⌜ k ≡ ruleSubject r ⌝ }
 {
     match r {
-        Rule::FirstPre(k) => k,
-        Rule::FirstFuture(k) => k,
-        Rule::EntryPast(k) => k,
-        Rule::EntryOwn(k) => k,
-        Rule::ExitOwn(k) => k,
-        Rule::ExitDue(k) => k,
-        Rule::EventPast(k) => k,
-        Rule::EventOwn(k) => k,
-        Rule::EventDue(k) => k,
-        Rule::CallPre(k) => k,
-        Rule::CallPast(k) => k,
-        Rule::CallOwn(k) => k,
-        Rule::CallFuture(k) => k,
-        Rule::CallDue(k) => k,
-        Rule::PassPast(k) => k,
-        Rule::PassOwn(k) => k,
-        Rule::PassDue(k) => k,
+        Rule::FirstPre(k)
+        | Rule::FirstFuture(k)
+        | Rule::EntryPast(k)
+        | Rule::EntryOwn(k)
+        | Rule::ExitOwn(k)
+        | Rule::ExitDue(k)
+        | Rule::EventPast(k)
+        | Rule::EventOwn(k)
+        | Rule::EventDue(k)
+        | Rule::CallPre(k)
+        | Rule::CallPast(k)
+        | Rule::CallOwn(k)
+        | Rule::CallFuture(k)
+        | Rule::CallDue(k)
+        | Rule::PassPast(k)
+        | Rule::PassOwn(k)
+        | Rule::PassDue(k) => k,
     }
+}
+
+// Whether a rule, by its number, is about a method.
+pub fn of_method(rule: usize) -> bool
+    ensures { λ b. ⌜ b ≡ ofMethod rule ⌝ }
+{
+    let mut i = 0;
+    while i < 6 {
+        if RULES_OF_METHODS[i] == rule {
+            return true;
+        }
+        i += 1;
+    }
+    false
 }
 
 pub fn refusal_number(x: Refusal) -> usize

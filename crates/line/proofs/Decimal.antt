@@ -78,7 +78,7 @@ short (suc k) n h =
     (λ n l h. omega (arith, one-longer n l, short k (n / 10) (div-lt-iff-lt-mul (omega arith) .1 (rw (pow-suc 10 (suc k)) at h))))
     n h
 
-pub two-digits : (n : ℕ) → n ≤ 17 → length (decimal n) ≤ 2
+pub two-digits : (n : ℕ) → n < 100 → length (decimal n) ≤ 2
 two-digits n h = short 1 n (omega arith)
 
 pub twenty-digits : (n : ℕ) → n < 2 ^ 64 → length (decimal n) ≤ 20

@@ -4,6 +4,7 @@ use mathlib.Core.Bool.{true, false}
 use mathlib.Core.Option.{Option, none, some}
 use mathlib.Core.List.{List, _++_, append-nil}
 use Prim.Native.Nat.{ℕ}
+use Rattle.certificate.specs.Certificate.{Fault}
 use Rattle.verdict.specs.Verdict.{accepted, refused, unproved}
 use Rattle.verdict.specs.WordTest.{tested, untested}
 use Rattle.verdict.specs.Line.{ascii, decimal, subjectName, refusedLine, line, answerLine}
@@ -39,16 +40,16 @@ module _ {o o₁ : List ℕ} {a n m : ℕ} {at : Option ℕ} (number : n ≡ m) 
   refused-nowhere e = rw (e, ← number, append-nil) first
 
 -- an unproved answer's line
-pub unproved-pieces : {o o₁ o₂ o₃ o₄ o₅ o₆ : List ℕ} {a₁ a₂ a₃ a₄ a₅ a₆ : ℕ} {r k r′ k′ : ℕ} (c i e l : ℕ) → r ≡ r′ → k ≡ k′
+pub unproved-pieces : {o o₁ o₂ o₃ o₄ o₅ o₆ : List ℕ} {a₁ a₂ a₃ a₄ a₅ a₆ : ℕ} {r k r′ k′ : ℕ} (f : Fault) → r ≡ r′ → k ≡ k′
     → Put o 0 (ascii "unproved rule " ++ decimal r) o₁ a₁ → Put o₁ a₁ (subjectName r ++ decimal k) o₂ a₂
-    → Put o₂ a₂ (ascii " clause " ++ decimal c) o₃ a₃ → Put o₃ a₃ (ascii " pair " ++ decimal i) o₄ a₄
-    → Put o₄ a₄ (ascii " event " ++ decimal e) o₅ a₅ → Put o₅ a₅ (ascii " place " ++ decimal l) o₆ a₆
-    → Put o 0 (line (unproved r′ k′ c i e l)) o₆ a₆
+    → Put o₂ a₂ (ascii " clause " ++ decimal (f .clause)) o₃ a₃ → Put o₃ a₃ (ascii " pair " ++ decimal (f .pair)) o₄ a₄
+    → Put o₄ a₄ (ascii " event " ++ decimal (f .event)) o₅ a₅ → Put o₅ a₅ (ascii " place " ++ decimal (f .place)) o₆ a₆
+    → Put o 0 (line (unproved r′ k′ f)) o₆ a₆
 unfolding line
-unproved-pieces {r} {k} c i e l same-rule same-subject p₁ p₂ p₃ p₄ p₅ p₆ =
+unproved-pieces {r} {k} f same-rule same-subject p₁ p₂ p₃ p₄ p₅ p₆ =
     rw (← same-rule, ← same-subject, append-nil)
     (and-then (ascii "unproved rule ") (decimal r) p₁
     (and-then (subjectName r) (decimal k) p₂
-    (and-then (ascii " clause ") (decimal c) p₃
-    (and-then (ascii " pair ") (decimal i) p₄
-    (and-then (ascii " event ") (decimal e) p₅ p₆)))))
+    (and-then (ascii " clause ") (decimal (f .clause)) p₃
+    (and-then (ascii " pair ") (decimal (f .pair)) p₄
+    (and-then (ascii " event ") (decimal (f .event)) p₅ p₆)))))

@@ -5,6 +5,7 @@ ghost use Prim.Native.Nat.{_+_, _≤_, _<_};
 ghost use lib.ListN.{length};
 ghost use Rattle.verdict.specs.Verdict.{unproved};
 ghost use Rattle.verdict.specs.Line.{ascii, decimal, subjectName, refusedLine, line, answerLine};
+ghost use Rattle.faults.specs.Fault.{faultOf};
 ghost use Rattle.format.specs.Refusal.{numberOf, placeOf};
 ghost use Rattle.answers.specs.Answers.{ruleNumber, ruleSubject, reportOf, answerOf};
 ghost use Rattle.line.specs.Put.{Put, Written, LineIn};
@@ -12,10 +13,12 @@ use answers::Place;
 use answers::Rule;
 use answers::Verdict;
 use answers::WordAnswer;
+use answers::of_method;
 use answers::refusal_number;
 use answers::refusal_place;
 use answers::rule_number;
 use answers::rule_subject;
+use faults::Fault;
 use format::Refusal;
 
 // A line: the first bytes of a buffer, as many as `size` says.
@@ -75,7 +78,7 @@ fn put_subject(rule: usize, k: usize, out: &mut [u8; 160], at: usize) -> usize
     ensures { λ r. ⌜ Put (now (out .entry)) at (subjectName rule ++ decimal k) (now (out .exit)) r ⌝ }
     ensures { λ r. ⌜ r ≤ at + 28 ⌝ }
 {
-    if rule < 7 {
+    if of_method(rule) {
         return put_value(b" method ", k, out, at);
     }
     put_value(b" step ", k, out, at)
@@ -97,7 +100,7 @@ fn put_refusal(x: Refusal, out: &mut [u8; 160]) -> usize
 
 // The beginning of an unproved answer's line. A rule's number has at most two digits.
 fn put_rule(number: usize, out: &mut [u8; 160]) -> usize
-    requires { ⌜ number ≤ 17 ⌝ }
+    requires { ⌜ number < 100 ⌝ }
     ensures { λ r. ⌜ Put (now (out .entry)) 0 (ascii "unproved rule " ++ decimal number) (now (out .exit)) r ⌝ }
     ensures { λ r. ⌜ r ≤ 16 ⌝ }
 {
@@ -106,25 +109,18 @@ fn put_rule(number: usize, out: &mut [u8; 160]) -> usize
 }
 
 // The line of an unproved answer.
-fn put_unproved(
-    rule: Rule,
-    clause: usize,
-    pair: usize,
-    event: usize,
-    place: usize,
-    out: &mut [u8; 160],
-) -> usize
-    ensures { λ r. ⌜ Put (now (out .entry)) 0 (line (unproved (ruleNumber rule) (ruleSubject rule) clause pair event place)) (now (out .exit)) r ⌝ }
+fn put_unproved(rule: Rule, fault: Fault, out: &mut [u8; 160]) -> usize
+    ensures { λ r. ⌜ Put (now (out .entry)) 0 (line (unproved (ruleNumber rule) (ruleSubject rule) (faultOf fault))) (now (out .exit)) r ⌝ }
     ensures { λ r. ⌜ r ≤ 152 ⌝ }
 {
     let number = rule_number(rule);
     let subject = rule_subject(rule);
     let a = put_rule(number, out);
     let b = put_subject(number, subject, out, a);
-    let c = put_value(b" clause ", clause, out, b);
-    let d = put_value(b" pair ", pair, out, c);
-    let e = put_value(b" event ", event, out, d);
-    put_value(b" place ", place, out, e)
+    let c = put_value(b" clause ", fault.clause, out, b);
+    let d = put_value(b" pair ", fault.pair, out, c);
+    let e = put_value(b" event ", fault.event, out, d);
+    put_value(b" place ", fault.place, out, e)
 }
 
 // That the buffer's list has 160 elements is what its type says, and the callers know it of their arrays; behind a reference a contract has to
@@ -136,13 +132,7 @@ fn put_verdict(v: Verdict, out: &mut [u8; 160]) -> usize
     match v {
         Verdict::Accepted(n) => put_value(b"accepted ", n, out, 0),
         Verdict::Refused(x) => put_refusal(x, out),
-        Verdict::Unproved {
-            rule,
-            clause,
-            pair,
-            event,
-            place,
-        } => put_unproved(rule, clause, pair, event, place, out),
+        Verdict::Unproved { rule, fault } => put_unproved(rule, fault, out),
     }
 }
 

@@ -7,7 +7,7 @@ use mathlib.Core.List.{List, [], _∷_, _++_}
 use Rattle.condition.specs.Condition.{Word, Holds}
 use Rattle.sheet.specs.Each.{Each}
 use Rattle.sheet.specs.Sheet.{Step, Sheet, past, own, due}
-use Rattle.runs.specs.Runs.{Call, Returned, State, preOf, traceOf, futureOf, fromOf, stepOf, targetOr}
+use Rattle.runs.specs.Runs.{Call, Returned, State, preOf, traceOf, futureOf, fromOf, madeBy, targetOr}
 use Rattle.runs.proofs.Adds.{Adds}
 use Rattle.runs.proofs.Rules.{ReturnRules}
 use Rattle.runs.specs.Owing.{IsCaller}
@@ -30,7 +30,7 @@ module _ (S : Sheet) where
   source (some t) = fromOf t
 
   abbrev pub origin : Call → ℕ
-  origin c = source (stepOf S (c .step))
+  origin c = source (madeBy S (c .step))
 
   -- wherever a return from c leads, the step that made c has the rules of that return
   abbrev pub ReturnsWell : Call → Option Step → Type 0
@@ -40,7 +40,7 @@ module _ (S : Sheet) where
   -- caller stands where that step starts, after the history at the call's beginning.
   pub data Frames : ℕ → Word → List Call → Type 0 where
     outermost : {p : ℕ} {h : Word} {c : Call} → Stands p h c → Holds (futureOf S c) [] → Frames p h (c ∷ [])
-    inner : {p : ℕ} {h : Word} {c : Call} {cs : List Call} → Stands p h c → ReturnsWell c (stepOf S (c .step))
+    inner : {p : ℕ} {h : Word} {c : Call} {cs : List Call} → Stands p h c → ReturnsWell c (madeBy S (c .step))
         → Frames (origin c) (c .began) cs → Frames p h (c ∷ cs)
 
   -- The returned calls ---------------------------------------------------------------------------------------------------

@@ -9,11 +9,11 @@ use Rattle.condition.specs.Condition.{Word, Holds}
 use Rattle.sheet.specs.Each.{Each, nil, cons}
 use Rattle.sheet.proofs.Each.{each-map, each-zip}
 use Rattle.sheet.specs.Sheet.{Body, CallStep, call-step, Sheet, past, body}
-use Rattle.runs.specs.Runs.{Call, Returned, State, preOf, traceOf, futureOf, entryOf, start, Move, raise, newCall, openCall, returnedNow, stepOf, targetOr, noneOpen, close, run}
+use Rattle.runs.specs.Runs.{Call, Returned, State, preOf, traceOf, futureOf, entryOf, start, Move, raise, newCall, openCall, returnedNow, madeBy, targetOr, noneOpen, close, run}
 use Rattle.runs.specs.Owing.{IsCaller}
 use Rattle.sheet.specs.Names.{HasBody}
 use Rattle.runs.proofs.Rules.{ExitRules, BodyRules, Leads, ReturnRules, CallRules, MethodRules, StepRules, SheetRules}
-use Rattle.runs.proofs.Adds.{Adds, adds-more, adds-weaker, adds-nothing}
+use Rattle.runs.proofs.Adds.{adds-more, adds-weaker, adds-nothing}
 use Rattle.runs.proofs.Moves.{Makes, event-made, pass-made, primitive-made, open-made, return-made, run-keeps}
 use Rattle.runs.proofs.Numbers.{NumbersAt, next-is-new, made-numbers, start-numbers}
 use Rattle.runs.proofs.Invariant.{Begun, Stands, source, origin, ReturnsWell, Frames, outermost, inner, Well, Due, Ended, Owed, here, below, Running, Good, running, over}
@@ -117,7 +117,7 @@ module _ (S : Sheet) where
 
   return-good : (s : State) {c : Call} {cs : List Call} → ExitRules S (traceOf S c) (futureOf S c) (s .point)
       → Frames S (s .point) (s .history) (c ∷ cs) → Running S (s .point) (s .history) (c ∷ cs) (s .returned-calls)
-      → Good S (close s c cs (targetOr (s .point) (stepOf S (c .step))))
+      → Good S (close s c cs (targetOr (s .point) (madeBy S (c .step))))
   return-good s {c} e (outermost x f) g =
       over refl
       record {

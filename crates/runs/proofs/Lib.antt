@@ -15,5 +15,6 @@ pub mod Safe
 pub mod Owing
 pub mod Examples
 pub mod Loop
+mod Nouns
 mod Refuted
 mod Told

@@ -2,15 +2,14 @@
 -- true, whatever the points' conditions are.
 use mathlib.Core.Path.{_≡_, refl, sym, ap, _∙_, subst}
 use Prim.Native.Nat.{ℕ}
-use mathlib.Core.Bool.{true, false, cond}
+use mathlib.Core.Bool.{true, false}
 use mathlib.Core.Logic.{inl, inr}
 use mathlib.Core.Option.{none, some}
 use mathlib.Core.List.{List, [], _∷_, _++_, append-assoc, append-nil, List·Memᴰ, List·Memᴰ·head, List·Memᴰ·tail}
 use lib.ListN.{getElem?}
-use lib.Dec.{T, eqb, eqb-refl}
+use lib.Dec.{T}
 use lib.Seq.{drop-append-seam}
 use Rattle.bits.specs.Bits.{has}
-use Rattle.bits.proofs.Tests.{T-true}
 use Rattle.condition.specs.Condition.{Word, Condition, empty, join, either, star, any, event, Holds}
 use Rattle.condition.specs.Places.{accepts}
 use Rattle.certificate.specs.Certificate.{Certificate}

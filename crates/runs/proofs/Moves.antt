@@ -11,7 +11,7 @@ use Rattle.condition.specs.Condition.{Word, Condition, Holds}
 use Rattle.condition.specs.Places.{accepts}
 use Rattle.condition.proofs.Words.{words}
 use Rattle.sheet.specs.Sheet.{Body, CallStep, Step, event-step, call-step, pass-step, Sheet, body}
-use Rattle.runs.specs.Runs.{Call, State, traceOf, start, Move, return, by-step, raise, newCall, openCall, returnedNow, makeCall, makeStep, fromOf, tryStep, stepOf, targetOr, close, exitsAt, tryReturn, tryMove, move, MadeByTrace, runOn, run}
+use Rattle.runs.specs.Runs.{Call, State, traceOf, start, Move, return, by-step, raise, newCall, openCall, returnedNow, makeCall, makeStep, fromOf, tryStep, madeBy, targetOr, close, exitsAt, tryReturn, tryMove, move, MadeByTrace, runOn, run}
 
 -- what holds of both sides holds of the choice
 by-test : {A : Type 0} (P : A → Type 0) (b : Bool) {x y : A} → (b ≡ true → P x) → (b ≡ false → P y) → P (cond b x y)
@@ -34,7 +34,7 @@ module _ (S : Sheet) where
     open-made : {t : CallStep} {b : Body} (i : ℕ) → getElem? (S .steps) i ≡ some (call-step t) → s .point ≡ t .from
         → body S (t .method) ≡ some b → Makes s (openCall (newCall s i t) (b .entry) s)
     return-made : {c : Call} {cs : List Call} {b : Body} → s .open-calls ≡ c ∷ cs → body S (c .method) ≡ some b → s .point ≡ b .exit
-        → Makes s (close s c cs (targetOr (s .point) (stepOf S (c .step))))
+        → Makes s (close s c cs (targetOr (s .point) (madeBy S (c .step))))
 
   -- what holds of s, and of what each move that can be made from s leads to, holds after trying any move
   module _ (P : State → Type 0) (s : State) (same : P s) (made : (t : State) → Makes s t → P t) where
@@ -54,7 +54,7 @@ module _ (S : Sheet) where
     try-step-case i w (some t) found = by-test P _ (λ e. step-case i w t found (same-number _ _ e)) (λ e. same)
 
     exit-case : {c : Call} {cs : List Call} → s .open-calls ≡ c ∷ cs → (d : Option Body) → body S (c .method) ≡ d
-        → P (cond (exitsAt d (s .point)) (close s c cs (targetOr (s .point) (stepOf S (c .step)))) s)
+        → P (cond (exitsAt d (s .point)) (close s c cs (targetOr (s .point) (madeBy S (c .step)))) s)
     exit-case e none is = same
     exit-case e (some b) is = by-test P _ (λ x. made _ (return-made e is (same-number _ _ x))) (λ x. same)
 

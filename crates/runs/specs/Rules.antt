@@ -1,8 +1,10 @@
 -- The seventeen rules of a sheet: document 01, "Seventeen rules". Each rule is a claim about the languages of the sheet's conditions; the list
 -- has them in the order of testing, and `Met` says what a claim says.
 use Prim.Native.Nat.{ℕ, suc, _+_, _*_}
+use mathlib.Core.Bool.{Bool, false, _||_}
 use mathlib.Core.Option.{Option, none, some}
 use mathlib.Core.List.{List, [], _∷_, _++_}
+use lib.Dec.{eqb}
 use lib.ListN.{length}
 use Rattle.condition.specs.Condition.{Condition, join, Holds, _⊆_, event}
 use Rattle.sheet.specs.Each.{Each}
@@ -18,7 +20,7 @@ abbrev pub Met : Claim → Type 0
 Met (a isIn b) = a ⊆ b
 Met (holdsEmpty a) = Holds a []
 
--- "An unproved answer names its rule, and the rule its method or step": the subject is a method, or from rule 7 on a step
+-- "An unproved answer names its rule, and the rule its method or step": the subject
 pub record Rule : Type 0 where
   pub number : ℕ
   pub subject : ℕ
@@ -27,6 +29,17 @@ pub record Rule : Type 0 where
 infix 20 _of_says_
 abbrev pub _of_says_ : ℕ → ℕ → Claim → Rule
 n of k says c = record { number = n; subject = k; claim = c }
+
+-- the rules whose subject is a method; that of the others is a step
+abbrev pub rulesOfMethods : List ℕ
+rulesOfMethods = 1 ∷ 2 ∷ 3 ∷ 4 ∷ 5 ∷ 6 ∷ []
+
+abbrev pub isAmong : List ℕ → ℕ → Bool
+isAmong [] n = false
+isAmong (k ∷ ks) n = eqb n k || isAmong ks n
+
+abbrev pub ofMethod : ℕ → Bool
+ofMethod rule = isAmong rulesOfMethods rule
 
 module _ (S : Sheet) where
   -- "1 and 2, method 0: pre, and future, hold the empty word", of a method m that runs start at

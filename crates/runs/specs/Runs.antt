@@ -47,7 +47,7 @@ pub record State : Type 0 where
 abbrev pub calls : State → List Call
 calls s = s .open-calls ++ map (λ r. r .call) (s .returned-calls)
 
--- its pre, trace and future: those that its method declares
+-- a call's pre, trace and future: what its method declares
 abbrev pub preOf : Sheet → Call → Condition
 preOf S c = pre S (c .method)
 
@@ -167,9 +167,9 @@ tryStep S s i w none = s
 tryStep S s i w (some t) = cond (eqb (s .point) (fromOf t)) (makeStep S s i w t) s
 
 -- the step that made a call, if one did, and where a return from it leads: "to the target of the call's step, if it has one"
-abbrev pub stepOf : Sheet → Option ℕ → Option Step
-stepOf S none = none
-stepOf S (some i) = getElem? (S .steps) i
+abbrev pub madeBy : Sheet → Option ℕ → Option Step
+madeBy S none = none
+madeBy S (some i) = getElem? (S .steps) i
 
 abbrev pub targetOr : ℕ → Option Step → ℕ
 targetOr here none = here
@@ -199,7 +199,7 @@ exitsAt (some b) p = eqb p (b .exit)
 abbrev pub tryReturn : Sheet → State → List Call → State
 tryReturn S s [] = s
 tryReturn S s (c ∷ callers) =
-    cond (exitsAt (body S (c .method)) (s .point)) (close s c callers (targetOr (s .point) (stepOf S (c .step)))) s
+    cond (exitsAt (body S (c .method)) (s .point)) (close s c callers (targetOr (s .point) (madeBy S (c .step)))) s
 
 abbrev pub tryMove : Sheet → State → Move → State
 tryMove S s return = tryReturn S s (s .open-calls)

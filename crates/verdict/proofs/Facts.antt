@@ -2,9 +2,9 @@
 use Rattle.condition.proofs.Words.{nullable-holds, words}
 use Rattle.sheet.specs.Model.{Model}
 use Rattle.sheet.specs.Decode.{sheetOf}
-use Rattle.sheet.proofs.Postfix.{conditions-in-postfix}
-use Rattle.sheet.proofs.Named.{names-exist}
-use Rattle.sheet.proofs.Kept.{events-below, first-has-body}
+use Rattle.sheet.proofs.Standing.{conditions-in-postfix}
+use Rattle.sheet.proofs.Named.{names-exist, events-below}
+use Rattle.sheet.proofs.First.{first-has-body}
 use Rattle.runs.specs.Rules.{rules}
 use Rattle.runs.proofs.Count.{counted}
 use Rattle.runs.proofs.Moves.{made-by-trace}

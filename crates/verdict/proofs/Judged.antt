@@ -5,7 +5,7 @@ use Prim.Native.Nat.{ℕ, _+_}
 use native.Mathlib.Omega.{arith}
 use lib.ListN.{length}
 use Rattle.certificate.specs.Certificate.{Certificate, Fault, Finding, fine, found}
-use Rattle.runs.specs.Rules.{Claim, _isIn_, holdsEmpty, Rule, _of_says_, rules, total}
+use Rattle.runs.specs.Rules.{Claim, _isIn_, holdsEmpty, Rule, _of_says_, total}
 use Rattle.verdict.specs.Verdict.{Report, unproved, testOf, needed, certificatesNeeded, nextOf, leftAfter, reported, firstFault}
 use Rattle.verdict.specs.Promise.{EachCertified, done, bare, certified, Passes, FirstFault}
 

@@ -16,7 +16,9 @@ use Rattle.sheet.specs.Record.{Bytes}
 use Rattle.sheet.specs.Reading.{Reading, Outcome, whole, refusal, readSheet}
 use Rattle.sheet.specs.Decode.{sheetOf}
 use Rattle.sheet.specs.Names.{HasBody}
-use Rattle.sheet.proofs.Kept.{events-below, first-has-body}
+use Rattle.sheet.proofs.SheetOf.{sheet-is}
+use Rattle.sheet.proofs.Named.{events-below}
+use Rattle.sheet.proofs.First.{first-has-body}
 use Rattle.sheet.proofs.Narrow.{conditions-below}
 use Rattle.runs.specs.Rules.{rules, rulesFrom, AllMet, count}
 use Rattle.runs.specs.Runs.{Move, run, Safe}
@@ -46,13 +48,13 @@ module _ (M : Model) (s : List ℕ) where
   unfolding verdictOf
   verdict-is = refl
 
-  pub after-whole : (r : Reading) → verdictAfter M s (whole r) ≡ judged M s (sheetOf M s)
+  pub after-whole : (r : Reading) → readSheet M s ≡ whole r → verdictAfter M s (whole r) ≡ judged M s (sheetOf M s)
   unfolding verdictAfter
-  after-whole r = refl
+  after-whole r read = ap (judged M s) (sym (sheet-is M s r read))
 
-  pub after-refusal : (n at : ℕ) → verdictAfter M s (refusal n at) ≡ refused n (some at)
+  pub after-refusal : (n at : ℕ) (r : Reading) → verdictAfter M s (refusal n at r) ≡ refused n (some at)
   unfolding verdictAfter
-  after-refusal n at = refl
+  after-refusal n at r = refl
 
   module _ (S : Sheet) where
     abbrev pub enough : Bool
@@ -103,8 +105,8 @@ module _ (M : Model) (s : List ℕ) where
       by-number r read false e = refuses _ (wrong-count read (eqb-false _ _ e)) refl
 
       by-reading : (x : Outcome) → readSheet M s ≡ x → Decided (verdictAfter M s x)
-      by-reading (refusal n at) read = subst Decided (sym (after-refusal n at)) (refuses _ (while-reading read) refl)
-      by-reading (whole r) read = subst Decided (sym (after-whole r ∙ judged-is S)) (by-number r read (enough S) refl)
+      by-reading (refusal n at r) read = subst Decided (sym (after-refusal n at r)) (refuses _ (while-reading read) refl)
+      by-reading (whole r) read = subst Decided (sym (after-whole r read ∙ judged-is S)) (by-number r read (enough S) refl)
 
   -- Demand 1 ------------------------------------------------------------------------------------------------------------
 
@@ -138,7 +140,7 @@ module _ (M : Model) (s : List ℕ) where
   whole-is {r} read b e =
       verdict-is
       ∙ (ap (verdictAfter M s) read
-      ∙ (after-whole r
+      ∙ (after-whole r read
       ∙ (judged-is (sheetOf M s) ∙ ap (λ b. cond b (first (sheetOf M s)) (refused 10 (some (length s)))) e)))
 
   well-formed-is : WellFormed M s → verdictOf M s ≡ first (sheetOf M s)
@@ -179,7 +181,7 @@ module _ (M : Model) (s : List ℕ) where
       go (tests w (one-fails r k v f e)) = absurd (subst IsUnproved (sym (sym h ∙ e)) tt)
 
   refused-in : {n at : ℕ} → RefusedFor M s n at → verdictOf M s ≡ refused n (some at)
-  refused-in {n} {at} (while-reading e) = verdict-is ∙ (ap (verdictAfter M s) e ∙ after-refusal n at)
+  refused-in {n} {at} (while-reading {r = r} e) = verdict-is ∙ (ap (verdictAfter M s) e ∙ after-refusal n at r)
   refused-in (wrong-count read others) = whole-is read false (ne-eqb _ _ others)
 
   -- Demand 3 ------------------------------------------------------------------------------------------------------------

@@ -34,7 +34,7 @@ use Rattle.verdict.proofs.Witnesses.{M-premises}
 
 abbrev IsWhole : Outcome → Type 0
 IsWhole (whole r) = Unit {0}
-IsWhole (refusal n at) = ⊥
+IsWhole (refusal n at r) = ⊥
 
 -- Demand 1 ------------------------------------------------------------------------------------------------------------------
 

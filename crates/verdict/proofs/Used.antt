@@ -11,10 +11,10 @@ use Rattle.condition.specs.Places.{nullable, accepts}
 use Rattle.certificate.specs.Certificate.{Certificate, Exact}
 use Rattle.sheet.specs.Model.{Model, large}
 use Rattle.sheet.specs.Sheet.{CallStep, event-step, call-step, body, trace}
-use Rattle.sheet.specs.Record.{empty-symbol}
 use Rattle.sheet.specs.Reading.{Reading, whole, readSheet}
 use Rattle.sheet.specs.Names.{HasBody, EventBelow}
-use Rattle.sheet.specs.Decode.{symbolsAt, postfix, sheetOf}
+use Rattle.sheet.specs.Decode.{sheetOf}
+use Rattle.sheet.specs.AtOffset.{empty-symbol, symbolsAt, postfix}
 use Rattle.sheet.proofs.Each.{each-head, each-member}
 use Rattle.runs.specs.Rules.{rules, count}
 use Rattle.runs.specs.Runs.{State, Grown, Move, by-step, newCall, raise, returnedNow, move, run}

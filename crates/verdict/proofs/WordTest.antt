@@ -18,6 +18,7 @@ use Rattle.sheet.specs.Each.{Each, nil, cons}
 use Rattle.sheet.specs.Sheet.{condition}
 use Rattle.sheet.specs.Reading.{Reading, Outcome, whole, refusal, readSheet}
 use Rattle.sheet.specs.Decode.{sheetOf}
+use Rattle.sheet.proofs.SheetOf.{sheet-is}
 use Rattle.verdict.specs.WordTest.{Answer, tested, untested, unlessStray, testedAfter, wordTest}
 use Rattle.verdict.specs.Reply.{answerReply}
 use Rattle.verdict.specs.Promise.{FindsCondition, FirstStray, WordRefusedFor, sheet-refused, no-such-condition, word-too-long, stray-event, TakesWord, TestsWord, TestsAsPromised}
@@ -89,20 +90,20 @@ module _ (M : Model) (s : List ℕ) (c : ℕ) (w : Word) where
   unfolding wordTest
   test-is = refl
 
-  after-whole : (r : Reading) → testedAfter M s c w (whole r) ≡ cond (leb (length (sheetOf M s .conditions)) c) (untested 14 none) tooLong
+  after-whole : (r : Reading) → readSheet M s ≡ whole r → testedAfter M s c w (whole r) ≡ cond (leb (length (sheetOf M s .conditions)) c) (untested 14 none) tooLong
   unfolding testedAfter
-  after-whole r = refl
+  after-whole r read = rw (sheet-is M s r read)
 
-  after-refusal : (n at : ℕ) → testedAfter M s c w (refusal n at) ≡ untested n (some at)
+  after-refusal : (n at : ℕ) (r : Reading) → testedAfter M s c w (refusal n at r) ≡ untested n (some at)
   unfolding testedAfter
-  after-refusal n at = refl
+  after-refusal n at r = refl
 
   -- By what applies -------------------------------------------------------------------------------------------------------
 
   whole-is : {r : Reading} → readSheet M s ≡ whole r → (b : Bool) → leb (length (sheetOf M s .conditions)) c ≡ b
       → wordTest M s c w ≡ cond b (untested 14 none) tooLong
   whole-is {r} read b e =
-      test-is ∙ (ap (testedAfter M s c w) read ∙ (after-whole r ∙ ap (λ (x : Bool). cond x (untested 14 none) tooLong) e))
+      test-is ∙ (ap (testedAfter M s c w) read ∙ (after-whole r read ∙ ap (λ (x : Bool). cond x (untested 14 none) tooLong) e))
 
   found-is : FindsCondition M s c → (b : Bool) → ltb wordLimit (length w) ≡ b
       → wordTest M s c w ≡ cond b (untested 12 none) (unlessStray (M .events) 0 w said)
@@ -110,7 +111,7 @@ module _ (M : Model) (s : List ℕ) (c : ℕ) (w : Word) where
       whole-is (f .read) false (lt-leb _ c (f .exists)) ∙ ap (λ (x : Bool). cond x (untested 12 none) (unlessStray (M .events) 0 w said)) e
 
   pub refused-in : {n : ℕ} {at : Option ℕ} → WordRefusedFor M s c w n at → wordTest M s c w ≡ untested n at
-  refused-in (sheet-refused {n} {at} e) = test-is ∙ (ap (testedAfter M s c w) e ∙ after-refusal n at)
+  refused-in (sheet-refused {n} {at} {r} e) = test-is ∙ (ap (testedAfter M s c w) e ∙ after-refusal n at r)
   refused-in (no-such-condition read h) = whole-is read true (le-leb _ c h)
   refused-in (word-too-long f h) = found-is f true (lt-ltb wordLimit _ h)
   refused-in (stray-event {i} f short first) =
@@ -141,7 +142,7 @@ module _ (M : Model) (s : List ℕ) (c : ℕ) (w : Word) where
       by-number r read false e = by-length (record { reading = r; read = read; exists = leb-false _ c e }) (ltb wordLimit (length w)) refl
 
       by-reading : (x : Outcome) → readSheet M s ≡ x → Decided
-      by-reading (refusal n at) e = refuses n (some at) (sheet-refused e)
+      by-reading (refusal n at r) e = refuses n (some at) (sheet-refused e)
       by-reading (whole r) e = by-number r e (leb (length (sheetOf M s .conditions)) c) refl
 
   taken-out : (b : Bool) → wordTest M s c w ≡ tested b → TakesWord M s c w

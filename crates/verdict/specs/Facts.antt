@@ -13,9 +13,11 @@ use Rattle.certificate.specs.Certificate.{Certificate}
 use Rattle.sheet.specs.Model.{Model}
 use Rattle.sheet.specs.Each.{Each}
 use Rattle.sheet.specs.Sheet.{CallStep, call-step, body}
+use Rattle.sheet.specs.Kind.{conditions}
 use Rattle.sheet.specs.Record.{Bytes}
 use Rattle.sheet.specs.Reading.{Reading, whole, readSheet}
-use Rattle.sheet.specs.Decode.{InPostfix, sheetOf}
+use Rattle.sheet.specs.Decode.{sheetOf}
+use Rattle.sheet.specs.AtOffset.{InPostfix}
 use Rattle.sheet.specs.Names.{NamesExist, HasBody, EventBelow}
 use Rattle.runs.specs.Rules.{rules, count}
 use Rattle.runs.specs.Runs.{State, Grown, Move, MadeByTrace, run}
@@ -28,7 +30,7 @@ pub record Facts (M : Model) (s : List ℕ) : Type 0 where
   pub words : (r : Condition) (w : Word) → T (accepts r w) ↔ Holds r w
   pub empty-word : (r : Condition) → T (nullable r) ↔ Holds r []
   -- of a sheet that is read whole: the records of each condition are the postfix form of the condition that they stand for,
-  pub in-postfix : (r : Reading) → readSheet M s ≡ whole r → Each (InPostfix s) (r .offsets .conditions)
+  pub in-postfix : (r : Reading) → readSheet M s ≡ whole r → Each (InPostfix s) (r .own conditions)
   -- every name exists, the event of each step is one of the instrument's, and the first method has a body
   pub names-exist : (r : Reading) → readSheet M s ≡ whole r → NamesExist (sheetOf M s)
   pub events-below : (r : Reading) → readSheet M s ≡ whole r → Each (EventBelow (M .events)) (sheetOf M s .steps)

@@ -6,6 +6,7 @@ use mathlib.Core.Bool.{true, false, cond}
 use mathlib.Core.Option.{Option}
 use mathlib.Core.List.{List, [], _∷_, _++_}
 use lib.Dec.{ltb}
+use Rattle.runs.specs.Rules.{ofMethod}
 use Rattle.verdict.specs.Verdict.{Report, accepted, refused, unproved}
 use Rattle.verdict.specs.WordTest.{Answer, tested, untested}
 use Rattle.verdict.specs.Reply.{replyOf}
@@ -37,9 +38,9 @@ labelled (text ∷ texts) (n ∷ values) = text ++ (decimal n ++ labelled texts 
 abbrev pub refusedLine : ℕ → Option ℕ → List ℕ
 refusedLine n at = ascii "refused " ++ (decimal n ++ labelled (ascii " at " ∷ []) (replyOf (refused n at) .values))
 
--- "from rule 7 on, `step` stands for `method`"
+-- of a rule's subject: "from rule 7 on, `step` stands for `method`"
 abbrev pub subjectName : ℕ → List ℕ
-subjectName rule = cond (ltb rule 7) (ascii " method ") (ascii " step ")
+subjectName rule = cond (ofMethod rule) (ascii " method ") (ascii " step ")
 
 -- the texts of "unproved rule 5 method 0 clause 3 pair 0 event 0 place 0"
 abbrev pub unprovedTexts : ℕ → List (List ℕ)

@@ -66,7 +66,7 @@ pub record FirstFault (events : ℕ) (xs : List Rule) (cs : List Certificate) (r
 -- one of the refusals 1 to 10 applies, and the first of them has this number and place; what 1 to 9 are is said by sheet/specs/Reading
 pub data RefusedFor (M : Model) (s : List ℕ) : ℕ → ℕ → Type 0 where
   -- 1 to 9: reading ends with it
-  while-reading : {n at : ℕ} → readSheet M s ≡ refusal n at → RefusedFor M s n at
+  while-reading : {n at : ℕ} {r : Reading} → readSheet M s ≡ refusal n at r → RefusedFor M s n at
   -- 10, "length": "certificates are more or fewer than the rules need"
   wrong-count : {r : Reading} → readSheet M s ≡ whole r
       → (length (sheetOf M s .certificates) ≡ certificatesNeeded (rules (sheetOf M s)) → ⊥) → RefusedFor M s 10 (length s)
@@ -126,7 +126,7 @@ pub record FirstStray (events : ℕ) (w : Word) (i : ℕ) : Type 0 where
 
 -- one of the refusals applies, and the first of them, in the order "1 to 9, then 14, 12, 13", has this number and place
 pub data WordRefusedFor (M : Model) (s : List ℕ) (c : ℕ) (w : Word) : ℕ → Option ℕ → Type 0 where
-  sheet-refused : {n at : ℕ} → readSheet M s ≡ refusal n at → WordRefusedFor M s c w n (some at)
+  sheet-refused : {n at : ℕ} {r : Reading} → readSheet M s ≡ refusal n at r → WordRefusedFor M s c w n (some at)
   no-such-condition : {r : Reading} → readSheet M s ≡ whole r → length (sheetOf M s .conditions) ≤ c → WordRefusedFor M s c w 14 none
   word-too-long : FindsCondition M s c → wordLimit < length w → WordRefusedFor M s c w 12 none
   stray-event : {i : ℕ} → FindsCondition M s c → length w ≤ wordLimit → FirstStray (M .events) w i → WordRefusedFor M s c w 13 (some i)

@@ -10,7 +10,7 @@ use Rattle.certificate.specs.Certificate.{Certificate, Fault, Finding, fine, fo
 use Rattle.sheet.specs.Model.{Model}
 use Rattle.sheet.specs.Sheet.{Sheet}
 use Rattle.sheet.specs.Reading.{Outcome, whole, refusal, readSheet}
-use Rattle.sheet.specs.Decode.{sheetOf}
+use Rattle.sheet.specs.Decode.{sheetRead}
 use Rattle.runs.specs.Rules.{Claim, _isIn_, holdsEmpty, Rule, rules, total, count}
 
 pub data Report : Type 0 where
@@ -72,9 +72,9 @@ judged M s S =
     cond (eqb (length (S .certificates)) (certificatesNeeded (rules S))) first (refused 10 (some (length s)))
 
 unfoldable pub verdictAfter : Model → List ℕ → Outcome → Report
-unfolding judged sheetOf
-verdictAfter M s (refusal n at) = refused n (some at)
-verdictAfter M s (whole r) = judged M s (sheetOf M s)
+unfolding judged
+verdictAfter M s (refusal n at r) = refused n (some at)
+verdictAfter M s (whole r) = judged M s (sheetRead (r .own))
 
 -- what the loader returns for the bytes s
 unfoldable pub verdictOf : Model → List ℕ → Report

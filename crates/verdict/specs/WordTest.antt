@@ -10,7 +10,7 @@ use Rattle.condition.specs.Places.{accepts}
 use Rattle.sheet.specs.Model.{Model, wordLimit}
 use Rattle.sheet.specs.Sheet.{condition}
 use Rattle.sheet.specs.Reading.{Outcome, whole, refusal, readSheet}
-use Rattle.sheet.specs.Decode.{sheetOf}
+use Rattle.sheet.specs.Decode.{sheetRead}
 
 pub data Answer : Type 0 where
   -- yes or no
@@ -27,10 +27,10 @@ unlessStray events i (e ∷ w) otherwise =
 
 -- "it first applies 1 to 9, then 14, 12, 13": 14 "no such condition", 12 "word longer than 4,096"
 unfoldable pub testedAfter : Model → List ℕ → ℕ → Word → Outcome → Answer
-unfolding sheetOf unlessStray accepts
-testedAfter M s c w (refusal n at) = untested n (some at)
+unfolding unlessStray accepts
+testedAfter M s c w (refusal n at r) = untested n (some at)
 testedAfter M s c w (whole r) =
-    let S = sheetOf M s in
+    let S = sheetRead (r .own) in
     let answer = unlessStray (M .events) 0 w (tested (accepts (condition S c) w)) in
     cond (leb (length (S .conditions)) c) (untested 14 none) (cond (ltb wordLimit (length w)) (untested 12 none) answer)
 

@@ -1,9 +1,12 @@
 -- `line::put_subject` meets its contract: the test is that of the definition.
-use borrow.Author.Tests.{lt-ltb, le-ltb}
+use mathlib.Core.Path.{sym, _∙_}
 use borrow.Author.Needs.{needs}
 use Rattle.verdict.specs.Line.{ascii}
 use Rattle.line.proofs.put_subject.Statement.{statement}
 use Rattle.line.proofs.put_subject.Tie as tie
+
+of-method-requires : tie.Need-of-method-requires
+of-method-requires c κs = search needs
 
 slice-aggregate-put-value : tie.Need-slice-aggregate-put-value
 slice-aggregate-put-value c = search needs
@@ -13,7 +16,7 @@ put-value-requires c κs = search needs
 
 returns : tie.Need-returns
 unfolding ascii
-returns c = (rw (lt-ltb _ _ (c .before .before .before .if1 .taken)) (c .put-value .ensures .0), search needs)
+returns c = (rw (sym (c .before .before .before .before .of-method .ensures) ∙ c .before .before .before .if1 .taken) (c .put-value .ensures .0), search needs)
 
 slice-aggregate-put-value-2 : tie.Need-slice-aggregate-put-value-2
 slice-aggregate-put-value-2 c = search needs
@@ -23,12 +26,13 @@ put-value-requires-2 c κs = search needs
 
 returns-2 : tie.Need-returns-2
 unfolding ascii
-returns-2 c = (rw (le-ltb _ _ (c .before .before .before .if1 .left)) (c .put-value2 .ensures .0), search needs)
+returns-2 c = (rw (sym (c .before .before .before .before .of-method .ensures) ∙ c .before .before .before .if1 .left) (c .put-value2 .ensures .0), search needs)
 
 pub put-subject-spec : {M : Type 1} → statement M
 put-subject-spec =
     tie.close
     (tie.spec
+    of-method-requires
     slice-aggregate-put-value
     put-value-requires
     returns

@@ -50,7 +50,7 @@ returns c =
     let subject = clause .before .before .before in
     let rule = subject .before .before in
     let start = rule .before .before in (
-      unproved-pieces _ _ _ _
+      unproved-pieces _
           (start .before .rule-number .ensures .0)
           (start .rule-subject .ensures)
           (rule .put-rule .ensures .0)
