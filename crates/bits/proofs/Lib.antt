@@ -2,3 +2,5 @@ pub mod Tests
 pub mod Sets
 pub mod Masks
 pub mod Bitwise
+pub mod Least
+pub mod Filling

@@ -14,7 +14,7 @@ use Rattle.bits.proofs.Sets.{has-suc, has-none, has-lt, set-in, set-lt}
 
 -- Digits ----------------------------------------------------------------------------------------------------------------
 
-has-low : (s : ℕ) → has s 0 ≡ eqb (s % 2) 1
+pub has-low : (s : ℕ) → has s 0 ≡ eqb (s % 2) 1
 unfolding has
 has-low s = let e : s / 1 % 2 ≡ s % 2 = omega arith in ap (λ (x : ℕ). eqb x 1) e
 
@@ -22,7 +22,7 @@ mod-two : (x : ℕ) → x % 2 < 2
 mod-two x = omega arith
 
 -- a digit is 0 or 1
-zero-or-one : (x : ℕ) → x < 2 → (x ≡ 0) ⊎ (x ≡ 1)
+pub zero-or-one : (x : ℕ) → x < 2 → (x ≡ 0) ⊎ (x ≡ 1)
 zero-or-one zero h = inl refl
 zero-or-one (suc zero) h = inr refl
 zero-or-one (suc (suc x)) h = absurd (omega arith)

@@ -1,46 +1,29 @@
--- From the stack to the tables of a side, the unions of their rows that are kept, and from these to stepping a word.
+-- From the stack to the tables of a side, and from these to stepping a word.
 use mathlib.Core.Path.{_≡_, refl, sym, ap, ap₂, _∙_, subst}
-use mathlib.Core.Bool.{Bool, true, false, cond, not, _&&_, _||_, or-false, and-false, and-true}
+use mathlib.Core.Bool.{Bool, false, cond, not, _&&_, _||_, or-false, and-false, and-true}
 use mathlib.Core.List.{List, [], _∷_}
-use Prim.Native.Nat.{ℕ, zero, suc, _+_, _^_, _≤_, _<_}
+use Prim.Native.Nat.{ℕ, zero, suc, _+_, _≤_, _<_}
 use native.Mathlib.Omega.{arith}
 use native.Mathlib.Nat.{le-of-suc-le-suc}
 use native.Mathlib.Numerals.{add-one}
-use lib.ListN.{length, getD, set, take, replicate, length-set, length-replicate, getD-replicate}
+use lib.ListN.{length, getD, set, take, length-set}
 use lib.Seq.{getD-set-same, getD-set-other, take-all}
 use lib.Dec.{eqb}
 use lib.Bits.{bitAnd, bitOr}
-use lib.Count.{trailingZeros}
-use borrow.Author.Tests.{eqb-true, eqb-false}
 use Rattle.bits.specs.Bits.{has, anyBelow}
+use Rattle.bits.specs.Rows.{inRows, Holding}
 use Rattle.bits.proofs.Tests.{T-true, any-cong}
-use Rattle.bits.proofs.Sets.{has-none, start-has, has-start}
+use Rattle.bits.proofs.Sets.{start-has, has-start}
 use Rattle.bits.proofs.Masks.{has-or, has-cond}
-use Rattle.condition.specs.Condition.{Condition, leaf}
+use Rattle.condition.specs.Condition.{Condition}
 use Rattle.condition.specs.Places.{leaves, places, leafSet, leafHolds, nullable, first, last, follow, follows, ends, step, stepAll, someEnds, accepts}
 use Rattle.condition.proofs.Beside.{first-leaf, last-leaf, follow-leaf}
 use Rattle.condition.proofs.Words.{accepts-is}
 use Rattle.condition.proofs.Steps.{step-mask, ends-mask, stepAll-take, none-left}
 use Rattle.places.specs.declared.Side.{Side}
-use Rattle.places.specs.declared.Part.{Part}
-use Rattle.places.specs.declared.Part.the-variants.{Condition as ConditionAt, Event}
-use Rattle.places.specs.Tables.{Tables, StandsAt, PartIs}
-use Rattle.places.specs.Machine.{ItemIs, RowsAre, Stacked, bottom, above, Rows, Pushed, Settled, Holding, Unions}
-use Rattle.places.proofs.Behind.{fails, behind-zero}
-use Rattle.places.proofs.Lowest.{lowest-lt, any-none}
-use Rattle.places.proofs.Filling.{inRows}
-
--- Parts -----------------------------------------------------------------------------------------------------------------
-
-pub pushed-as : {Is Is′ : Condition → Type 0} {N : List Bool} {A L F S : List ℕ} {N′ : List Bool} {A′ L′ F′ S′ : List ℕ} {d m m′ : ℕ}
-    → ((r : Condition) → Is′ r → Is r) → Pushed Is N A L F S N′ A′ L′ F′ S′ d m m′ → Pushed Is′ N A L F S N′ A′ L′ F′ S′ d m m′
-pushed-as f p = record { few = p .few; room = p .room; rows = p .rows; pushed = λ r h. p .pushed r (f r h) }
-
-pub condition-part : (s : List ℕ) {part : Part} {at : ℕ} → part ≡ ConditionAt at → (r : Condition) → PartIs s part r → StandsAt s at r
-condition-part s e r h = rw e at h
-
-pub event-part : (s : List ℕ) {part : Part} {e : ℕ} → part ≡ Event e → (r : Condition) → PartIs s part r → (r ≡ leaf (2 ^ e)) × (e < 64)
-event-part s e r h = rw e at h
+use Rattle.places.specs.Tables.{Tables, Settled}
+use Rattle.items.specs.Stack.{ItemIs, RowsAre, Stacked, bottom, above, Rows}
+use Rattle.items.proofs.Behind.{fails, behind-zero}
 
 -- Tables ----------------------------------------------------------------------------------------------------------------
 
@@ -100,6 +83,10 @@ alone {N} {A} {L} {F} {S} {m} {r} (above {d = d₀} {m = m₀} t x y i w) = go t
       rows = subst (λ (k : ℕ). RowsAre r k F S) b w;
     }
 
+-- the join of two items is the only one
+pub joined : {N : List Bool} {A L F S : List ℕ} {m : ℕ} {r : Condition} → Stacked N A L F S 1 (m + 0) (r ∷ []) → Stacked N A L F S 1 m (r ∷ [])
+joined {N} {A} {L} {F} {S} {m} {r} t = let e : m + 0 ≡ m = omega arith in subst (λ (k : ℕ). Stacked N A L F S 1 k (r ∷ [])) e t
+
 pub tables : {r : Condition} {N : List Bool} {A L F F′ S : List ℕ} {m : ℕ} {side : Side} → Settled m (getD N 0 false) (getD A 0 0) (getD L 0 0) side F F′
     → length F ≡ 64 → m ≤ 62 → Stacked N A L F S 1 m (r ∷ []) → Tables r side F′ S
 tables {r} {N} {A} {L} {F} {F′} {S} {m} {side} e l few t =
@@ -119,58 +106,10 @@ settled-rows {firsts = firsts} {F = F} e w = record {
   rows-sets = w .rows-sets;
 }
 
--- The unions that are kept ----------------------------------------------------------------------------------------------
-
--- no place has no row
-none-united : (F : List ℕ) (n q : ℕ) → has 0 q ≡ inRows F n 0 q
-none-united F n q = has-none q ∙ sym (any-none n 0 (λ p. has (getD F p 0) q) (λ p _. has-none p))
-
--- a set without a lowest place is empty
-pub union-none : (F : List ℕ) (n x : ℕ) → x < 2 ^ 64 → 64 ≤ trailingZeros 64 x → (q : ℕ) → has 0 q ≡ inRows F n x q
-union-none F n zero h l q = none-united F n q
-union-none F n (suc x) h l q = let k = lowest-lt (suc x) (λ (e : suc x ≡ 0). omega arith) h in absurd (omega arith)
-
--- at the start each set is empty
-pub unions-none : (F : List ℕ) (n : ℕ) → Unions F n (replicate 64 0) (replicate 64 0)
-unions-none F n = record {
-  sets-long = length-replicate {A = ℕ} 64 0;
-  unions-long = length-replicate {A = ℕ} 64 0;
-  united = λ p q l.
-      ap (λ (u : ℕ). has u q) (getD-replicate 64 p 0 0 l) ∙ none-united F n q ∙ ap (λ (x : ℕ). inRows F n x q) (sym (getD-replicate 64 p 0 0 l));
-}
-
-module _ {F : List ℕ} {n : ℕ} {K U : List ℕ} (k : Unions F n K U) where
-  -- the union of a set that is kept
-  pub union-kept : (p x : ℕ) → p < 64 → getD K p 0 ≡ x → (q : ℕ) → has (getD U p 0) q ≡ inRows F n x q
-  union-kept p x l e q = k .united p q l ∙ ap (λ (y : ℕ). inRows F n y q) e
-
-  -- the set x is kept with its union u
-  pub unions-more : (p x u : ℕ) → p < 64 → ((q : ℕ) → has u q ≡ inRows F n x q) → Unions F n (set K p x) (set U p u)
-  unions-more p x u l f =
-      record {
-        sets-long = length-set K p x ∙ k .sets-long;
-        unions-long = length-set U p u ∙ k .unions-long;
-        united = λ i q h. at i q h (eqb i p) refl;
-      }
-    where
-      at : (i q : ℕ) → i < 64 → (b : Bool) → eqb i p ≡ b → has (getD (set U p u) i 0) q ≡ inRows F n (getD (set K p x) i 0) q
-      at i q h true e =
-          let m = k .sets-long in
-          let w = k .unions-long in
-          rw (eqb-true i p e)
-          (ap (λ (y : ℕ). has y q) (getD-set-same U p u 0 (omega arith))
-          ∙ f q
-          ∙ ap (λ (y : ℕ). inRows F n y q) (sym (getD-set-same K p x 0 (omega arith))))
-      at i q h false e =
-          let z = eqb-false i p e in
-          ap (λ (y : ℕ). has y q) (getD-set-other U p i u 0 z)
-          ∙ k .united i q h
-          ∙ ap (λ (y : ℕ). inRows F n y q) (sym (getD-set-other K p i x 0 z))
-
 -- The word test ---------------------------------------------------------------------------------------------------------
 
 module _ {r : Condition} {side : Side} {F S H : List ℕ} {events : ℕ} (t : Tables r side F S) (h : Holding S (side .leaves) events H) where
-  stepped : (s e u : ℕ) → e < events → ((q : ℕ) → has u q ≡ anyBelow (side .leaves + 1) (λ p. has s p && has (getD F p 0) q))
+  stepped : (s e u : ℕ) → e < events → ((q : ℕ) → has u q ≡ inRows F (side .leaves + 1) s q)
       → bitAnd u (getD H e 0) ≡ step r s e
   unfolding places leafHolds
   stepped s e u l f =
@@ -185,7 +124,7 @@ module _ {r : Condition} {side : Side} {F S H : List ℕ} {events : ℕ} (t : Ta
 
   -- one event more
   pub word-more : (w : List ℕ) (i s u : ℕ) → i < length w → getD w i 0 < events → s ≡ stepAll r 1 (take i w)
-      → ((q : ℕ) → has u q ≡ anyBelow (side .leaves + 1) (λ p. has s p && has (getD F p 0) q))
+      → ((q : ℕ) → has u q ≡ inRows F (side .leaves + 1) s q)
       → bitAnd u (getD H (getD w i 0) 0) ≡ stepAll r 1 (take (i + 1) w)
   word-more w i s u l b e f =
       stepped s (getD w i 0) u b f

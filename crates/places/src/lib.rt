@@ -1,33 +1,24 @@
 // The places of a condition, or of two joined, as tables: from the postfix records in the sheet's bytes.
 ghost use mathlib.Core.Path.{_≡_};
-ghost use mathlib.Core.Bool.{_&&_};
 ghost use Prim.Native.Nat.{ℕ, _<_, _≤_};
 ghost use lib.ListN.{length, getD};
-ghost use Rattle.bits.specs.Bits.{has, anyBelow};
 ghost use Rattle.condition.specs.Condition.{Condition, join};
 ghost use Rattle.condition.specs.Places.{accepts};
-ghost use Rattle.places.specs.Tables.{Tables, StandsAt, PartIs};
-ghost use Rattle.places.specs.Machine.{Roomy, Rows, Unions, Settled};
+ghost use Rattle.items.specs.Stack.{Roomy, Rows};
+ghost use Rattle.postfix.specs.Parts.{StandsAt, PartIs};
+ghost use Rattle.places.specs.Tables.{Tables, Settled};
+use bits::rows::fill_holding;
+use bits::rows::union_of;
 use fields::index;
-use masks::chosen;
-use masks::fill_holding;
-use masks::gather;
-use stack::join_top;
-use stack::push_part;
-
-pub mod masks; // masks.rt: sets of places and of events as words
-pub mod stack; // stack.rt: the stack by which a postfix form is read
+use items::ends_of;
+use items::join_top;
+use postfix::Part;
+use postfix::push_part;
 
 // A side's places besides its tables: how many leaves it has, and the set of places that end a word.
 pub struct Side {
     pub leaves: usize,
     pub ends: u64,
-}
-
-// A part of a side: the condition whose records stand at an offset, or one event.
-pub enum Part {
-    Condition(usize),
-    Event(usize),
 }
 
 // Place 0 is folded in: its followers are the first leaves, and it ends a word where the side is nullable.
@@ -38,7 +29,7 @@ fn settle(leaves: usize, nullable: bool, first: u64, last: u64, follow: &mut [u6
     follow[0] = first;
     Side {
         leaves,
-        ends: last | chosen(nullable, 1),
+        ends: ends_of(nullable, last),
     }
 }
 
@@ -46,9 +37,9 @@ fn settle(leaves: usize, nullable: bool, first: u64, last: u64, follow: &mut [u6
 pub fn side_of(
     s: &[u8],
     part: Part,
-    nullable: &mut [bool; 97],
-    first: &mut [u64; 97],
-    last: &mut [u64; 97],
+    nullable: &mut [bool; 50],
+    first: &mut [u64; 50],
+    last: &mut [u64; 50],
     follow: &mut [u64; 64],
     sets: &mut [u64; 64],
 ) -> Side
@@ -68,9 +59,9 @@ pub fn joined_side(
     s: &[u8],
     a: Part,
     b: Part,
-    nullable: &mut [bool; 97],
-    first: &mut [u64; 97],
-    last: &mut [u64; 97],
+    nullable: &mut [bool; 50],
+    first: &mut [u64; 50],
+    last: &mut [u64; 50],
     follow: &mut [u64; 64],
     sets: &mut [u64; 64],
 ) -> Side
@@ -87,32 +78,6 @@ pub fn joined_side(
     settle(n, nullable[0], first[0], last[0], follow)
 }
 
-// The union of the rows of `follow` at the places below n that the set has. For each lowest place the last set is kept with its union, so
-// that a word that comes back to the same places is stepped without gathering their rows again.
-fn union_of(
-    follow: &[u64; 64],
-    n: usize,
-    set: u64,
-    known: &mut [u64; 64],
-    unions: &mut [u64; 64],
-) -> u64
-    requires { ⌜ (n ≤ 64) × Unions (now follow) n (now known) (now unions) ⌝ }
-    ensures union { λ r. ⌜ ((q : ℕ) → has r q ≡ anyBelow n (λ p. has set p && has (getD (now (follow .entry)) p 0) q)) ⌝ }
-    ensures kept { λ _. ⌜ Unions (now (follow .entry)) n (now (known .exit)) (now (unions .exit)) ⌝ }
-{
-    let p = u64::trailing_zeros(set) as usize;
-    if 64 <= p {
-        return 0;
-    }
-    if known[p] == set {
-        return unions[p];
-    }
-    let union = gather(follow, n, set);
-    known[p] = set;
-    unions[p] = union;
-    union
-}
-
 // The condition at an offset holds the word: the places after each event are the followers of those before that hold it.
 pub fn holds_word(s: &[u8], at: usize, events: usize, word: &[u8]) -> bool
     requires { ⌜ (events ≤ 64) × ((i : ℕ) → i < length (now word) → getD (now word) i 0 < events) ⌝ }
@@ -121,9 +86,9 @@ pub fn holds_word(s: &[u8], at: usize, events: usize, word: &[u8]) -> bool
     let mut follow: [u64; 64] = [0; 64];
     let mut sets: [u64; 64] = [0; 64];
     let mut holding: [u64; 64] = [0; 64];
-    let mut nulls: [bool; 97] = [false; 97];
-    let mut first: [u64; 97] = [0; 97];
-    let mut last: [u64; 97] = [0; 97];
+    let mut nulls: [bool; 50] = [false; 50];
+    let mut first: [u64; 50] = [0; 50];
+    let mut last: [u64; 50] = [0; 50];
     let side = side_of(
         s,
         Part::Condition(at),

@@ -6,9 +6,10 @@ use lib.ListN.{length, take, getD}
 use lib.Bits.{bitAnd}
 use Rattle.condition.specs.Condition.{Condition}
 use Rattle.condition.specs.Places.{stepAll}
-use Rattle.places.specs.Tables.{StandsAt}
-use Rattle.places.specs.Machine.{Unions}
-use Rattle.places.proofs.Sides.{unions-none, word-none, word-more, word-left, word-all}
+use Rattle.postfix.specs.Parts.{StandsAt}
+use Rattle.bits.specs.Rows.{Unions}
+use Rattle.bits.proofs.Filling.{unions-none}
+use Rattle.places.proofs.Sides.{word-none, word-more, word-left, word-all}
 use borrow.Author.Needs.{needs}
 use Rattle.places.proofs.holds_word.Statement.{statement}
 use Rattle.places.proofs.holds_word.Tie as tie

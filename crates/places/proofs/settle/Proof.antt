@@ -1,7 +1,5 @@
 -- `settle` meets its contract.
-use Prim.Native.Nat.{ℕ}
-use mathlib.Core.Path.{refl, ap}
-use lib.Bits.{bitOr}
+use mathlib.Core.Path.{refl}
 use borrow.Author.Needs.{needs}
 use Rattle.places.proofs.settle.Statement.{statement}
 use Rattle.places.proofs.settle.Tie as tie
@@ -9,11 +7,11 @@ use Rattle.places.proofs.settle.Tie as tie
 element-write-follow : tie.Need-element-write-follow
 element-write-follow c = search needs
 
-chosen-requires : tie.Need-chosen-requires
-chosen-requires c κs = search needs
+ends-of-requires : tie.Need-ends-of-requires
+ends-of-requires c κs = search needs
 
 returns : tie.Need-returns
-returns c = record { side-leaves = refl; side-ends = ap (λ (x : ℕ). bitOr (c .before .args .last) x) (c .chosen .ensures); row-start = refl }
+returns c = record { side-leaves = refl; side-ends = c .ends-of .ensures; row-start = refl }
 
 pub settle-spec : {M : Type 1} → statement M
-settle-spec = tie.close (tie.spec element-write-follow chosen-requires returns)
+settle-spec = tie.close (tie.spec element-write-follow ends-of-requires returns)

@@ -2,7 +2,7 @@
 use mathlib.Core.Path.{refl}
 use mathlib.Core.List.{[]}
 use native.Mathlib.Omega.{arith}
-use Rattle.places.specs.Machine.{bottom}
+use Rattle.items.specs.Stack.{bottom}
 use Rattle.places.proofs.Sides.{settled-rows, tables}
 use borrow.Author.Needs.{needs}
 use Rattle.places.proofs.side_of.Statement.{statement}

@@ -1,0 +1,3 @@
+pub mod Reducing
+pub mod Midway
+pub mod Pushes

@@ -1,0 +1,31 @@
+-- The parts of a side, conditions in postfix order and events, and what pushing one does to the stack.
+use mathlib.Core.Path.{_≡_}
+use mathlib.Core.Bool.{Bool}
+use mathlib.Core.List.{List, _∷_}
+use Prim.Native.Nat.{ℕ, _+_, _≤_, _<_}
+use lib.ListN.{length}
+use Rattle.condition.specs.Condition.{Condition, event}
+use Rattle.condition.specs.Places.{leaves}
+use Rattle.sheet.specs.Model.{symbolLimit, leafLimit}
+use Rattle.sheet.specs.AtOffset.{symbolsAt, postfix}
+use Rattle.items.specs.Stack.{Stacked, Roomy, Rows}
+use Rattle.postfix.specs.declared.Part.{Part}
+use Rattle.postfix.specs.declared.Part.the-variants.{Condition as ConditionAt, Event}
+
+-- the records at the offset are the postfix form of the condition r, within the limits of document 01
+pub record StandsAt (s : List ℕ) (at : ℕ) (r : Condition) : Type 0 where
+  pub in-postfix : symbolsAt s at ≡ postfix r
+  pub few-symbols : length (postfix r) ≤ symbolLimit
+  pub few-leaves : leaves r ≤ leafLimit
+
+-- a part of a side is the condition r
+abbrev pub PartIs : List ℕ → Part → Condition → Type 0
+PartIs s (ConditionAt at) r = StandsAt s at r
+PartIs s (Event e) r = (r ≡ event e) × (e < 64)
+
+-- a condition r with Is r was pushed on d items with m leaves, and there are m′ leaves then
+pub record Pushed (Is : Condition → Type 0) (N : List Bool) (A L F S : List ℕ) (N′ : List Bool) (A′ L′ F′ S′ : List ℕ) (d m m′ : ℕ) : Type 0 where
+  pub few : m′ ≤ m + 31
+  pub room : Roomy N′ A′ L′
+  pub rows : Rows F′ S′
+  pub pushed : (r : Condition) → Is r → (rs : List Condition) → Stacked N A L F S d m rs → Stacked N′ A′ L′ F′ S′ (d + 1) m′ (r ∷ rs)
