@@ -17,11 +17,17 @@ use Rattle.condition.specs.Condition.{Condition}
 use Rattle.condition.specs.Places.{leaves, places, leafHolds, follows, ends, step, someEnds}
 use Rattle.condition.proofs.Beside.{follows-leaf}
 use Rattle.condition.proofs.Steps.{step-mask, ends-mask}
-use Rattle.certificate.specs.Certificate.{pair, Certificate, pairOf, Finding, fault, _then_, inOrder, unless, onlyPlaces, within, listed, clause4At, pairFinding}
+use Rattle.certificate.specs.Certificate.{Certificate, pairOf, Finding, fault, _then_, inOrder, unless, onlyPlaces, within, listed, clause4At, pairFinding}
 use Rattle.certificate.proofs.Findings.{inOrder-cong}
 use Rattle.places.specs.Tables.{Tables}
 use Rattle.places.specs.declared.Side.{Side}
-use Rattle.clauses.specs.Clauses.{PlacesOf, rowHas, gathered, allHold, serving, servedBy, unlistedAt}
+use Rattle.bits.specs.Rows.{rowHas, inRows}
+use Rattle.held.specs.Held.{allHold}
+use Rattle.clause4.specs.Clause4.{serving, servedBy, clause4ByTables}
+use Rattle.format.specs.Pairs.{pairIs}
+use Rattle.format.specs.declared.listing.Pair as format
+use Rattle.clauses.specs.declared.Task.{Task}
+use Rattle.clauses.specs.Clauses.{PlacesOf, Ready}
 
 and-cong : (a b d : Bool) → (T a → b ≡ d) → (a && b) ≡ (a && d)
 and-cong true b d h = h tt
@@ -58,7 +64,7 @@ module _ (r : Condition) (side : Side) (follow sets : List ℕ) (t : Tables r si
 -- A set within the stepped set ------------------------------------------------------------------------------------------
 
 module _ (g : Condition) (side : Side) (follow sets : List ℕ) (tg : Tables g side follow sets) (m : ℕ) (m-is : PlacesOf (side .leaves) m)
-    (s onward : ℕ) (onward-is : (q : ℕ) → has onward q ≡ gathered follow m s q) where
+    (s onward : ℕ) (onward-is : (q : ℕ) → has onward q ≡ inRows follow m s q) where
   followed-is : (q : ℕ) → has onward q ≡ anyBelow (places g) (λ p. has s p && follows g p q)
   followed-is q =
       onward-is q
@@ -133,69 +139,76 @@ module _ (g : Condition) (side : Side) (follow sets : List ℕ) (tg : Tables g s
 
 -- Two sides -------------------------------------------------------------------------------------------------------------
 
-module _ (events : ℕ) (l g : Condition) (left right : Side) (lfollow lsets rfollow rsets : List ℕ) (tl : Tables l left lfollow lsets)
-    (tg : Tables g right rfollow rsets) (n m : ℕ) (n-is : PlacesOf (left .leaves) n) (m-is : PlacesOf (right .leaves) m) (c : Certificate)
-    (i place set : ℕ) where
+module _ (x : Task) (l g : Condition) {lfollow lsets rfollow rsets kept : List ℕ} (c : Certificate) (ready : Ready c x lsets rsets kept)
+    (tl : Tables l (x .left) lfollow lsets) (tg : Tables g (x .right) rfollow rsets) (i : ℕ) (p : format.Pair) where
+  abbrev events : ℕ
+  events = x .scope .events
+
+  left-places : x .scope .n ≡ places l
+  left-places = places-are l (x .left) lfollow lsets tl (x .scope .n) (ready .lefts)
+
+  right-places : x .scope .m ≡ places g
+  right-places = places-are g (x .right) rfollow rsets tg (x .scope .m) (ready .rights)
+
   -- the tests of clauses 2 and 3
   abbrev test2 : Bool
-  test2 = ltb place n && ltb set (2 ^ m)
+  test2 = ltb (p .place) (x .scope .n) && ltb (p .set) (2 ^ (x .scope .m))
 
   abbrev test3 : Bool
-  test3 = has (left .ends) place ⇒ not (eqb (bitAnd set (right .ends)) 0)
+  test3 = has (x .left .ends) (p .place) ⇒ not (eqb (bitAnd (p .set) (x .right .ends)) 0)
 
-  test2-is : test2 ≡ (ltb place (places l) && onlyPlaces g set)
+  test2-is : test2 ≡ (ltb (p .place) (places l) && onlyPlaces g (p .set))
   unfolding onlyPlaces
-  test2-is =
-      ap₂ (λ (x y : ℕ). ltb place x && ltb set (2 ^ y)) (places-are l left lfollow lsets tl n n-is) (places-are g right rfollow rsets tg m m-is)
+  test2-is = ap₂ (λ (j k : ℕ). ltb (p .place) j && ltb (p .set) (2 ^ k)) left-places right-places
 
-  test3-is : test3 ≡ (ends l place ⇒ someEnds g set)
-  test3-is = ap₂ (λ (x y : Bool). x ⇒ y) (tl .ends-is place) (ends-mask g set (right .ends) (tg .ends-is))
+  test3-is : test3 ≡ (ends l (p .place) ⇒ someEnds g (p .set))
+  test3-is = ap₂ (λ (a b : Bool). a ⇒ b) (tl .ends-is (p .place)) (ends-mask g (p .set) (x .right .ends) (tg .ends-is))
 
   abbrev clause4 : Finding
-  clause4 = inOrder events (λ e. clause4At events l g c i (pair place set) e)
+  clause4 = inOrder events (λ e. clause4At events l g c i (pairIs p) e)
 
   -- clauses 2 to 4 by their tests, and by what clause 4 finds
   abbrev inTurn : Bool → Bool → Finding → Finding
   inTurn a b v = unless a (fault 2 i 0 0) then unless b (fault 3 i 0 0) then v
 
-  pair-is : (a b : Bool) (v : Finding) → test2 ≡ a → test3 ≡ b → v ≡ clause4 → inTurn a b v ≡ pairFinding events l g c i (pair place set)
+  pair-is : (a b : Bool) (v : Finding) → test2 ≡ a → test3 ≡ b → v ≡ clause4 → inTurn a b v ≡ pairFinding events l g c i (pairIs p)
   unfolding pairFinding
-  pair-is a b v x y z = rw (← x, ← y, test2-is, test3-is, z)
+  pair-is a b v e f h = rw (← e, ← f, test2-is, test3-is, h)
 
   -- a fault of clause 2, and of clause 3
-  pub at-clause2 : test2 ≡ false → fault 2 i 0 0 ≡ pairFinding events l g c i (pair place set)
+  pub at-clause2 : test2 ≡ false → fault 2 i 0 0 ≡ pairFinding events l g c i (pairIs p)
   at-clause2 f = pair-is false test3 clause4 f refl refl
 
-  pub at-clause3 : test2 ≡ true → test3 ≡ false → fault 3 i 0 0 ≡ pairFinding events l g c i (pair place set)
+  pub at-clause3 : test2 ≡ true → test3 ≡ false → fault 3 i 0 0 ≡ pairFinding events l g c i (pairIs p)
   at-clause3 t f = pair-is true false clause4 t f refl
 
   -- clause 4, with the followers of the place and `onward`, those of the set
-  module _ (onward : ℕ) (onward-is : (q : ℕ) → has onward q ≡ gathered rfollow m set q) (t : test2 ≡ true) where
-    on-side : place ≤ leaves l
+  module _ (onward : ℕ) (onward-is : (q : ℕ) → has onward q ≡ inRows rfollow (x .scope .m) (p .set) q) (t : test2 ≡ true) where
+    on-side : p .place ≤ leaves l
     on-side =
-        place-le l left lfollow lsets tl place
-        (rw (places-are l left lfollow lsets tl n n-is) at (inside-place place n (ltb set (2 ^ m)) t))
+        place-le l (x .left) lfollow lsets tl (p .place)
+        (rw left-places at (inside-place (p .place) (x .scope .n) (ltb (p .set) (2 ^ (x .scope .m))) t))
 
-    wanted-is : (e q : ℕ) → (rowHas lfollow place q && rowHas lsets q e) ≡ (follows l place q && leafHolds l q e)
+    wanted-is : (e q : ℕ) → (rowHas lfollow (p .place) q && rowHas lsets q e) ≡ (follows l (p .place) q && leafHolds l q e)
     wanted-is e q =
-        ap (λ (b : Bool). b && rowHas lsets q e) (tl .follow-is place q on-side)
-        ∙ and-cong (follows l place q) (rowHas lsets q e) (leafHolds l q e)
-        (λ f. let (a, b) = follows-leaf l place q f in leaf-row l left lfollow lsets tl q e a b)
+        ap (λ (b : Bool). b && rowHas lsets q e) (tl .follow-is (p .place) q on-side)
+        ∙ and-cong (follows l (p .place) q) (rowHas lsets q e) (leafHolds l q e)
+        (λ f. let (a, b) = follows-leaf l (p .place) q f in leaf-row l (x .left) lfollow lsets tl q e a b)
 
     -- clause 4 at the event e, by the tables
-    abbrev unlisted : ℕ → Finding
-    unlisted e = unlistedAt c n i (getD lfollow place 0) lsets m onward rsets e
+    abbrev byTables : ℕ → Finding
+    byTables e = clause4ByTables c (x .scope .n) i (getD lfollow (p .place) 0) lsets (x .scope .m) onward rsets e
 
     abbrev test4 : ℕ → ℕ → Bool
-    test4 e q = (rowHas lfollow place q && rowHas lsets q e) ⇒ servedBy c m onward rsets (length c) q e
+    test4 e q = (rowHas lfollow (p .place) q && rowHas lsets q e) ⇒ servedBy c (x .scope .m) onward rsets (length c) q e
 
-    event-is : (e : ℕ) → unlisted e ≡ clause4At events l g c i (pair place set) e
+    event-is : (e : ℕ) → byTables e ≡ clause4At events l g c i (pairIs p) e
     unfolding clause4At
     event-is e =
-        ap (λ (k : ℕ). inOrder k (λ q. unless (test4 e q) (fault 4 i e q))) (places-are l left lfollow lsets tl n n-is)
+        ap (λ (k : ℕ). inOrder k (λ q. unless (test4 e q) (fault 4 i e q))) left-places
         ∙ inOrder-cong (places l) _ _
-        (λ q _. ap₂ (λ (x y : Bool). unless (x ⇒ y) (fault 4 i e q)) (wanted-is e q)
-        (listed-is g right rfollow rsets tg m m-is set onward onward-is e c q))
+        (λ q _. ap₂ (λ (a b : Bool). unless (a ⇒ b) (fault 4 i e q)) (wanted-is e q)
+        (listed-is g (x .right) rfollow rsets tg (x .scope .m) (ready .rights) (p .set) onward onward-is e c q))
 
-    pub at-clause4 : test3 ≡ true → inOrder events unlisted ≡ pairFinding events l g c i (pair place set)
-    at-clause4 u = pair-is true true (inOrder events unlisted) t u (inOrder-cong events _ _ (λ e _. event-is e))
+    pub at-clause4 : test3 ≡ true → inOrder events byTables ≡ pairFinding events l g c i (pairIs p)
+    at-clause4 u = pair-is true true (inOrder events byTables) t u (inOrder-cong events _ _ (λ e _. event-is e))

@@ -1,9 +1,2 @@
-pub mod Least
-pub mod Rows
-pub mod Wanting
-pub mod Keeping
-pub mod Round
-pub mod Serving
-pub mod FirstMissing
 pub mod ByTables
 pub mod AllPairs

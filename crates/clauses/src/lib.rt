@@ -1,43 +1,42 @@
 // The clauses of a certificate: its first fault, found in its part of the sheet with the tables of the two sides.
 ghost use mathlib.Core.Path.{_≡_};
-ghost use Prim.Native.Nat.{ℕ, _+_, _≤_, _<_, _^_};
+ghost use Prim.Native.Nat.{ℕ, _+_, _*_, _≤_, _<_, _^_};
 ghost use mathlib.Core.Bool.{not, _&&_};
 ghost use lib.Dec.{eqb, ltb};
 ghost use lib.Bits.{bitAnd};
 ghost use lib.ListN.{length};
 ghost use Rattle.bits.specs.Bits.{has, _⇒_};
 ghost use Rattle.condition.specs.Condition.{Condition};
-ghost use Rattle.certificate.specs.Certificate.{pair, fine, fault, pairFinding, inOrder, check};
-ghost use Rattle.sheet.specs.Decode.{certificateAt};
+ghost use Rattle.certificate.specs.Certificate.{startsRight, pairFinding, inOrder, check};
+ghost use Rattle.sheet.specs.AtOffset.{certificateAt};
+ghost use Rattle.faults.specs.Fault.{findingOf};
+ghost use Rattle.format.specs.Pairs.{pairIs};
 ghost use Rattle.places.specs.Tables.{Tables};
-ghost use Rattle.clauses.specs.Clauses.{findingOf, eachPair, PlacesOf, Active, Surveyed};
-use fields::index;
-use pairs::Pair;
+ghost use Rattle.clauses.specs.declared.Checked.the-variants.{Passes};
+ghost use Rattle.clauses.specs.Clauses.{checkedFinding, Spans, eachPair, PlacesOf, Ready};
+use bits::both;
+use bits::member;
+use bits::rows::gather;
+use clause4::Ask;
+use clause4::Scope;
+use clause4::Turned;
+use clause4::active;
+use clause4::clause4;
+use faults::Fault;
+use faults::Finding;
+use faults::fault_of;
+use format::listing::Pair;
+use held::survey;
+use pairs::Entry;
+use pairs::bytes_of;
 use pairs::known_pair;
 use pairs::pair_in;
 use places::Side;
-use places::masks::gather;
-use places::masks::member;
 
-pub mod missing;
-pub mod sets;
-
-// No fault, or the first.
-pub enum Fault {
-    None,
-    At {
-        clause: usize,
-        pair: usize,
-        event: usize,
-        place: usize,
-    },
-}
-
-// What is found of a pair, and the number of the pair at which the search for the next one is to start. The program chooses that number: what
-// is found is the same for each.
-pub struct Found {
-    pub fault: Fault,
-    pub start: usize,
+// The certificate passes, and takes so many bytes with its end; or its first fault.
+pub enum Checked {
+    Passes(usize),
+    Fails(Fault),
 }
 
 // An inclusion that a certificate is to show: over how many events, and the two sides.
@@ -47,16 +46,18 @@ pub struct Inclusion {
     pub right: Side,
 }
 
-// A fault of clauses 1 to 3.
-pub fn fault_of(clause: usize, i: usize) -> Fault
-    ensures { λ r. ⌜ findingOf r ≡ fault clause i 0 0 ⌝ }
-{
-    Fault::At {
-        clause,
-        pair: i,
-        event: 0,
-        place: 0,
-    }
+// The search for the first fault: what is the same for all pairs, and the two sides.
+pub struct Task {
+    pub scope: Scope,
+    pub left: Side,
+    pub right: Side,
+}
+
+// The pair in turn: its number, its place and set, and the pair at which the search for what it needs is to start.
+pub struct Turn {
+    pub number: usize,
+    pub pair: Pair,
+    pub start: usize,
 }
 
 // The number of a side's places, which is at most 63.
@@ -67,143 +68,134 @@ pub fn places_of(side: Side) -> usize
     if leaves <= 62 { leaves + 1 } else { 63 }
 }
 
-// The place is one of n, and the set has only numbers below m.
-pub fn inside(n: usize, m: usize, place: usize, set: u64) -> bool
-    requires { ⌜ m < 64 ⌝ }
-    ensures { λ r. ⌜ r ≡ (ltb place n && ltb set (2 ^ m)) ⌝ }
+// Clause 1: the first pair exists and is place 0 with set 1.
+pub fn clause1(pairs: &[u8]) -> bool
+    ensures { λ r. ⌜ r ≡ startsRight (certificateAt (now (pairs .entry)) 0) ⌝ }
 {
-    if place < n { set < 1 << m } else { false }
+    let first = pair_in(pairs, 0);
+    let Entry::Pair(pair) = first else {
+        return false;
+    };
+    both(pair.place == 0, pair.set == 1)
 }
 
-// If the place ends a word, so does one of the set.
-pub fn ends_too(lends: u64, rends: u64, place: usize, set: u64) -> bool
-    requires { ⌜ place < 64 ⌝ }
-    ensures { λ r. ⌜ r ≡ (has lends place ⇒ not (eqb (bitAnd set rends) 0)) ⌝ }
+// Clause 2: the place is one of n, and the set has only numbers below m.
+pub fn clause2(n: usize, m: usize, pair: Pair) -> bool
+    requires { ⌜ m < 64 ⌝ }
+    ensures { λ r. ⌜ r ≡ (ltb (pair .place) n && ltb (pair .set) (2 ^ m)) ⌝ }
 {
-    if member(lends, place) {
-        set & rends != 0
+    if pair.place < n {
+        pair.set < 1 << m
+    } else {
+        false
+    }
+}
+
+// Clause 3: if the place ends a word, so does one of the set.
+pub fn clause3(lends: u64, rends: u64, pair: Pair) -> bool
+    requires { ⌜ pair .place < 64 ⌝ }
+    ensures { λ r. ⌜ r ≡ (has lends (pair .place) ⇒ not (eqb (bitAnd (pair .set) rends) 0)) ⌝ }
+{
+    if member(lends, pair.place) {
+        pair.set & rends != 0
     } else {
         true
     }
 }
 
-// Clauses 2 to 4 of one pair of `count`. What is found is the same for every `start`.
+// Clauses 2 to 4 of one pair. What is found is the same wherever the search starts.
 pub fn pair_fault(
     pairs: &[u8],
-    t: Inclusion,
-    count: usize,
-    i: usize,
-    place: usize,
-    set: u64,
-    start: usize,
-    alive: u64,
+    task: Task,
+    turn: Turn,
     lfollow: &[u64; 64],
     lsets: &[u64; 64],
     rfollow: &[u64; 64],
     rsets: &[u64; 64],
-    shared: &[u64; 64],
+    kept: &[u64; 64],
     missing: &mut [u64; 64],
-) -> Found
-    requires { ⌜ t .events ≤ 64 ⌝ }
-    requires { ⌜ (count ≡ length (certificateAt (now pairs) 0)) × (length (now missing) ≡ 64) ⌝ }
-    requires { ⌜ ((m : ℕ) → PlacesOf (t .right .leaves) m → Surveyed (certificateAt (now pairs) 0) m (now rsets) (now shared)) ⌝ }
-    requires { ⌜ ((n : ℕ) → PlacesOf (t .left .leaves) n → Active (now lsets) n (t .events) alive) ⌝ }
-    ensures finding { λ r. ⌜ ((l g : Condition) → Tables l (t .left) (now (lfollow .entry)) (now (lsets .entry)) → Tables g (t .right) (now (rfollow .entry)) (now (rsets .entry)) → findingOf (r .fault) ≡ pairFinding (t .events) l g (certificateAt (now (pairs .entry)) 0) i (pair place set)) ⌝ }
+) -> Turned
+    requires { ⌜ Ready (certificateAt (now pairs) 0) task (now lsets) (now rsets) (now kept) × (length (now missing) ≡ 64) ⌝ }
+    ensures finding { λ r. ⌜ ((l g : Condition) → Tables l (task .left) (now (lfollow .entry)) (now (lsets .entry)) → Tables g (task .right) (now (rfollow .entry)) (now (rsets .entry)) → findingOf (r .finding) ≡ pairFinding (task .scope .events) l g (certificateAt (now (pairs .entry)) 0) (turn .number) (pairIs (turn .pair))) ⌝ }
     ensures rows { λ _. ⌜ length (now (missing .exit)) ≡ 64 ⌝ }
-    ensures hint { λ r. ⌜ r .start ≤ count ⌝ }
+    ensures hint { λ r. ⌜ r .start ≤ task .scope .count ⌝ }
 {
-    let left = t.left;
-    let right = t.right;
-    let n = places_of(left);
-    let m = places_of(right);
-    if inside(n, m, place, set) {
-        let lends = left.ends;
-        let rends = right.ends;
-        if ends_too(lends, rends, place, set) {
-            let events = t.events;
-            let followers = lfollow[place];
-            let onward = gather(rfollow, m, set);
-            return missing::unlisted(
-                pairs,
-                count,
-                i,
-                events,
-                n,
-                followers,
-                alive,
-                lsets,
-                m,
-                onward,
-                rsets,
-                shared,
-                start,
-                missing,
-            );
+    let scope = task.scope;
+    let left = task.left;
+    let right = task.right;
+    let number = turn.number;
+    let pair = turn.pair;
+    let place = pair.place;
+    if clause2(scope.n, scope.m, pair) {
+        if clause3(left.ends, right.ends, pair) {
+            let ask = Ask {
+                pair: number,
+                followers: lfollow[place],
+                onward: gather(rfollow, scope.m, pair.set),
+                start: turn.start,
+            };
+            return clause4(pairs, scope, ask, lsets, rsets, kept, missing);
         }
-        return Found {
-            fault: fault_of(3, i),
+        return Turned {
+            finding: Finding::Found(fault_of(3, number)),
             start: 0,
         };
     }
-    Found {
-        fault: fault_of(2, i),
+    Turned {
+        finding: Finding::Found(fault_of(2, number)),
         start: 0,
     }
 }
 
-// Clauses 2 to 4 of all pairs, in order. `missing` and `shared` are room for the search.
-pub fn pairs_fault(
+// Clauses 2 to 4 of all pairs, in order.
+pub fn in_turn(
     pairs: &[u8],
-    t: Inclusion,
+    task: Task,
     lfollow: &[u64; 64],
     lsets: &[u64; 64],
     rfollow: &[u64; 64],
     rsets: &[u64; 64],
+    kept: &[u64; 64],
     missing: &mut [u64; 64],
-    shared: &mut [u64; 64],
-) -> Fault
-    requires { ⌜ t .events ≤ 64 ⌝ }
-    requires { ⌜ (length (now missing) ≡ 64) × (length (now shared) ≡ 64) ⌝ }
-    ensures finding { λ r. ⌜ ((l g : Condition) → Tables l (t .left) (now (lfollow .entry)) (now (lsets .entry)) → Tables g (t .right) (now (rfollow .entry)) (now (rsets .entry)) → findingOf r ≡ inOrder (length (certificateAt (now (pairs .entry)) 0)) (eachPair (t .events) l g (certificateAt (now (pairs .entry)) 0))) ⌝ }
-    ensures room { λ _. ⌜ (length (now (missing .exit)) ≡ 64) × (length (now (shared .exit)) ≡ 64) ⌝ }
+) -> Checked
+    requires { ⌜ Ready (certificateAt (now pairs) 0) task (now lsets) (now rsets) (now kept) × (length (now missing) ≡ 64) ⌝ }
+    ensures finding { λ r. ⌜ ((l g : Condition) → Tables l (task .left) (now (lfollow .entry)) (now (lsets .entry)) → Tables g (task .right) (now (rfollow .entry)) (now (rsets .entry)) → checkedFinding r ≡ inOrder (length (certificateAt (now (pairs .entry)) 0)) (eachPair (task .scope .events) l g (certificateAt (now (pairs .entry)) 0))) ⌝ }
+    ensures bytes { λ r. ⌜ ((n : ℕ) → r ≡ Passes n → n ≡ 6 * length (certificateAt (now (pairs .entry)) 0) + 1) ⌝ }
+    ensures rows { λ _. ⌜ length (now (missing .exit)) ≡ 64 ⌝ }
 {
-    let left = t.left;
-    let right = t.right;
-    let events = t.events;
-    let count = missing::survey(pairs, places_of(right), rsets, shared);
-    let alive = missing::active(lsets, places_of(left), events);
+    let scope = task.scope;
+    let count = scope.count;
     let mut start: usize = 0;
     let mut i: usize = 0;
     while i < count {
-        let pair = known_pair(pairs, i);
-        let found = pair_fault(
-            pairs,
-            t,
-            count,
-            i,
-            index(pair.place),
-            pair.set,
+        let turn = Turn {
+            number: i,
+            pair: known_pair(pairs, i),
             start,
-            alive,
+        };
+        let turned = pair_fault(
+            pairs,
+            task,
+            turn,
             lfollow,
             lsets,
             rfollow,
             rsets,
-            shared,
+            kept,
             missing,
         );
-        let fault = found.fault;
-        let Fault::None = fault else {
-            return fault;
-        };
-        start = found.start;
+        let finding = turned.finding;
+        if let Finding::Found(fault) = finding {
+            return Checked::Fails(fault);
+        }
+        start = turned.start;
         i += 1;
     }
-    Fault::None
+    Checked::Passes(bytes_of(i))
 }
 
-// The first fault of a certificate that is to show an inclusion, with the tables of the two sides. With n pairs it takes at most n * n looks at
-// a pair, each of which goes through the places of the pair's set at most once. Where it finds none, the certificate has a pair.
+// The first fault of a certificate that is to show an inclusion, with the tables of the two sides. `missing` and `kept` are room for the search.
+// With n pairs it takes at most n * n looks at a pair, each of which goes through the places of the pair's set at most once.
 pub fn first_fault(
     pairs: &[u8],
     t: Inclusion,
@@ -212,23 +204,30 @@ pub fn first_fault(
     rfollow: &[u64; 64],
     rsets: &[u64; 64],
     missing: &mut [u64; 64],
-    shared: &mut [u64; 64],
-) -> Fault
+    kept: &mut [u64; 64],
+) -> Checked
     requires { ⌜ t .events ≤ 64 ⌝ }
-    requires { ⌜ (length (now missing) ≡ 64) × (length (now shared) ≡ 64) ⌝ }
-    ensures finding { λ r. ⌜ ((l g : Condition) → Tables l (t .left) (now (lfollow .entry)) (now (lsets .entry)) → Tables g (t .right) (now (rfollow .entry)) (now (rsets .entry)) → findingOf r ≡ check (t .events) l g (certificateAt (now (pairs .entry)) 0)) ⌝ }
-    ensures begun { λ r. ⌜ (findingOf r ≡ fine → 0 < length (certificateAt (now (pairs .entry)) 0)) ⌝ }
-    ensures room { λ _. ⌜ (length (now (missing .exit)) ≡ 64) × (length (now (shared .exit)) ≡ 64) ⌝ }
+    requires { ⌜ (length (now missing) ≡ 64) × (length (now kept) ≡ 64) ⌝ }
+    ensures finding { λ r. ⌜ ((l g : Condition) → Tables l (t .left) (now (lfollow .entry)) (now (lsets .entry)) → Tables g (t .right) (now (rfollow .entry)) (now (rsets .entry)) → checkedFinding r ≡ check (t .events) l g (certificateAt (now (pairs .entry)) 0)) ⌝ }
+    ensures bytes { λ r. ⌜ ((n : ℕ) → r ≡ Passes n → Spans (now (pairs .entry)) n) ⌝ }
+    ensures room { λ _. ⌜ (length (now (missing .exit)) ≡ 64) × (length (now (kept .exit)) ≡ 64) ⌝ }
 {
-    let found = pair_in(pairs, 0);
-    let Pair::At { place, set } = found else {
-        return fault_of(1, 0);
-    };
-    if place != 0 {
-        return fault_of(1, 0);
+    if clause1(pairs) {
+        let left = t.left;
+        let right = t.right;
+        let events = t.events;
+        let n = places_of(left);
+        let m = places_of(right);
+        let count = survey(pairs, m, rsets, kept);
+        let scope = Scope {
+            count,
+            events,
+            n,
+            m,
+            alive: active(lsets, n, events),
+        };
+        let task = Task { scope, left, right };
+        return in_turn(pairs, task, lfollow, lsets, rfollow, rsets, kept, missing);
     }
-    if set != 1 {
-        return fault_of(1, 0);
-    }
-    pairs_fault(pairs, t, lfollow, lsets, rfollow, rsets, missing, shared)
+    Checked::Fails(fault_of(1, 0))
 }

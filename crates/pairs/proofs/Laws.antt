@@ -1,24 +1,25 @@
 -- The pairs of a certificate, one after another.
 use mathlib.Core.Path.{_≡_, refl, sym, ap, ap₂, _∙_}
-use mathlib.Core.Bool.{Bool, true, false, cond, _||_}
-use mathlib.Core.Logic.{⊎-elim}
-use mathlib.Core.Option.{Option, none, some}
+use mathlib.Core.Bool.{Bool, true, false, cond}
 use mathlib.Core.List.{List, [], _∷_}
 use Prim.Native.Nat.{ℕ, zero, suc, _+_, _*_, _≤_, _<_}
 use native.Mathlib.Omega.{arith}
-use lib.Dec.{T, eqb, ltb, eqb→eq}
-use lib.ListN.{length, drop, getD, length-drop, List·getD-eq-default}
+use lib.Dec.{eqb, ltb}
+use lib.ListN.{length, drop, length-drop}
 use lib.Seq.{getD-drop}
 use borrow.Author.Tests.{lt-ltb, eqb-true, eqb-false, ltb-true, ltb-false}
-use Rattle.bits.specs.Bits.{allBelow}
-use Rattle.bits.proofs.Tests.{or-out, all-out}
 use Rattle.certificate.specs.Certificate.{Pair, pair, Certificate, pairOf}
-use Rattle.sheet.specs.Record.{Record, byteAt, setAt, pairAt, nextAt, bodyLength, recordAt, recordsByKind}
-use Rattle.sheet.specs.Decode.{inFront, pairIn, pairsOn, certificateAt}
-use Rattle.fields.proofs.Laws.{byte-past, set-past, set-is}
-use Rattle.pairs.specs.Found.{listedAt, pairFound}
-use Rattle.pairs.specs.declared.Listed.{Listed}
-use Rattle.pairs.specs.declared.Pair.the-variants.{At, End}
+use Rattle.sheet.specs.Record.{byteAt, nextAt}
+use Rattle.sheet.specs.AtOffset.{setAt, pairAt, pairsOn, certificateAt}
+use Rattle.sheet.proofs.Pairs.{pair-on, pair-off}
+use Rattle.fields.proofs.Laws.{byte-past, set-is}
+use Rattle.format.specs.Pairs.{pairIs, listedAt}
+use Rattle.format.proofs.Pairs.{listed-there, listed-pair}
+use Rattle.format.specs.declared.listing.Listed.{Listed}
+use Rattle.format.specs.declared.listing.Pair as format
+use Rattle.pairs.specs.Found.{pairValue, pairFound}
+use Rattle.pairs.specs.declared.Entry.the-variants as entry
+use Rattle.pairs.specs.declared.Entry.the-variants.{End}
 
 -- a record of kind 13 stands before the end
 pub inside : (s : List ℕ) (at : ℕ) → byteAt s at ≡ 13 → at < length s
@@ -28,89 +29,7 @@ inside s at e = go (ltb at (length s)) refl
     go true l = ltb-true at (length s) l
     go false l = let z : byteAt s at ≡ 0 = byte-past s at (ltb-false at (length s) l) in absurd (omega arith)
 
--- the set of a pair, by its bytes
-pub pair-set : (s : List ℕ) (at : ℕ)
-    → setAt s (at + 2) ≡ byteAt s (at + 2) + 256 * byteAt s (at + 3) + 65536 * (byteAt s (at + 4) + 256 * byteAt s (at + 5))
-pair-set s at =
-    let three : at + 2 + 1 ≡ at + 3 = omega arith in
-    let four : at + 2 + 2 ≡ at + 4 = omega arith in
-    let five : at + 2 + 3 ≡ at + 5 = omega arith in
-    rw (set-is s (at + 2), three, four, five)
-
--- The record at an offset, field by field
-module _ (s : List ℕ) (at : ℕ) where
-  pub listed-by : {kind place set : ℕ} → kind ≡ byteAt s at → place ≡ byteAt s (at + 1) → set ≡ setAt s (at + 2)
-      → _≡_ {A = Listed} (record { kind = kind; place = place; set = set }) (listedAt s at)
-  unfolding listedAt
-  listed-by k p t = rw (k, p, t)
-
-  -- past the end
-  pub listed-past : length s ≤ at → _≡_ {A = Listed} (record { kind = 0; place = 0; set = 0 }) (listedAt s at)
-  listed-past l = listed-by (sym (byte-past s at l)) (sym (byte-past s (at + 1) (omega arith))) (sym (set-past s (at + 2) (omega arith)))
-
-  module _ {e : Listed} (h : e ≡ listedAt s at) where
-    pub listed-kind : e .kind ≡ byteAt s at
-    unfolding listedAt
-    listed-kind = ap (λ (x : Listed). x .kind) h
-
-    pub listed-place : e .place ≡ byteAt s (at + 1)
-    unfolding listedAt
-    listed-place = ap (λ (x : Listed). x .place) h
-
-    pub listed-set : e .set ≡ setAt s (at + 2)
-    unfolding listedAt
-    listed-set = ap (λ (x : Listed). x .set) h
-
 -- The certificate at an offset: a pair and the certificate after it, or nothing ------------------------------------------
-
-abbrev isNone : Option Pair → Bool
-isNone none = true
-isNone (some p) = false
-
-is-none : (o : Option Pair) → T (isNone o) → o ≡ none
-is-none none h = refl
-is-none (some p) h = absurd h
-
-module _ (s : List ℕ) (at : ℕ) where
-  a-pair : byteAt s at ≡ 13 → pairIn (recordAt s at) ≡ some (pairAt s at)
-  unfolding recordAt
-  a-pair e = rw e
-
-  -- of the kinds of records only 13 gives a pair
-  abbrev noPair : Option Record → Bool
-  noPair r = isNone (pairIn r)
-
-  only-13 : T (allBelow 15 (λ k. eqb k 13 || noPair (getD (recordsByKind s at) k none)))
-  unfolding allBelow
-  only-13 = tt
-
-  no-pair : (byteAt s at ≡ 13 → ⊥) → pairIn (recordAt s at) ≡ none
-  unfolding recordAt
-  no-pair n = go (ltb (byteAt s at) 15) refl
-    where
-      kind-none : byteAt s at < 15 → T (noPair (getD (recordsByKind s at) (byteAt s at) none))
-      kind-none l =
-          ⊎-elim
-          (λ e. absurd (n (eqb→eq (byteAt s at) 13 e)))
-          (λ h. h)
-          (or-out (eqb (byteAt s at) 13) (noPair (getD (recordsByKind s at) (byteAt s at) none))
-          (all-out 15 (λ k. eqb k 13 || noPair (getD (recordsByKind s at) k none)) only-13 (byteAt s at) l))
-
-      go : (b : Bool) → ltb (byteAt s at) 15 ≡ b → pairIn (getD (recordsByKind s at) (byteAt s at) none) ≡ none
-      go true l = is-none _ (kind-none (ltb-true (byteAt s at) 15 l))
-      go false l = ap pairIn (List·getD-eq-default (recordsByKind s at) none (ltb-false (byteAt s at) 15 l))
-
-  pair-on : (fuel : ℕ) → byteAt s at ≡ 13 → pairsOn s (suc fuel) at ≡ pairAt s at ∷ pairsOn s fuel (at + 6)
-  unfolding pairsOn nextAt
-  pair-on fuel e =
-      let six : at + 1 + 5 ≡ at + 6 = omega arith in
-      ap (λ (r : Option Pair). inFront r (pairsOn s fuel (nextAt s at))) (a-pair e)
-      ∙ ap (λ (n : ℕ). pairAt s at ∷ pairsOn s fuel n) (ap (λ (k : ℕ). at + 1 + bodyLength k) e ∙ six)
-
-  pair-off : (fuel : ℕ) → (byteAt s at ≡ 13 → ⊥) → pairsOn s fuel at ≡ []
-  unfolding pairsOn
-  pair-off zero n = refl
-  pair-off (suc fuel) n = rw (no-pair n)
 
 -- fuel past the end of the sheet adds nothing
 on-past : (s : List ℕ) (fuel at : ℕ) → length s ≤ at → pairsOn s fuel at ≡ []
@@ -121,7 +40,7 @@ unfolding pairsOn nextAt
 fuel-enough s zero g at h k = sym (on-past s g at (omega arith))
 fuel-enough s (suc f) zero at h k = on-past s (suc f) at (omega arith)
 fuel-enough s (suc f) (suc g) at h k =
-    ap (λ (c : Certificate). inFront (pairIn (recordAt s at)) c) (fuel-enough s f g (nextAt s at) (omega arith) (omega arith))
+    ap (λ (c : Certificate). cond (eqb (byteAt s at) 13) (pairAt s at ∷ c) []) (fuel-enough s f g (nextAt s at) (omega arith) (omega arith))
 
 certificate-more : (s : List ℕ) (at : ℕ) → byteAt s at ≡ 13 → certificateAt s at ≡ pairAt s at ∷ certificateAt s (at + 6)
 unfolding certificateAt
@@ -236,37 +155,50 @@ module _ (s : List ℕ) where
   pairs-near zero k l h = omega arith
   pairs-near (suc i) k l h = let o = pair-inside i l in omega arith
 
+-- a certificate with a pair ends before the end of its part, or in its last pair
+pub last-inside : (s : List ℕ) (n : ℕ) → n ≡ length (certificateAt s 0) → 0 < n → (0 < length s) × (6 * n ≤ length s + 5)
+last-inside s zero e h = absurd (omega arith)
+last-inside s (suc n) e h = let l = pair-inside s n (omega arith) in (omega arith, omega arith)
+
 -- What a reader finds ---------------------------------------------------------------------------------------------------
 
-module _ (s : List ℕ) (i : ℕ) (l : i ≤ length (certificateAt s 0)) where
-  pub a-pair-is : byteAt s (6 * i) ≡ 13 → pairFound (certificateAt s 0) i ≡ At (byteAt s (6 * i + 1)) (setAt s (6 * i + 2))
-  unfolding pairFound
-  a-pair-is k =
-      let h = pair-there s i l k in
-      rw (lt-ltb i (length (certificateAt s 0)) h, pair-read s i h)
+module _ (s : List ℕ) (i : ℕ) {e : Listed} (h : e ≡ listedAt s (6 * i)) where
+  -- the fields that are read where the certificate has a pair
+  pub read-is : i < length (certificateAt s 0) → pairOf (certificateAt s 0) i ≡ pairIs (e .pair)
+  read-is l = pair-read s i l ∙ sym (listed-pair s (6 * i) h)
 
-  pub the-end-is : (byteAt s (6 * i) ≡ 13 → ⊥) → pairFound (certificateAt s 0) i ≡ End
-  unfolding pairFound
-  the-end-is n = go (ltb i (length (certificateAt s 0))) refl
-    where
-      go : (b : Bool) → ltb i (length (certificateAt s 0)) ≡ b → cond b (At (pairOf (certificateAt s 0) i .place) (pairOf (certificateAt s 0) i .set)) End ≡ End
-      go false e = refl
-      go true e = absurd (n (pair-stands s i (ltb-true i (length (certificateAt s 0)) e)))
+  module _ (l : i ≤ length (certificateAt s 0)) where
+    pub a-pair-is : e .there ≡ true → pairFound (certificateAt s 0) i ≡ entry.Pair (e .pair)
+    unfolding pairFound
+    a-pair-is y =
+        let k = pair-there s i l (eqb-true (byteAt s (6 * i)) 13 (sym (listed-there s (6 * i) h) ∙ y)) in
+        rw (lt-ltb i (length (certificateAt s 0)) k) (ap (λ (p : Pair). entry.Pair (pairValue p)) (read-is k))
+
+    pub the-end-is : e .there ≡ false → pairFound (certificateAt s 0) i ≡ End
+    unfolding pairFound
+    the-end-is y = go (ltb i (length (certificateAt s 0))) refl
+      where
+        go : (b : Bool) → ltb i (length (certificateAt s 0)) ≡ b → cond b (entry.Pair (pairValue (pairOf (certificateAt s 0) i))) End ≡ End
+        go false _ = refl
+        go true k =
+            absurd
+            (eqb-false (byteAt s (6 * i)) 13 (sym (listed-there s (6 * i) h) ∙ y)
+            (pair-stands s i (ltb-true i (length (certificateAt s 0)) k)))
 
 -- and what that says of the certificate
 module _ (c : Certificate) (i : ℕ) where
-  pub found-pair : {place set : ℕ} → pairFound c i ≡ At place set → (i < length c) × (pairOf c i ≡ pair place set)
+  pub found-pair : {p : format.Pair} → pairFound c i ≡ entry.Pair p → (i < length c) × (pairOf c i ≡ pairIs p)
   unfolding pairFound
-  found-pair {place} {set} h = go (ltb i (length c)) refl h
+  found-pair {p} h = go (ltb i (length c)) refl h
     where
-      go : (b : Bool) → ltb i (length c) ≡ b → cond b (At (pairOf c i .place) (pairOf c i .set)) End ≡ At place set → (i < length c) × (pairOf c i ≡ pair place set)
-      go true e h = (ltb-true i (length c) e, ap₂ (λ (p t : ℕ). pair p t) (cc) (cc))
+      go : (b : Bool) → ltb i (length c) ≡ b → cond b (entry.Pair (pairValue (pairOf c i))) End ≡ entry.Pair p → (i < length c) × (pairOf c i ≡ pairIs p)
+      go true e h = (ltb-true i (length c) e, let y : pairValue (pairOf c i) ≡ p = cc in ap (λ (q : format.Pair). pairIs q) y)
       go false e h = let z : _≡_ {A = ℕ} 0 1 = cc in absurd (omega arith)
 
   pub found-end : i ≤ length c → pairFound c i ≡ End → i ≡ length c
   unfolding pairFound
   found-end l h = go (ltb i (length c)) refl h
     where
-      go : (b : Bool) → ltb i (length c) ≡ b → cond b (At (pairOf c i .place) (pairOf c i .set)) End ≡ End → i ≡ length c
+      go : (b : Bool) → ltb i (length c) ≡ b → cond b (entry.Pair (pairValue (pairOf c i))) End ≡ End → i ≡ length c
       go true e h = let z : _≡_ {A = ℕ} 0 1 = cc in absurd (omega arith)
       go false e h = let k = ltb-false i (length c) e in omega arith

@@ -1,20 +1,18 @@
--- What is read of a certificate: the record at an offset of its part of the sheet, document 01, kind 13, "left place (1), right set (4)"; and
--- its pairs by number.
-use Prim.Native.Nat.{ℕ, _+_}
+-- The pairs of a certificate by number.
+use Prim.Native.Nat.{ℕ}
 use mathlib.Core.Bool.{cond}
-use mathlib.Core.List.{List}
 use lib.Dec.{ltb}
 use lib.ListN.{length}
+use Rattle.certificate.specs.Certificate as certificate
 use Rattle.certificate.specs.Certificate.{Certificate, pairOf}
-use Rattle.sheet.specs.Record.{byteAt, setAt}
-use Rattle.pairs.specs.declared.Listed.{Listed}
-use Rattle.pairs.specs.declared.Pair.{Pair}
-use Rattle.pairs.specs.declared.Pair.the-variants.{At, End}
+use Rattle.format.specs.declared.listing.Pair as format
+use Rattle.pairs.specs.declared.Entry.{Entry}
+use Rattle.pairs.specs.declared.Entry.the-variants.{Pair, End}
 
--- the record at an offset: its kind, and the fields that it has if it is a pair
-unfoldable pub listedAt : List ℕ → ℕ → Listed
-listedAt s at = record { kind = byteAt s at; place = byteAt s (at + 1); set = setAt s (at + 2) }
+-- the code's value of a pair
+abbrev pub pairValue : certificate.Pair → format.Pair
+pairValue p = record { place = p .place; set = p .set }
 
 -- pair i of a certificate, or its end
-unfoldable pub pairFound : Certificate → ℕ → Pair
-pairFound c i = cond (ltb i (length c)) (At (pairOf c i .place) (pairOf c i .set)) End
+unfoldable pub pairFound : Certificate → ℕ → Entry
+pairFound c i = cond (ltb i (length c)) (Pair (pairValue (pairOf c i))) End

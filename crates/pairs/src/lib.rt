@@ -1,29 +1,25 @@
 // Certificates: a certificate is read from the sheet's own bytes, pair after pair.
 ghost use mathlib.Core.Path.{_≡_};
-ghost use Prim.Native.Nat.{_-_, _≤_, _<_};
+ghost use Prim.Native.Nat.{_+_, _*_, _^_, _≤_, _<_};
 ghost use lib.ListN.{length, drop};
-ghost use Rattle.certificate.specs.Certificate.{pair, pairOf};
-ghost use Rattle.sheet.specs.Decode.{certificateAt};
-ghost use Rattle.pairs.specs.Found.{listedAt, pairFound};
-use fields::byte_at;
-use fields::set_at;
-use fields::set_of;
+ghost use Rattle.certificate.specs.Certificate.{pairOf};
+ghost use Rattle.sheet.specs.AtOffset.{certificateAt};
+ghost use Rattle.format.specs.Pairs.{pairIs, listedAt};
+ghost use Rattle.pairs.specs.Found.{pairFound};
+use format::listing::END_BYTES;
+use format::listing::Listed;
+use format::listing::PAIR_BYTES;
+use format::listing::Pair;
+use format::listing::listed_at;
 
 // The certificate's part of the sheet: the bytes from its first pair on. Document 01 asks for this form.
 pub struct Certificate<'a> {
     pub pairs: &'a [u8],
 }
 
-// A record of a certificate: its kind, and the place and the set that it has if it is a pair.
-pub struct Listed {
-    pub kind: u8,
-    pub place: u8,
-    pub set: u64,
-}
-
 // A pair, or the end of the certificate.
-pub enum Pair {
-    At { place: u8, set: u64 },
+pub enum Entry {
+    Pair(Pair),
     End,
 }
 
@@ -35,39 +31,7 @@ pub fn part_from<'a>(s: &'a [u8], from: usize) -> &'a [u8]
     if from <= n { &s[from..] } else { &s[n..] }
 }
 
-// Of n bytes, six stand from each offset below this on.
-fn whole_below(n: usize) -> usize
-    ensures { λ r. ⌜ r ≡ n - 5 ⌝ }
-{
-    if 5 <= n { n - 5 } else { 0 }
-}
-
-// The record at an offset: the covered reader. Where the whole record is there, one test serves all its bytes.
-pub fn listed_at(s: &[u8], at: usize) -> Listed
-    ensures { λ r. ⌜ r ≡ listedAt (now (s .entry)) at ⌝ }
-{
-    if at < whole_below(s.len()) {
-        return Listed {
-            kind: s[at],
-            place: s[at + 1],
-            set: set_of(s[at + 2], s[at + 3], s[at + 4], s[at + 5]),
-        };
-    }
-    if at < s.len() {
-        return Listed {
-            kind: s[at],
-            place: byte_at(s, at + 1),
-            set: set_at(s, at + 2),
-        };
-    }
-    Listed {
-        kind: 0,
-        place: 0,
-        set: 0,
-    }
-}
-
-// The record at an offset of the certificate.
+// What stands at an offset of the certificate.
 pub fn listed_of<'a>(c: Certificate<'a>, at: usize) -> Listed
     ensures { λ r. ⌜ r ≡ listedAt (now (c .entry .pairs)) at ⌝ }
 {
@@ -82,38 +46,31 @@ pub fn listed_in(pairs: &[u8], at: usize) -> Listed
 }
 
 // Pair number i of the certificate, or its end.
-pub fn pair_in(pairs: &[u8], i: usize) -> Pair
+pub fn pair_in(pairs: &[u8], i: usize) -> Entry
     requires { ⌜ i ≤ length (certificateAt (now pairs) 0) ⌝ }
     ensures { λ r. ⌜ r ≡ pairFound (certificateAt (now (pairs .entry)) 0) i ⌝ }
 {
-    let found = listed_in(pairs, 6 * i);
-    if found.kind == 13 {
-        return Pair::At {
-            place: found.place,
-            set: found.set,
-        };
+    let found = listed_in(pairs, PAIR_BYTES * i);
+    if found.there {
+        let pair = found.pair;
+        return Entry::Pair(pair);
     }
-    Pair::End
+    Entry::End
 }
 
 // Pair number i, which the certificate has: its kind need not be looked at.
-pub fn known_pair(pairs: &[u8], i: usize) -> Listed
+pub fn known_pair(pairs: &[u8], i: usize) -> Pair
     requires { ⌜ i < length (certificateAt (now pairs) 0) ⌝ }
-    ensures { λ r. ⌜ (r .kind ≡ 13) × (pairOf (certificateAt (now (pairs .entry)) 0) i ≡ pair (r .place) (r .set)) ⌝ }
+    ensures { λ r. ⌜ pairOf (certificateAt (now (pairs .entry)) 0) i ≡ pairIs r ⌝ }
 {
-    listed_in(pairs, 6 * i)
+    let found = listed_in(pairs, PAIR_BYTES * i);
+    found.pair
 }
 
-// How many pairs the certificate has.
-pub fn pair_count(pairs: &[u8]) -> usize
-    ensures { λ r. ⌜ r ≡ length (certificateAt (now (pairs .entry)) 0) ⌝ }
+// The bytes of a certificate of so many pairs, with its end.
+pub fn bytes_of(count: usize) -> usize
+    requires { ⌜ 6 * count + 1 < 2 ^ 64 ⌝ }
+    ensures { λ r. ⌜ r ≡ 6 * count + 1 ⌝ }
 {
-    let mut count: usize = 0;
-    loop {
-        let found = pair_in(pairs, count);
-        let Pair::At { place: _, set: _ } = found else {
-            return count;
-        };
-        count += 1;
-    }
+    PAIR_BYTES * count + END_BYTES
 }

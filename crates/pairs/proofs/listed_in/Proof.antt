@@ -1,4 +1,4 @@
--- `pairs::listed_in` meets its contract: a walk of its MIR, by hand. A `Certificate` is made of the slice in a local and passed to `listed_of`; all
+-- `listed_in` meets its contract: a walk of its MIR, by hand. A `Certificate` is made of the slice in a local and passed to `listed_of`; all
 -- that the proof knows of `listed_of` is its contract. A `&[u8]` is Copy, so what it owns is had twice: once for the parameter at exit, and once
 -- inside the struct. In a local of a body MIR erases the lifetime of the struct's type; what the struct owns does not name it.
 use mathlib.Core.Path.{_≡_, refl}
@@ -39,13 +39,13 @@ use denote.Triple.Table.{entered, cited}
 use denote.Triple.Walked.{says, Stays, stay-none, stay-none-slice, walkOf, goes-none, goes-none-slice, Walks, ends-at, walked, walk-meets}
 use denote.Exit.{yes}
 use denote.Triple.Clauses.{ensured, lasts}
-use Rattle.pairs.specs.Found.{listedAt}
+use Rattle.format.specs.Pairs.{listedAt}
 use Rattle.pairs.specs.declared.Certificate.{Certificate}
-use Rattle.pairs.specs.declared.Listed.{Listed}
+use Rattle.format.specs.declared.listing.Listed.{Listed}
 use Rattle.pairs.proofs.Certificate as T
 use Rattle.pairs.proofs.Certificate.Laws as T′
-use Rattle.pairs.proofs.Listed as S
-use Rattle.pairs.proofs.Listed.Laws as S′
+use Rattle.format.proofs.listing.Listed as S
+use Rattle.format.proofs.listing.Listed.Laws as S′
 use Rattle.pairs.proofs.listed_of as thin
 use Rattle.pairs.proofs.listed_of.Symbol as thin-def
 use Rattle.pairs.proofs.listed_of.Symbol.{name as #pairs·listed-of}

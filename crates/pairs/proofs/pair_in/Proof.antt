@@ -1,7 +1,7 @@
--- `pairs::pair_in` meets its contract: up to the last pair one stands there, and then something else.
-use mathlib.Core.Path.{sym, _∙_}
+-- `pair_in` meets its contract: up to the last pair one stands there, and then something else.
+use mathlib.Core.Path.{sym}
 use native.Mathlib.Omega.{arith}
-use Rattle.pairs.proofs.Laws.{listed-kind, listed-place, listed-set, pairs-near, a-pair-is, the-end-is}
+use Rattle.pairs.proofs.Laws.{pairs-near, a-pair-is, the-end-is}
 use borrow.Author.Needs.{needs}
 use Rattle.pairs.proofs.pair_in.Statement.{statement}
 use Rattle.pairs.proofs.pair_in.Tie as tie
@@ -13,11 +13,10 @@ listed-in-requires : tie.Need-listed-in-requires
 listed-in-requires c κs = search needs
 
 returns : tie.Need-returns
-returns c = let read = c .before .before .listed-in .ensures in
-    simp (a-pair-is _ _ (c .before .before .before .before .pre) (sym (listed-kind _ _ read) ∙ c .if1 .taken), listed-place _ _ read, listed-set _ _ read)
+returns c = sym (a-pair-is _ _ (c .before .before .listed-in .ensures) (c .before .before .before .before .pre) (c .before .if1 .taken))
 
 returns-2 : tie.Need-returns-2
-returns-2 c = simp (the-end-is _ _ (c .before .before .before .before .pre) (λ e. c .if1 .left (listed-kind _ _ (c .before .before .listed-in .ensures) ∙ e)))
+returns-2 c = sym (the-end-is _ _ (c .before .listed-in .ensures) (c .before .before .before .pre) (c .if1 .left))
 
 pub pair-in-spec : {M : Type 1} → statement M
 pair-in-spec = tie.close (tie.spec mul-listed-in listed-in-requires returns returns-2)

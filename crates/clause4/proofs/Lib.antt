@@ -1,0 +1,5 @@
+pub mod Rows
+pub mod Wanting
+pub mod Rounds
+pub mod Serving
+pub mod FirstMissing

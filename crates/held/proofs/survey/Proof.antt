@@ -1,0 +1,90 @@
+-- `survey` meets its contract. The loop's invariant: the certificate has `count` pairs or more, and the rows of
+-- these are kept.
+use mathlib.Core.Path.{_≡_, sym, subst, _∙_}
+use mathlib.Core.List.{List}
+use mathlib.Core.Logic.{⊎-elim}
+use Prim.Native.Nat.{ℕ, _+_, _-_, _≤_, _<_}
+use native.Mathlib.Omega.{arith}
+use lib.ListN.{length}
+use Rattle.sheet.specs.AtOffset.{certificateAt}
+use Rattle.certificate.specs.Certificate.{pairOf}
+use Rattle.format.specs.Pairs.{pairIs}
+use Rattle.pairs.proofs.Laws.{pair-inside, found-pair, found-end}
+use Rattle.held.proofs.Keeping.{Keeping, keeping-none, keeping-more, keeping-past, keeping-all}
+use borrow.Author.Needs.{needs}
+use Rattle.held.proofs.survey.Statement.{statement}
+use Rattle.held.proofs.survey.Tie as tie
+
+abbrev Inv-loop : tie.InvT-loop
+Inv-loop pairs m sets kept₀ count₀ kept count = (count ≤ length (certificateAt pairs 0)) × Keeping (certificateAt pairs 0) m sets count kept
+
+abbrev μ-loop : tie.MeasureT-loop
+μ-loop pairs m sets kept₀ count₀ kept count = length (certificateAt pairs 0) - count
+
+loop-holds : tie.Need-loop-holds Inv-loop μ-loop
+loop-holds c = (search needs, keeping-none _ _ _ (c .before .pre .1))
+
+pair-in-requires : tie.Need-pair-in-requires Inv-loop μ-loop
+pair-in-requires c κs = search needs
+
+enum-known-found : tie.Need-enum-known-found Inv-loop μ-loop
+enum-known-found c = search needs
+
+enum-told : tie.Need-enum-told Inv-loop μ-loop
+enum-told c = search needs
+
+returns : tie.Need-returns Inv-loop μ-loop
+returns c = let w = c .before .before .before .loop in
+    let e = found-end _ _ (w .inv .0) (sym (c .before .before .pair-in .ensures) ∙ c .enum-told .given .1) in
+    (e, keeping-all _ _ _ (w .inv .1) e)
+
+meet-requires : tie.Need-meet-requires Inv-loop μ-loop
+meet-requires c κs = search needs
+
+mul-kept : tie.Need-mul-kept Inv-loop μ-loop
+mul-kept c = search needs
+
+element-write-kept : tie.Need-element-write-kept Inv-loop μ-loop
+element-write-kept c = search needs
+
+-- a pair stands there
+pair-is : (c : tie.Joined1 Inv-loop μ-loop)
+    → let c′ = certificateAt (c .before .before .before .before .before .before .before .args .pairs .now) 0 in
+    let i = c .before .before .before .before .before .loop .count in
+    (i < length c′) × (pairOf c′ i ≡ pairIs (c .before .before .found .given .0 .0))
+pair-is c = found-pair _ _ (sym (c .before .before .before .before .pair-in .ensures) ∙ c .before .before .found .given .1)
+
+add-count : tie.Need-add-count Inv-loop μ-loop
+add-count c = omega (arith, pair-inside _ _ (pair-is c .0))
+
+loop-less : tie.Need-loop-less Inv-loop μ-loop
+loop-less c = omega (arith, pair-is c .0)
+
+loop-again : tie.Need-loop-again Inv-loop μ-loop
+loop-again c = let a = c .before .before .before .before .before .before .before .args in
+    let w = c .before .before .before .before .before .loop in
+    let Kept-on : List ℕ → Type 0 = λ rows. Keeping (certificateAt (a .pairs .now) 0) (a .m) (a .sets .now) (w .count + 1) rows in (
+      omega (arith, pair-is c .0),
+      ⊎-elim
+          (λ u. let l : w .count < 64 = omega (arith, u .0 .taken) in subst Kept-on (sym (u .2)) (keeping-more _ _ _ (w .inv .1) _ l (pair-is c .1) (u .1 .ensures)))
+          (λ u. let l : 64 ≤ w .count = omega (arith, u .0 .left) in subst Kept-on (sym (u .1)) (keeping-past _ _ _ (w .inv .1) l))
+          (c .if1 .came),
+    )
+
+pub survey-spec : {M : Type 1} → statement M
+survey-spec =
+    tie.close
+    (tie.spec
+    Inv-loop
+    μ-loop
+    loop-holds
+    pair-in-requires
+    enum-known-found
+    enum-told
+    returns
+    meet-requires
+    mul-kept
+    element-write-kept
+    add-count
+    loop-less
+    loop-again)
