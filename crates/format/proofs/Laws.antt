@@ -1,26 +1,27 @@
--- What `foundAt` says: by the tests of a kind and a body, and to a reader of sections.
+-- What `foundAt` says to a reader of sections: the record that stands at an offset, or that it is refused there.
 use mathlib.Core.Path.{_≡_, refl, sym, ap, _∙_, subst}
-use mathlib.Core.Bool.{Bool, true, false, cond}
-use mathlib.Core.Option.{Option, none, some}
-use mathlib.Core.List.{List, [], _∷_}
+use mathlib.Core.Bool.{Bool, true, false, cond, _&&_, _||_}
+use mathlib.Core.Option.{some}
+use mathlib.Core.List.{List}
 use Prim.Native.Nat.{ℕ, zero, suc, _+_, _-_, _≤_, _<_}
 use native.Mathlib.Omega.{arith}
 use lib.ListN.{length, getD}
-use lib.Dec.{ltb, leb}
-use borrow.Author.Tests.{ltb-true, ltb-false, leb-true, leb-false, lt-ltb, le-ltb}
+use lib.Dec.{T, ltb, leb, eqb}
+use borrow.Author.Tests.{ltb-true, ltb-false, leb-true, leb-false, lt-ltb, le-ltb, ne-eqb, eq-eqb}
 use Rattle.sheet.specs.Model.{Model}
-use Rattle.sheet.specs.Record.{Record, byteAt, bodyLength, nextAt, recordsByKind, recordAt}
-use Rattle.sheet.specs.Reading.{Reading, refusalOf, not-taken, takenBy, takeAt}
-use Rattle.sheet.proofs.Fields.{next-is}
-use Rattle.sheet.proofs.Kind.{numbered, kind-is, kind-above}
-use Rattle.sheet.proofs.Take.{take-is}
+use Rattle.sheet.specs.Kind.{bodyLength}
+use Rattle.sheet.specs.Record.{byteAt, recordAt, nextAt}
+use Rattle.sheet.specs.Reading.{Reading, refusal, takeAt}
+use Rattle.sheet.proofs.Take.{next-is}
+use Rattle.sheet.proofs.Order.{is-2, two, three}
 use Rattle.fields.proofs.Laws.{byte-past}
 use Rattle.format.specs.declared.Refusal.{Refusal}
 use Rattle.format.specs.declared.Refusal.the-variants.{UnknownKind, BodyPastEnd}
 use Rattle.format.specs.declared.Found.{Found}
 use Rattle.format.specs.declared.Found.the-variants as found
 use Rattle.format.specs.Refusal.{numberOf, placeOf}
-use Rattle.format.specs.Found.{foundAt}
+use Rattle.format.specs.Found.{isKnown, foundAt, refusalAt}
+use Rattle.format.proofs.Table.{bodies, body-is, body-le}
 
 pub cond-by : {A : Type 0} (P : A → Type 0) (b : Bool) {x y : A} → (b ≡ true → P x) → (b ≡ false → P y) → P (cond b x y)
 cond-by P true f g = f refl
@@ -34,113 +35,121 @@ inside s at h = go (leb (length s) at) refl
     go true e = absurd (omega (arith, byte-past s at (leb-true (length s) at e)))
     go false e = leb-false (length s) at e
 
--- body lengths from kind 1 on, as the code's table has them
-abbrev bodies : List ℕ
-bodies = 4 ∷ 0 ∷ 0 ∷ 0 ∷ 0 ∷ 0 ∷ 6 ∷ 6 ∷ 10 ∷ 5 ∷ 6 ∷ 4 ∷ 5 ∷ 0 ∷ []
-
 pub next-by : (s : List ℕ) (at k : ℕ) → byteAt s at ≡ k → 1 ≤ k → at + 1 + getD bodies (k - 1) 0 ≡ nextAt s at
 next-by s at zero e h = absurd (omega arith)
 next-by s at (suc j) e h =
     let one : suc j - 1 ≡ j = omega arith in
-    ap (λ (i : ℕ). at + 1 + getD bodies i 0) one ∙ (ap (λ (k : ℕ). at + 1 + bodyLength k) (sym e) ∙ sym (next-is s at))
-
-body-le : (k : ℕ) → bodyLength k ≤ 10
-body-le = numbered (λ k n. n ≤ 10) (0 ∷ bodies) 0 (omega arith)
+    ap (λ (i : ℕ). at + 1 + getD bodies i 0) one ∙ ap (λ (n : ℕ). at + 1 + n) (body-is (suc j)) ∙ ap (λ (k : ℕ). at + 1 + bodyLength k) (sym e) ∙ sym (next-is s at)
 
 pub next-le : (s : List ℕ) (at : ℕ) → nextAt s at ≤ at + 11
 next-le s at = omega (arith, next-is s at, body-le (byteAt s at))
 
--- kinds 1 to 14 have a record
-abbrev Known : ℕ → Option Record → Type 0
-Known k none = 1 ≤ k → k ≤ 14 → ⊥
-Known k (some x) = Unit {0}
+-- Kinds 1 to `kinds` --------------------------------------------------------------------------------------------------
 
-module _ (s : List ℕ) (at : ℕ) where
-  known : (k : ℕ) → Known k (getD (recordsByKind s at) k none)
-  known =
-      numbered Known (recordsByKind s at) none
-      (omega arith, (tt, (tt, (tt, (tt, (tt, (tt, (tt, (tt, (tt, (tt, (tt, (tt, (tt, (tt, λ i. omega arith)))))))))))))))
+pub known-out : (kinds k : ℕ) → isKnown kinds k ≡ true → (1 ≤ k) × (k ≤ kinds)
+known-out kinds k e = go (ltb 0 k) refl e
+  where
+    go : (b : Bool) → ltb 0 k ≡ b → (b && leb k kinds) ≡ true → (1 ≤ k) × (k ≤ kinds)
+    go true low high = (ltb-true 0 k low, leb-true k kinds high)
+    go false low high = absurd (subst T (sym high) tt)
 
-  found-is : foundAt s at ≡ cond (ltb (byteAt s at) 1) (found.Refused (UnknownKind at))
-      (cond (ltb 14 (byteAt s at)) (found.Refused (UnknownKind at))
-      (cond (ltb (length s) (nextAt s at)) (found.Refused (BodyPastEnd at)) (found.Record (byteAt s at) (nextAt s at))))
+-- .. is the test of refusal 2
+known-not-2 : (kinds k : ℕ) → isKnown kinds k ≡ true → (eqb k 0 || ltb kinds k) ≡ false
+known-not-2 kinds k e =
+    let (low, high) = known-out kinds k e in
+    simp (ne-eqb k 0 (λ e. omega arith), le-ltb kinds k high)
+
+unknown-2 : (kinds k : ℕ) → isKnown kinds k ≡ false → (eqb k 0 || ltb kinds k) ≡ true
+unknown-2 kinds k e = go (ltb 0 k) refl e
+  where
+    or-true : (b : Bool) → (b || true) ≡ true
+    or-true true = refl
+    or-true false = refl
+
+    go : (b : Bool) → ltb 0 k ≡ b → (b && leb k kinds) ≡ false → (eqb k 0 || ltb kinds k) ≡ true
+    go true low high = ap (λ (b : Bool). eqb k 0 || b) (lt-ltb kinds k (leb-false k kinds high)) ∙ or-true (eqb k 0)
+    go false low high = simp (eq-eqb k 0 (omega (arith, ltb-false 0 k low)))
+
+-- By the tests -------------------------------------------------------------------------------------------------------
+
+module _ (kinds : ℕ) (s : List ℕ) (at : ℕ) where
+  found-is : foundAt kinds s at
+      ≡ cond (isKnown kinds (byteAt s at)) (cond (ltb (length s) (nextAt s at)) found.NoRecord (found.Record (byteAt s at) (nextAt s at))) found.NoRecord
   unfolding foundAt
   found-is = refl
 
-  pub kind-low : byteAt s at < 1 → foundAt s at ≡ found.Refused (UnknownKind at)
-  kind-low h = found-is ∙ simp (lt-ltb (byteAt s at) 1 h)
+  pub unknown-kind : isKnown kinds (byteAt s at) ≡ false → foundAt kinds s at ≡ found.NoRecord
+  unknown-kind e = found-is ∙ simp e
 
-  pub kind-high : 14 < byteAt s at → foundAt s at ≡ found.Refused (UnknownKind at)
-  kind-high h = found-is ∙ simp (le-ltb (byteAt s at) 1 (omega arith), lt-ltb 14 (byteAt s at) h)
+  module _ (known : isKnown kinds (byteAt s at) ≡ true) where
+    pub body-past-end : length s < nextAt s at → foundAt kinds s at ≡ found.NoRecord
+    body-past-end h = found-is ∙ simp (known, lt-ltb (length s) (nextAt s at) h)
 
-  module _ (low : 1 ≤ byteAt s at) (high : byteAt s at ≤ 14) where
-    pub body-past-end : length s < nextAt s at → foundAt s at ≡ found.Refused (BodyPastEnd at)
-    body-past-end h = found-is ∙ simp (le-ltb (byteAt s at) 1 low, le-ltb 14 (byteAt s at) high, lt-ltb (length s) (nextAt s at) h)
-
-    pub whole-record : nextAt s at ≤ length s → foundAt s at ≡ found.Record (byteAt s at) (nextAt s at)
-    whole-record h = found-is ∙ simp (le-ltb (byteAt s at) 1 low, le-ltb 14 (byteAt s at) high, le-ltb (length s) (nextAt s at) h)
+    pub whole-record : nextAt s at ≤ length s → foundAt kinds s at ≡ found.Record (byteAt s at) (nextAt s at)
+    whole-record h = found-is ∙ simp (known, le-ltb (length s) (nextAt s at) h)
 
 -- To a reader of sections ---------------------------------------------------------------------------------------------
 
--- the record x stands at an offset, with its kind k, and q is the offset after it
-pub record Stood (s : List ℕ) (at k q : ℕ) : Type 0 where
-  pub kind : byteAt s at ≡ k
-  pub next : nextAt s at ≡ q
-  pub low : 1 ≤ k
-  pub high : k ≤ 14
-  pub inside : q ≤ length s
-  pub x : Record
-  pub is : recordAt s at ≡ some x
+pub kind-there : (s : List ℕ) (at : ℕ) → recordAt s at .kind ≡ byteAt s at
+unfolding recordAt
+kind-there s at = refl
 
-there : (k : ℕ) → 1 ≤ k → k ≤ 14 → (o : Option Record) → Known k o → (x : Record) × (o ≡ some x)
-there k low high none h = absurd (h low high)
-there k low high (some x) h = (x, refl)
-
-module _ (s : List ℕ) (at : ℕ) where
-  a-record : 1 ≤ byteAt s at → byteAt s at ≤ 14 → (x : Record) × (recordAt s at ≡ some x)
-  a-record low high =
-      let (x, e) = there (byteAt s at) low high (getD (recordsByKind s at) (byteAt s at) none) (known s at (byteAt s at)) in
-      (x, kind-is s at (byteAt s at) refl ∙ e)
+module _ (M : Model) (s : List ℕ) (at : ℕ) where
+  -- a record of the kind k stands at the offset: neither 2 nor 3; q is the offset after it
+  pub record Stood (k q : ℕ) : Type 0 where
+    pub kind : byteAt s at ≡ k
+    pub next : nextAt s at ≡ q
+    pub low : 1 ≤ k
+    pub high : k ≤ M .kinds
+    pub inside : nextAt s at ≤ length s
+    pub not-2 : (eqb (recordAt s at .kind) 0 || ltb (M .kinds) (recordAt s at .kind)) ≡ false
 
   -- by the tests that `foundAt` makes
-  module _ (P : Found → Type 0)
-      (unknown : recordAt s at ≡ none → P (found.Refused (UnknownKind at)))
-      (past-end : (x : Record) → recordAt s at ≡ some x → length s < nextAt s at → P (found.Refused (BodyPastEnd at)))
-      (stands : Stood s at (byteAt s at) (nextAt s at) → P (found.Record (byteAt s at) (nextAt s at))) where
-    by-tests : P (foundAt s at)
-    by-tests =
-        subst P (sym (found-is s at))
-        (cond-by P (ltb (byteAt s at) 1) (λ a. unknown (kind-is s at 0 (omega (arith, ltb-true (byteAt s at) 1 a))))
-        (λ a. cond-by P (ltb 14 (byteAt s at)) (λ b. unknown (kind-above s at (ltb-true 14 (byteAt s at) b)))
-        (λ b.
-        let (x, is) = a-record (ltb-false (byteAt s at) 1 a) (ltb-false 14 (byteAt s at) b) in
-        cond-by P (ltb (length s) (nextAt s at)) (λ c. past-end x is (ltb-true (length s) (nextAt s at) c))
-        (λ c. stands (record { kind = refl; next = refl; low = ltb-false (byteAt s at) 1 a; high = ltb-false 14 (byteAt s at) b; inside = ltb-false (length s) (nextAt s at) c; x = x; is = is })))))
+  by-tests : (P : Found → Type 0) → (isKnown (M .kinds) (byteAt s at) ≡ false → P found.NoRecord)
+      → (isKnown (M .kinds) (byteAt s at) ≡ true → length s < nextAt s at → P found.NoRecord)
+      → (Stood (byteAt s at) (nextAt s at) → P (found.Record (byteAt s at) (nextAt s at))) → P (foundAt (M .kinds) s at)
+  by-tests P unknown past-end stands =
+      subst P (sym (found-is (M .kinds) s at))
+      (cond-by P (isKnown (M .kinds) (byteAt s at))
+      (λ a. cond-by P (ltb (length s) (nextAt s at)) (λ b. past-end a (ltb-true (length s) (nextAt s at) b))
+      (λ b. stands
+      (record {
+        kind = refl;
+        next = refl;
+        low = known-out (M .kinds) (byteAt s at) a .0;
+        high = known-out (M .kinds) (byteAt s at) a .1;
+        inside = ltb-false (length s) (nextAt s at) b;
+        not-2 = subst (λ (k : ℕ). (eqb k 0 || ltb (M .kinds) k) ≡ false) (sym (kind-there s at)) (known-not-2 (M .kinds) (byteAt s at) a);
+      })))
+      unknown)
 
-pub stood : (s : List ℕ) (at : ℕ) {k q : ℕ} → foundAt s at ≡ found.Record k q → Stood s at k q
-stood s at {k} {q} e =
-    by-tests s at (λ (f : Found). f ≡ found.Record k q → Stood s at k q)
-    (λ no e. let z : _≡_ {A = ℕ} 0 1 = cc in absurd (omega arith))
-    (λ x is h e. let z : _≡_ {A = ℕ} 0 1 = cc in absurd (omega arith))
-    (λ w e.
-    let kind : byteAt s at ≡ k = cc in
-    let next : nextAt s at ≡ q = cc in
-    record { kind = kind; next = next; low = omega (arith, w .low); high = omega (arith, w .high); inside = omega (arith, w .inside); x = w .x; is = w .is })
-    e
+  pub stood : {k q : ℕ} → foundAt (M .kinds) s at ≡ found.Record k q → Stood k q
+  stood {k} {q} e =
+      by-tests (λ (f : Found). f ≡ found.Record k q → Stood k q)
+      (λ a e. let z : _≡_ {A = ℕ} 0 1 = cc in absurd (omega arith))
+      (λ a b e. let z : _≡_ {A = ℕ} 0 1 = cc in absurd (omega arith))
+      (λ w e.
+      let kind : byteAt s at ≡ k = cc in
+      let next : nextAt s at ≡ q = cc in
+      record { kind = kind; next = next; low = omega (arith, w .low); high = omega (arith, w .high); inside = w .inside; not-2 = w .not-2 })
+      e
 
--- the record is refused, in whatever state
-pub refused : (M : Model) (s : List ℕ) (at : ℕ) (r : Reading) {y : Refusal} → foundAt s at ≡ found.Refused y
-    → (takeAt M s at r ≡ not-taken (numberOf y)) × (placeOf y ≡ some at)
-refused M s at r {y} e =
-    by-tests s at (λ (f : Found). f ≡ found.Refused y → (takeAt M s at r ≡ not-taken (numberOf y)) × (placeOf y ≡ some at))
-    (λ no e. subst Refuses (refusal-in e) (take-is M s at r ∙ ap (λ (o : Option Record). takenBy s at r o (refusalOf M s at r o)) no, refl))
-    (λ x is h e. subst Refuses (refusal-in e)
-    (take-is M s at r ∙ (ap (λ (o : Option Record). takenBy s at r o (refusalOf M s at r o)) is ∙ simp (lt-ltb (length s) (nextAt s at) h)), refl))
-    (λ w e. let z : _≡_ {A = ℕ} 0 1 = cc in absurd (omega arith))
-    e
-  where
-    Refuses : Refusal → Type 0
-    Refuses y = (takeAt M s at r ≡ not-taken (numberOf y)) × (placeOf y ≡ some at)
+  -- the record there is refused in the state r, with the number and the place of y
+  abbrev pub Refuses : Reading → Refusal → Type 0
+  Refuses r y = (takeAt M s at r ≡ refusal (numberOf y) at r) × (placeOf y ≡ some at)
 
-    refusal-in : {x : Refusal} → found.Refused x ≡ found.Refused y → x ≡ y
-    refusal-in e = cc
+  -- no record stands there
+  pub refused : (r : Reading) → foundAt (M .kinds) s at ≡ found.NoRecord → Refuses r (refusalAt (M .kinds) s at)
+  refused r e =
+      by-tests (λ (f : Found). f ≡ found.NoRecord → Refuses r (refusalAt (M .kinds) s at))
+      (λ a e. subst (Refuses r) (sym (ap why a)) (two M s at r (by-kind true (unknown-2 (M .kinds) (byteAt s at) a)), refl))
+      (λ a b e. subst (Refuses r) (sym (ap why a))
+      (three M s at r (by-kind false (known-not-2 (M .kinds) (byteAt s at) a)) (lt-ltb (length s) (nextAt s at) b), refl))
+      (λ w e. let z : _≡_ {A = ℕ} 0 1 = cc in absurd (omega arith))
+      e
+    where
+      why : Bool → Refusal
+      why b = cond b (BodyPastEnd at) (UnknownKind at)
+
+      by-kind : (b : Bool) → (eqb (byteAt s at) 0 || ltb (M .kinds) (byteAt s at)) ≡ b → is-2 M s at r ≡ b
+      by-kind b e = subst (λ (k : ℕ). (eqb k 0 || ltb (M .kinds) k) ≡ b) (sym (kind-there s at)) e

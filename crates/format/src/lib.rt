@@ -1,8 +1,17 @@
 // The records of a sheet: one byte of kind, then a body whose length the kind fixes.
 ghost use mathlib.Core.Path.{_≡_};
-ghost use Rattle.format.specs.Found.{foundAt};
+ghost use Prim.Native.Nat.{_≤_};
+ghost use Rattle.format.specs.Kinds.{lastKind};
+ghost use Rattle.format.specs.Found.{isKnown, foundAt, refusalAt};
+use bits::both;
 use fields::byte_at;
 use fields::index;
+
+pub mod kinds; // kinds.rt: what reading asks of a kind
+pub mod names; // names.rt: whether what a record names exists
+pub mod listing; // listing.rt: the pairs of a certificate
+pub mod symbols; // symbols.rt: the symbols of a condition
+pub mod values; // values.rt: points, methods and steps as values
 
 // The refusals 1 to 10 and 12 to 14 of document 01, with their places; specs/Refusal gives each its number.
 pub enum Refusal {
@@ -24,26 +33,41 @@ pub enum Refusal {
 // Body lengths by kind, 1 to 14.
 const BODY_LENGTHS: [u8; 14] = [4, 0, 0, 0, 0, 0, 6, 6, 10, 5, 6, 4, 5, 0];
 
-// A record with the offset after it, or the refusal that ends reading.
+// A record with the offset after it. Where there is none, `refusal_at` says why.
 pub enum Found {
     Record { kind: u8, next: usize },
-    Refused(Refusal),
+    NoRecord,
 }
 
-// The record at an offset.
-pub fn record_at(s: &[u8], at: usize) -> Found
-    ensures { λ r. ⌜ r ≡ foundAt (now (s .entry)) at ⌝ }
+// A kind up to the highest that an instrument takes.
+fn known(kind: u8, kinds: u8) -> bool
+    ensures { λ r. ⌜ r ≡ isKnown kinds kind ⌝ }
+{
+    both(0 < kind, kind <= kinds)
+}
+
+// The record at an offset, of the kinds 1 to `kinds`.
+pub fn record_at(s: &[u8], kinds: u8, at: usize) -> Found
+    requires { ⌜ kinds ≤ lastKind ⌝ }
+    ensures { λ r. ⌜ r ≡ foundAt kinds (now (s .entry)) at ⌝ }
 {
     let kind = byte_at(s, at);
-    if kind < 1 {
-        return Found::Refused(Refusal::UnknownKind(at));
-    }
-    if 14 < kind {
-        return Found::Refused(Refusal::UnknownKind(at));
+    if !known(kind, kinds) {
+        return Found::NoRecord;
     }
     let next = at + 1 + index(BODY_LENGTHS[index(kind) - 1]);
     if s.len() < next {
-        return Found::Refused(Refusal::BodyPastEnd(at));
+        return Found::NoRecord;
     }
     Found::Record { kind, next }
+}
+
+// The refusal that ends reading at an offset where no record stands.
+pub fn refusal_at(s: &[u8], kinds: u8, at: usize) -> Refusal
+    ensures { λ r. ⌜ r ≡ refusalAt kinds (now (s .entry)) at ⌝ }
+{
+    if known(byte_at(s, at), kinds) {
+        return Refusal::BodyPastEnd(at);
+    }
+    Refusal::UnknownKind(at)
 }

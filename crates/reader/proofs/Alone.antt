@@ -1,173 +1,195 @@
--- Points, methods and steps: records that stand alone, each counted and its offset stored.
+-- Points, methods and steps: records that stand alone, each counted and its offset stored. One law for the three sections.
 use mathlib.Core.Path.{_≡_, refl, sym, ap, _∙_, subst}
-use mathlib.Core.Bool.{Bool, true, false, cond, _&&_}
-use mathlib.Core.Option.{none, some}
+use mathlib.Core.Bool.{Bool, true, false, _&&_}
 use mathlib.Core.List.{List, [], _∷_, _++_}
-use Prim.Native.Nat.{ℕ, _≤_, _<_}
+use Prim.Native.Nat.{ℕ, suc, _+_, _≤_, _<_}
 use native.Mathlib.Omega.{arith}
-use lib.ListN.{length, getD, set}
-use lib.Dec.{ltb, leb, eqb}
-use borrow.Author.Tests.{le-leb, lt-leb}
-use Rattle.sheet.specs.Model.{Model, methodLimit, stepLimit}
-use Rattle.sheet.specs.Sheet.{Body}
-use Rattle.sheet.specs.Record.{Record, byteAt, sectionOf, nextAt, recordsByKind, recordAt, point-record, pointAt, method-record, methodAt, step-record, stepAt}
-use Rattle.sheet.specs.Reading.{Tally as Counts, Offsets, countsOf, Unended, nothing, Reading, conditionOpen, startOf, wrongItems, overLimit, named, isPrimitive, firstIsPrimitive, unendedPast, tallyPast, offsetsPast}
-use Rattle.sheet.proofs.Kind.{kind-is}
-use Rattle.format.specs.declared.Refusal.the-variants.{OverLimit, UnknownName, NoFirstBody}
-use Rattle.format.proofs.Laws.{Stood}
+use lib.ListN.{length, length-append, set}
+use lib.Dec.{eqb, ltb, leb}
+use borrow.Author.Tests.{ne-eqb, eq-eqb}
+use Rattle.sheet.specs.Model.{Model}
+use Rattle.sheet.specs.Kind.{Role, symbol, a-pair, counts, kindOf, sectionOf}
+use Rattle.sheet.specs.Record.{byteAt, recordAt}
+use Rattle.sheet.specs.Reading.{Opened, Counted, Reading, tally, startOf, startsOf, wrongItems, full, overLimit, allExist, noneYet, Outcome}
+use Rattle.sheet.proofs.Order.{is-4, is-5, is-6, all-named, is-9, six, seven, nine, takes}
+use Rattle.format.specs.declared.Refusal.{Refusal}
+use Rattle.format.specs.declared.Refusal.the-variants.{WrongSection, OverLimit, UnknownName, NoFirstBody}
+use Rattle.format.specs.Kinds.{primitiveKind}
+use Rattle.format.proofs.Table.{Suits, suits, primitive-section}
+use Rattle.format.proofs.Laws.{Stood, Refuses}
+use Rattle.instrument.specs.declared.Limits.{Limits}
+use Rattle.instrument.specs.Model.{modelWith}
 use Rattle.tally.specs.declared.Tally.{Tally}
-use Rattle.tally.specs.Tally.{tallyOf, tallyAfter, Room}
-use Rattle.tally.proofs.Laws.{counted-past}
-use Rattle.reader.specs.declared.Section.the-variants.{Refused}
-use Rattle.reader.specs.State.{stateAt, overwritten}
-use Rattle.reader.specs.Left.{put, Kept, Told}
-use Rattle.reader.proofs.Order.{six, seven, nine, takes}
-use Rattle.reader.proofs.Step.{or-above, none-yet, refuses, stands-past}
-use Rattle.reader.proofs.Overwritten.{stored}
+use Rattle.tally.specs.Tally.{countOf, tallyAfter}
+use Rattle.reader.specs.declared.Section.{Section}
+use Rattle.reader.specs.declared.Section.the-variants.{Done, Refused}
+use Rattle.reader.specs.Contract.{Counts}
+use Rattle.reader.specs.Sections.{Comes, Between, Told, overwrittenFrom, Extended, Filled, Alone}
+use Rattle.reader.proofs.Comes.{refuses, taken-on}
+use Rattle.reader.proofs.Overwritten.{none-written}
+use Rattle.reader.proofs.Counted.{pastIt, closed, counts-more, grown-more}
+use Rattle.reader.proofs.Tests.{and-left, and-right, section-is, not-3, early, in-order, names-are, primitive-is}
 
--- x stands at an offset, with a kind of section k; the code has counted n of them, of limit at most
-pub record Alone (M : Model) (s : List ℕ) (k at : ℕ) (t : Tally) (kind n limit : ℕ) (x : Record) : Type 0 where
-  pub is : recordAt s at ≡ some x
-  pub same : sectionOf kind ≡ k
-  pub items : (i : ℕ) → wrongItems x i ≡ false
-  pub bounded : (r : Reading) → r .tally ≡ tallyOf t → overLimit M r x ≡ leb limit n
-  pub closed : (u : Unended) → unendedPast u at x ≡ nothing
-  pub grows : (f : Offsets) (l : List ℕ) (start : ℕ) → offsetsPast (put k f l) start at x ≡ put k f (l ++ (at ∷ []))
-  pub count : (f : Offsets) (l : List ℕ) → tallyOf t ≡ countsOf (put k f l) → n ≡ length l
-  pub room : n < limit → Room (tallyOf t) → Room (tallyPast (tallyOf t) x)
+and-true : (b : Bool) → b ≡ (b && true)
+and-true true = refl
+and-true false = refl
 
--- the code can count on
-pub room-past : {M : Model} {s : List ℕ} {k at : ℕ} {t t′ : Tally} {kind q n limit : ℕ} {x : Record} → Stood s at kind q → Alone M s k at t kind n limit x → n < limit
-    → t′ ≡ tallyAfter t kind → Room (tallyOf t) → Room (tallyOf t′)
-room-past {M} {s} {k} {at} {t} {x = x} w a less after left =
-    subst Room (sym (ap tallyOf (after ∙ ap (tallyAfter t) (sym (w .kind))) ∙ counted-past t s at x (a .is))) (a .room less left)
+-- the kinds of these sections count, each by itself
+stands-alone : (k : ℕ) → 2 ≤ sectionOf k → sectionOf k ≤ 4 → kindOf k .role ≡ counts
+stands-alone k low high = go (kindOf k .role) (suits k)
+  where
+    go : (y : Role) → Suits (sectionOf k) y → y ≡ counts
+    go (symbol takes make) e = absurd (omega arith)
+    go a-pair e = absurd (omega arith)
+    go counts e = refl
 
-module _ {M : Model} {s : List ℕ} {k from at : ℕ} {t : Tally} {table₀ table : List ℕ} (h : Kept M s k from at t table₀ table) {kind q : ℕ} (w : Stood s at kind q)
-    (inside : at < length s) {n limit : ℕ} {x : Record} (a : Alone M s k at t kind n limit x) where
-  abbrev r : Reading
-  r = stateAt M s at
+-- a section that begins has no offsets yet
+pub begin : {k : ℕ} {r : Reading} (table : List ℕ) → r .own k ≡ [] → Extended k r r table table
+begin {k} {r} table e =
+    record {
+      same = refl;
+      others = λ j ne. refl;
+      table =
+          sym (none-written (length (r .before k)) table)
+          ∙ ap (λ (xs : List Counted). overwrittenFrom (length (r .before k)) (startsOf xs) table) (sym e);
+    }
 
-  whole : nextAt s at ≤ length s
-  whole = omega (arith, w .next, w .inside)
+-- reading has ended before the section
+pub passes : {M : Model} {s : List ℕ} {o : Outcome} {k next : ℕ} {a : Section} {x : Refusal} {r : Reading} {table : List ℕ} → a ≡ Refused x → Told M s o k a r → r .own k ≡ []
+    → Filled M s o next a k r table table
+passes {M} {s} {o} {k} {next} {r = r} {table} is told none =
+    record { state = r; told = subst (λ (a : Section). Told M s o next a r) (sym is) (subst (λ (a : Section). Told M s o k a r) is told); grown = begin table none }
 
-  order : r .section ≤ sectionOf (byteAt s at)
-  order = omega (arith, ap sectionOf (w .kind), h .between .stands .section, a .same)
+-- none of this sheet's was counted, if the count is the one at the beginning
+none-yet : (k : ℕ) (r u : Reading) (t₀ t : Tally) → u .before ≡ r .before → r .own k ≡ [] → Counts r t₀ → Counts u t → noneYet (u .own k) ≡ eqb (countOf t k) (countOf t₀ k)
+none-yet k r u t₀ t same none h₀ h = go (u .own k) refl
+  where
+    at-first : countOf t₀ k ≡ length (r .before k)
+    at-first = sym (h₀ k) ∙ ap (λ (xs : List Counted). length (r .before k ++ xs)) none ∙ omega (arith, length-append (r .before k) [])
 
-  free : (conditionOpen (r .unended) && ltb 6 (byteAt s at)) ≡ false
-  free = ap (λ (u : Unended). conditionOpen u && ltb 6 (byteAt s at)) (h .between .closed)
+    go : (xs : List Counted) → u .own k ≡ xs → noneYet xs ≡ eqb (countOf t k) (countOf t₀ k)
+    go xs e = split xs (sym (h k) ∙ ap (λ (before : ℕ → List Counted). length (before k ++ u .own k)) same ∙ ap (λ (ys : List Counted). length (r .before k ++ ys)) e)
+      where
+        split : (xs : List Counted) → countOf t k ≡ length (r .before k ++ xs) → noneYet xs ≡ eqb (countOf t k) (countOf t₀ k)
+        split [] n = sym (eq-eqb (countOf t k) (countOf t₀ k) (omega (arith, at-first, length-append (r .before k) [])))
+        split (x ∷ xs) n = sym (ne-eqb (countOf t k) (countOf t₀ k) (λ (e : countOf t k ≡ countOf t₀ k). omega (arith, at-first, length-append (r .before k) (x ∷ xs))))
 
-  bounded : overLimit M r x ≡ leb limit n
-  bounded = a .bounded r (h .between .stands .tally)
+module _ {l : Limits} {s : List ℕ} {o : Outcome} {k at limit : ℕ} {t : Tally} {r : Reading} {table₀ table room : List ℕ} (a : Alone l k limit room)
+    (h : Filled (modelWith l) s o k (Done at t) k r table₀ table) where
+  abbrev M : Model
+  M = modelWith l
 
-  names-are : named (M .events) (r .tally) x ≡ named (M .events) (tallyOf t) x
-  names-are = ap (λ (y : Counts). named (M .events) y x) (h .between .stands .tally)
+  abbrev u : Reading
+  u = h .state
 
-  pub full : limit ≤ n → Told M s k from table₀ table (Refused (OverLimit at))
-  full e = refuses from (h .between .stands .here) (h .filled) inside (OverLimit at) refl (six M s at r x (a .is) whole order free (a .items _) (bounded ∙ le-leb limit n e))
+  b : Between M s o k at u
+  b = h .told .0
 
-  module _ (less : n < limit) where
-    within : overLimit M r x ≡ false
-    within = bounded ∙ lt-leb limit n less
+  -- the end of the sheet ends the section
+  pub no-more : length s ≤ at → Filled M s o (suc k) (Done at t) k r table₀ table
+  no-more over =
+      record {
+        state = u;
+        told = (record { comes = b .comes; section = omega (arith, b .section); closed = b .closed; begun = λ inside low. absurd (omega arith) }, h .told .1);
+        grown = h .grown;
+      }
 
-    pub unnamed : named (M .events) (tallyOf t) x ≡ false → Told M s k from table₀ table (Refused (UnknownName at))
-    unnamed e = refuses from (h .between .stands .here) (h .filled) inside (UnknownName at) refl (seven M s at r x (a .is) whole order free (a .items _) within (names-are ∙ e))
+  module _ (before : at < length s) where
+    ends : (x : Refusal) → Refuses M s at u x → Filled M s o (suc k) (Refused x) k r table₀ table
+    ends x e = record { state = u; told = refuses (b .comes) before e; grown = h .grown }
 
-    module _ (names : named (M .events) (tallyOf t) x ≡ true) where
-      pub primitive-first : firstIsPrimitive (r .offsets) x ≡ true → Told M s k from table₀ table (Refused (NoFirstBody at))
-      primitive-first e = refuses from (h .between .stands .here) (h .filled) inside (NoFirstBody at) refl (nine M s at r x (a .is) whole order free (a .items _) within (names-are ∙ names) e)
+    -- 2 and 3
+    pub no-record : (x : Refusal) → Refuses M s at u x → Filled M s o (suc k) (Refused x) k r table₀ table
+    no-record = ends
 
-      -- the record is taken, and its offset stored behind those that were found
-      pub again : {t′ : Tally} → firstIsPrimitive (r .offsets) x ≡ false → t′ ≡ tallyAfter t kind → Kept M s k from q t′ table₀ (set table n at)
-      again {t′} first after =
-          let st = h .between .stands in
-          let found = h .filled .found in
-          let (stands, there) =
-          stands-past st w inside x (a .is) (a .same) (takes M s at r x (a .is) whole order free (a .items _) within (names-are ∙ names) first) after
-          (a .room less (st .room)) in
+    module _ {kind q : ℕ} (w : Stood M s at kind q) where
+      -- 4
+      pub too-early : sectionOf kind < k → Filled M s o (suc k) (Refused (WrongSection at)) k r table₀ table
+      too-early low = ends (WrongSection at) (early w u (b .begun before) low)
+
+      pub later-section : k < sectionOf kind → Filled M s o (suc k) (Done at t) k r table₀ table
+      later-section g =
           record {
-            between = record {
-              stands = stands;
-              closed = ap (λ (r : Reading). r .unended) there ∙ a .closed (r .unended);
-              begun = λ in′ low. absurd (omega (arith, ap (λ (r : Reading). r .section) there, ap sectionOf (w .kind), a .same));
-            };
-            filled = record {
-              found = found ++ (at ∷ []);
-              offsets =
-                  ap (λ (r : Reading). r .offsets) there
-                  ∙ (ap (λ (f : Offsets). offsetsPast f (startOf (r .unended) at) at x) (h .filled .offsets) ∙ a .grows _ found _);
-              table =
-                  ap (λ (l : List ℕ). set l n at) (h .filled .table)
-                  ∙ (ap (λ (i : ℕ). set (overwritten found table₀) i at) (a .count _ found (sym (st .tally) ∙ (st .counted ∙ ap countsOf (h .filled .offsets))))
-                  ∙ stored found table₀ at);
-            };
+            state = u;
+            told = (
+              record { comes = b .comes; section = omega (arith, b .section); closed = b .closed; begun = λ inside low. omega (arith, section-is w) },
+              h .told .1,
+            );
+            grown = h .grown;
           }
 
--- The three kinds of them ---------------------------------------------------------------------------------------------
+      -- a record of section k
+      module _ (same : sectionOf kind ≡ k) where
+        here : sectionOf (byteAt s at) ≡ k
+        here = section-is w ∙ same
 
--- x is the record of the kind k, which is of section j
-abbrev Kind : List ℕ → ℕ → ℕ → Record → ℕ → Type 0
-Kind s at j x k = (getD (recordsByKind s at) k none ≡ some x) × (sectionOf k ≡ j)
+        role : kindOf (byteAt s at) .role ≡ counts
+        role = stands-alone (byteAt s at) (omega (arith, here, a .low)) (omega (arith, here, a .high))
 
-module _ {M : Model} {s : List ℕ} {at : ℕ} {t : Tally} {kind q : ℕ} (w : Stood s at kind q) where
-  pub a-point : M .points ≤ 512 → 7 ≤ kind → kind ≤ 7 → Alone M s 2 at t kind (t .points) (M .points) (point-record (pointAt s at))
-  a-point small low high =
-      let seven : kind ≡ 7 = omega arith in
-      record {
-        is = kind-is s at 7 (w .kind ∙ seven);
-        same = ap sectionOf seven;
-        items = λ i. refl;
-        bounded = λ r e. ap (λ (y : Counts). leb (M .points) (y .points)) e;
-        closed = λ u. refl;
-        grows = λ f l i. refl;
-        count = λ f l e. ap (λ (y : Counts). y .points) e;
-        room = λ less left. omega arith;
-      }
+        not-4 : is-4 M s at u ≡ false
+        not-4 =
+            in-order w u (omega (arith, b .section))
+            (ap (λ (o : Opened). eqb (o .section) 1 && ltb 1 (sectionOf (byteAt s at))) (b .closed))
 
-  pub a-method : 8 ≤ kind → kind ≤ 9 → Alone M s 3 at t kind (t .methods) methodLimit (method-record (methodAt s at))
-  a-method low high =
-      let (is, same) = or-above (Kind s at 3 (method-record (methodAt s at))) 8 kind low (refl, refl)
-      (λ low. or-above (Kind s at 3 (method-record (methodAt s at))) 9 kind low (refl, refl) (λ low. absurd (omega arith))) in
-      record {
-        is = kind-is s at kind (w .kind) ∙ is;
-        same = same;
-        items = λ i. refl;
-        bounded = λ r e. ap (λ (y : Counts). leb methodLimit (y .methods)) e;
-        closed = λ u. refl;
-        grows = λ f l i. refl;
-        count = λ f l e. ap (λ (y : Counts). y .methods) e;
-        room = λ less left. omega arith;
-      }
+        not-5 : is-5 M s at u ≡ false
+        not-5 =
+            ap (λ (y : Role). wrongItems (sectionOf (byteAt s at)) y (length (u .opened .items))) role
+            ∙ and-left (eqb (sectionOf (byteAt s at)) 1) _ (ne-eqb _ 1 (λ (e : sectionOf (byteAt s at) ≡ 1). omega (arith, here, a .low)))
 
-  pub a-step : 10 ≤ kind → kind ≤ 12 → Alone M s 4 at t kind (t .steps) stepLimit (step-record (stepAt s at))
-  a-step low high =
-      let (is, same) = or-above (Kind s at 4 (step-record (stepAt s at))) 10 kind low (refl, refl)
-      (λ low. or-above (Kind s at 4 (step-record (stepAt s at))) 11 kind low (refl, refl)
-      (λ low. or-above (Kind s at 4 (step-record (stepAt s at))) 12 kind low (refl, refl) (λ low. absurd (omega arith)))) in
-      record {
-        is = kind-is s at kind (w .kind) ∙ is;
-        same = same;
-        items = λ i. refl;
-        bounded = λ r e. ap (λ (y : Counts). leb stepLimit (y .steps)) e;
-        closed = λ u. refl;
-        grows = λ f l i. refl;
-        count = λ f l e. ap (λ (y : Counts). y .steps) e;
-        room = λ less left. omega arith;
-      }
+        limit-is : is-6 M s at u ≡ leb limit (countOf t k)
+        limit-is =
+            ap (λ (y : Role). overLimit M u (recordAt s at) (sectionOf (byteAt s at)) y) role
+            ∙ ap (λ (j : ℕ). full M j (tally u j)) here ∙ ap (full M k) (h .told .1 k) ∙ a .limited (countOf t k)
 
--- 9 for a first method ------------------------------------------------------------------------------------------------
+        -- 6
+        pub over-limit : leb limit (countOf t k) ≡ true → Filled M s o (suc k) (Refused (OverLimit at)) k r table₀ table
+        over-limit e = ends (OverLimit at) (six M s at u (w .not-2) (not-3 w u) not-4 not-5 (limit-is ∙ e), refl)
 
-is-primitive : (b : Bool) (body : Body) → isPrimitive (cond b none (some body)) ≡ b
-is-primitive true body = refl
-is-primitive false body = refl
+        module _ (within : leb limit (countOf t k) ≡ false) where
+          -- 7
+          pub unnamed : allExist (l .events) (countOf t) (kindOf kind .fields) (recordAt s at .values) ≡ false
+              → Filled M s o (suc k) (Refused (UnknownName at)) k r table₀ table
+          unnamed e =
+              ends (UnknownName at) (seven M s at u (w .not-2) (not-3 w u) not-4 not-5 (limit-is ∙ within) (names-are w u (h .told .1) ∙ e), refl)
 
-kind-primitive : (s : List ℕ) (at : ℕ) → isPrimitive (methodAt s at .body) ≡ eqb (byteAt s at) 8
-unfolding methodAt
-kind-primitive s at = is-primitive (eqb (byteAt s at) 8) _
+          module _ (names : allExist (l .events) (countOf t) (kindOf kind .fields) (recordAt s at .values) ≡ true) {t₀ : Tally} (counts₀ : Counts r t₀) (none : r .own k ≡ []) where
+            named : all-named M s at u ≡ true
+            named = names-are w u (h .told .1) ∙ names
 
-pub first-is : {M : Model} {s : List ℕ} {from at : ℕ} {t : Tally} {table₀ table : List ℕ} → Kept M s 3 from at t table₀ table → {kind q : ℕ} → Stood s at kind q
-    → firstIsPrimitive (stateAt M s at .offsets) (method-record (methodAt s at)) ≡ (eqb (t .methods) 0 && eqb kind 8)
-first-is {M} {s} {from} {at} {t} h {kind} w =
-    let st = h .between .stands in
-    ap (λ (b : Bool). b && isPrimitive (methodAt s at .body))
-    (none-yet (stateAt M s at .offsets .methods) ∙ ap (λ (y : Counts). eqb (y .methods) 0) (sym (st .counted) ∙ st .tally))
-    ∙ ap (λ (b : Bool). eqb (t .methods) 0 && b) (kind-primitive s at ∙ ap (λ (k : ℕ). eqb k 8) (w .kind))
+            first-is : is-9 M s at u ≡ (eqb (countOf t k) (countOf t₀ k) && primitiveKind kind)
+            first-is =
+                ap (λ (b : Bool). b && noneYet (u .own 3)) (primitive-is w u) ∙ go (primitiveKind kind) refl
+              where
+                go : (b : Bool) → primitiveKind kind ≡ b → (b && noneYet (u .own 3)) ≡ (eqb (countOf t k) (countOf t₀ k) && b)
+                go true e =
+                    let three : k ≡ 3 = sym same ∙ primitive-section kind e in
+                    ap (λ (j : ℕ). noneYet (u .own j)) (sym three) ∙ none-yet k r u t₀ t (h .grown .same) none counts₀ (h .told .1)
+                    ∙ and-true (eqb (countOf t k) (countOf t₀ k))
+                go false e = sym (and-right (eqb (countOf t k) (countOf t₀ k)) false refl)
+
+            -- 9
+            pub primitive-first : (eqb (countOf t k) (countOf t₀ k) && primitiveKind kind) ≡ true → Filled M s o (suc k) (Refused (NoFirstBody at)) k r table₀ table
+            primitive-first e =
+                ends (NoFirstBody at) (nine M s at u (w .not-2) (not-3 w u) not-4 not-5 (limit-is ∙ within) named (first-is ∙ e), refl)
+
+            -- the record is taken
+            pub again : {n : ℕ} {t′ : Tally} → (eqb (countOf t k) (countOf t₀ k) && primitiveKind kind) ≡ false → n ≡ countOf t k → t′ ≡ tallyAfter t k
+                → Filled M s o k (Done q t′) k r table₀ (set table n at)
+            again {n} {t′} first n-is after =
+                let taken = takes M s at u (w .not-2) (not-3 w u) not-4 not-5 (limit-is ∙ within) named (first-is ∙ first) in
+                let t-is : Counts (pastIt s at u) t′ = subst (Counts (pastIt s at u)) (sym after) (counts-more s at u role k here (omega (arith, a .low)) (omega (arith, a .high)) (h .told .1)) in
+                let here-starts : startOf (u .opened) at ≡ at = ap (λ (o : Opened). startOf o at) (b .closed) in
+                record {
+                  state = pastIt s at u;
+                  told = (
+                    record {
+                      comes = subst (λ (q : ℕ). Comes M s o q (pastIt s at u)) (w .next) (taken-on (b .comes) before (pastIt s at u) taken (w .inside));
+                      section = omega (arith, here);
+                      closed = closed s at u role k here;
+                      begun = λ inside low. absurd (omega (arith, here));
+                    },
+                    t-is,
+                  );
+                  grown =
+                      subst (λ (i : ℕ). Extended k r (pastIt s at u) table₀ (set table n i)) here-starts (grown-more s at u role k here (h .told .1) n-is (h .grown));
+                }

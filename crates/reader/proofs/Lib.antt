@@ -1,8 +1,9 @@
 pub mod Overwritten
-mod Here
-mod Order
-mod Step
-mod Alone
-mod Certs
-mod Begin
-mod Whole
+pub mod Comes
+pub mod Counted
+pub mod Tests
+pub mod Alone
+pub mod Opening
+pub mod Ending
+pub mod Whole
+pub mod Limits

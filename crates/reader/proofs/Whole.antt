@@ -1,122 +1,151 @@
--- From section to section: the tables that are filled, and the sections that are not yet read.
+-- From section to section: each reader's answer is what the next one starts with, and at the end all tables hold what was read.
 use mathlib.Core.Path.{_≡_, refl, sym, ap, _∙_, subst}
-use mathlib.Core.List.{List, []}
-use Prim.Native.Nat.{ℕ, suc, _≤_, _<_}
+use mathlib.Core.List.{List, [], _∷_, _++_}
+use Prim.Native.Nat.{ℕ, zero, suc, _≤_, _<_}
 use native.Mathlib.Omega.{arith}
 use lib.ListN.{length}
-use lib.Dec.{lit≤}
-use borrow.Author.Tests.{ne-eqb}
+use lib.Dec.{eqb, eqb·suc-zero}
 use Rattle.sheet.specs.Model.{Model}
-use Rattle.sheet.specs.Reading.{Tally as Counts, Offsets, Reading, fresh}
+use Rattle.sheet.specs.Reading.{Counted, Reading, fresh, tally, startsOf, noneYet, Outcome, stateOf, readFrom, readSheet}
 use Rattle.format.specs.declared.Refusal.{Refusal}
 use Rattle.format.specs.declared.Refusal.the-variants.{TooLong}
 use Rattle.tally.specs.declared.Tally.{Tally}
+use Rattle.tally.specs.Tally.{countOf, nothingCounted}
 use Rattle.reader.specs.declared.Section.{Section}
 use Rattle.reader.specs.declared.Section.the-variants.{Done, Refused}
 use Rattle.reader.specs.declared.Read.{Read}
 use Rattle.reader.specs.declared.Read.the-variants as read
-use Rattle.reader.specs.State.{stateAt}
-use Rattle.reader.specs.Contract.{Answered, TablesFilled, Reads}
-use Rattle.reader.specs.Left.{readOf, Between, put, Filled, Kept, Told, Concluded}
-use Rattle.reader.proofs.Here.{too-long, start-is}
-use Rattle.reader.proofs.Step.{begin}
+use Rattle.reader.specs.Contract.{Counts, Ends, lastState, Answered, overwritten, TablesFilled, Reads}
+use Rattle.reader.specs.Sections.{Comes, Told, overwrittenFrom, Extended, Filled, Answers, Concluded}
+use Rattle.reader.proofs.Comes.{too-long, begins}
 
--- no offsets of section k or a later one
-pub record Unread (k : ℕ) (f : Offsets) : Type 0 where
-  pub points : k ≤ 2 → f .points ≡ []
-  pub methods : k ≤ 3 → f .methods ≡ []
-  pub steps : k ≤ 4 → f .steps ≡ []
-  pub certificates : k ≤ 5 → f .certificates ≡ []
+read-is : (M : Model) (s : List ℕ) → readSheet M s ≡ readFrom M fresh s
+unfolding readSheet
+read-is M s = refl
 
-unread-past : {k : ℕ} {f g : Offsets} {before after : List ℕ} → Unread k f → Filled k f g before after → Unread (suc k) g
-unread-past {k} {f} u h =
-    subst (Unread (suc k)) (sym (h .offsets))
-    (record {
-      points = λ low. simp (ne-eqb k 2 (λ e. omega arith)) (u .points (omega arith));
-      methods = λ low. simp (ne-eqb k 3 (λ e. omega arith)) (u .methods (omega arith));
-      steps = λ low. simp (ne-eqb k 4 (λ e. omega arith)) (u .steps (omega arith));
-      certificates = λ low. simp (ne-eqb k 5 (λ e. omega arith)) (u .certificates (omega arith));
-    })
+none-counted : Counts fresh nothingCounted
+none-counted zero = refl
+none-counted (suc zero) = refl
+none-counted (suc (suc zero)) = refl
+none-counted (suc (suc (suc zero))) = refl
+none-counted (suc (suc (suc (suc zero)))) = refl
+none-counted (suc (suc (suc (suc (suc zero))))) = refl
+none-counted (suc (suc (suc (suc (suc (suc k)))))) = refl
 
--- section k is read next; `Holds` is known of the tables
-pub record Sofar (M : Model) (s : List ℕ) (k at : ℕ) (t : Tally) (Holds : Offsets → Type 0) : Type 0 where
-  pub between : Between M s k at t
-  pub holds : Holds (stateAt M s at .offsets)
-  pub unread : Unread k (stateAt M s at .offsets)
+-- 1
+pub refused-length : (M : Model) (s : List ℕ) {c p m e : List ℕ} → M .bytes < length s → Reads M s (read.Refused (TooLong (M .bytes))) c c p p m m e e
+refused-length M s {c} {p} {m} {e} h =
+    let outcome = read-is M s ∙ too-long M s fresh h in
+    let last : lastState M s ≡ fresh = ap stateOf outcome in
+    record {
+      answer = subst (λ (r : Reading). Ends (readSheet M s) r (TooLong (M .bytes))) (sym last) (record { place = M .bytes; placed = refl; outcome = outcome });
+      tables =
+          subst (λ (r : Reading). TablesFilled c c p p m m e e (r .own)) (sym last) (record { conditions = refl; points = refl; methods = refl; steps = refl });
+    }
 
--- what the tables hold with a section more
-module _ {c₀ c p₀ p m₀ m e₀ e : List ℕ} {f g : Offsets} where
-  pub with-conditions : TablesFilled c₀ c₀ p₀ p m₀ m e₀ e f → Filled 1 f g c₀ c → TablesFilled c₀ c p₀ p m₀ m e₀ e g
-  with-conditions h w = subst (TablesFilled c₀ c p₀ p m₀ m e₀ e) (sym (w .offsets)) (record { conditions = w .table; points = h .points; methods = h .methods; steps = h .steps })
+-- what a reader of section k says, whatever the outcome and the state in which it begins, where section j is to come
+abbrev Reader : Model → List ℕ → ℕ → ℕ → Section → Section → List ℕ → List ℕ → Type 0
+Reader M s j k a b before after = (o : Outcome) (u : Reading) → Told M s o j a u → u .own k ≡ [] → Filled M s o (suc k) b k u before after
 
-  pub with-points : TablesFilled c₀ c p₀ p₀ m₀ m e₀ e f → Filled 2 f g p₀ p → TablesFilled c₀ c p₀ p m₀ m e₀ e g
-  with-points h w = subst (TablesFilled c₀ c p₀ p m₀ m e₀ e) (sym (w .offsets)) (record { conditions = h .conditions; points = w .table; methods = h .methods; steps = h .steps })
+module _ {M : Model} {s : List ℕ} {t₀ : Tally} {a₁ a₂ a₃ a₄ : Section} {c₀ c p₀ p m₀ m e₀ e : List ℕ} (fits : length s ≤ M .bytes) (start : t₀ ≡ nothingCounted)
+    (r₁ : Reader M s 0 1 (Done 0 t₀) a₁ c₀ c) (r₂ : Reader M s 2 2 a₁ a₂ p₀ p) (r₃ : Reader M s 3 3 a₂ a₃ m₀ m) (r₄ : Reader M s 4 4 a₃ a₄ e₀ e) where
+  abbrev o : Outcome
+  o = readSheet M s
 
-  pub with-methods : TablesFilled c₀ c p₀ p m₀ m₀ e₀ e f → Filled 3 f g m₀ m → TablesFilled c₀ c p₀ p m₀ m e₀ e g
-  with-methods h w = subst (TablesFilled c₀ c p₀ p m₀ m e₀ e) (sym (w .offsets)) (record { conditions = h .conditions; points = h .points; methods = w .table; steps = h .steps })
+  begins-here : Told M s o 0 (Done 0 t₀) fresh
+  begins-here = (
+    record {
+      comes = subst (λ (o : Outcome). Comes M s o 0 fresh) (sym (read-is M s)) (begins M s fresh fits);
+      section = omega arith;
+      closed = refl;
+      begun = λ before low. absurd (omega arith);
+    },
+    subst (Counts fresh) (sym start) none-counted,
+  )
 
-  pub with-steps : TablesFilled c₀ c p₀ p m₀ m e₀ e₀ f → Filled 4 f g e₀ e → TablesFilled c₀ c p₀ p m₀ m e₀ e g
-  with-steps h w = subst (TablesFilled c₀ c p₀ p m₀ m e₀ e) (sym (w .offsets)) (record { conditions = h .conditions; points = h .points; methods = h .methods; steps = w .table })
+  f₁ : Filled M s o 2 a₁ 1 fresh c₀ c
+  f₁ = r₁ o fresh begins-here refl
 
--- Before the first section --------------------------------------------------------------------------------------------
+  f₂ : Filled M s o 3 a₂ 2 (f₁ .state) p₀ p
+  f₂ = r₂ o (f₁ .state) (f₁ .told) (f₁ .grown .others 2 (λ e. omega arith))
 
-module _ (M : Model) (s : List ℕ) {c₀ p₀ m₀ e₀ : List ℕ} where
-  no-offsets : TablesFilled c₀ c₀ p₀ p₀ m₀ m₀ e₀ e₀ (fresh .offsets)
-  no-offsets = record { conditions = refl; points = refl; methods = refl; steps = refl }
+  f₃ : Filled M s o 4 a₃ 3 (f₂ .state) m₀ m
+  f₃ = r₃ o (f₂ .state) (f₂ .told) (f₂ .grown .others 3 (λ e. omega arith) ∙ f₁ .grown .others 3 (λ e. omega arith))
 
-  pub start-tables : TablesFilled c₀ c₀ p₀ p₀ m₀ m₀ e₀ e₀ (stateAt M s 0 .offsets)
-  start-tables = subst (λ (r : Reading). TablesFilled c₀ c₀ p₀ p₀ m₀ m₀ e₀ e₀ (r .offsets)) (sym (start-is M s)) no-offsets
+  f₄ : Filled M s o 5 a₄ 4 (f₃ .state) e₀ e
+  f₄ = r₄ o (f₃ .state) (f₃ .told) (f₃ .grown .others 4 (λ e. omega arith) ∙ f₂ .grown .others 4 (λ e. omega arith) ∙ f₁ .grown .others 4 (λ e. omega arith))
 
-  -- 1
-  pub refused-length : M .bytes < length s → Reads M s (read.Refused (TooLong (M .bytes))) c₀ c₀ p₀ p₀ m₀ m₀ e₀ e₀
-  refused-length h =
-      let (outcome, last) = too-long M s h in
+  -- the state past the steps
+  abbrev u : Reading
+  u = f₄ .state
+
+  nothing-before : u .before ≡ (λ k. [])
+  nothing-before = f₄ .grown .same ∙ f₃ .grown .same ∙ f₂ .grown .same ∙ f₁ .grown .same
+
+  no-certificates : u .own 5 ≡ []
+  no-certificates =
+      f₄ .grown .others 5 (λ e. omega arith) ∙ f₃ .grown .others 5 (λ e. omega arith) ∙ f₂ .grown .others 5 (λ e. omega arith) ∙ f₁ .grown .others 5 (λ e. omega arith)
+
+  -- a table that a reader has filled, in a state of which nothing was counted before
+  in-front : {k : ℕ} {r v : Reading} {before after : List ℕ} {xs : List Counted} → v .before ≡ (λ k. []) → Extended k r v before after → v .own k ≡ xs → after ≡ overwritten (startsOf xs) before
+  in-front {k} {r} {v} {before} none g is =
+      g .table ∙ ap (λ (b : ℕ → List Counted). overwrittenFrom (length (b k)) (startsOf (v .own k)) before) none
+      ∙ ap (λ (xs : List Counted). overwritten (startsOf xs) before) is
+
+  -- whatever certificates are counted
+  tables : (own : ℕ → List Counted) → ((j : ℕ) → (j ≡ 5 → ⊥) → own j ≡ u .own j) → TablesFilled c₀ c p₀ p m₀ m e₀ e own
+  tables own same =
       record {
-        answer = record { place = M .bytes; placed = refl; outcome = outcome };
-        tables = subst (λ (r : Reading). TablesFilled c₀ c₀ p₀ p₀ m₀ m₀ e₀ e₀ (r .offsets)) (sym last) no-offsets;
+        conditions =
+            in-front (f₁ .grown .same) (f₁ .grown)
+            (sym (same 1 (λ e. omega arith) ∙ f₄ .grown .others 1 (λ e. omega arith) ∙ f₃ .grown .others 1 (λ e. omega arith) ∙ f₂ .grown .others 1 (λ e. omega arith)));
+        points =
+            in-front (f₂ .grown .same ∙ f₁ .grown .same) (f₂ .grown)
+            (sym (same 2 (λ e. omega arith) ∙ f₄ .grown .others 2 (λ e. omega arith) ∙ f₃ .grown .others 2 (λ e. omega arith)));
+        methods =
+            in-front (f₃ .grown .same ∙ f₂ .grown .same ∙ f₁ .grown .same) (f₃ .grown) (sym (same 3 (λ e. omega arith) ∙ f₄ .grown .others 3 (λ e. omega arith)));
+        steps = in-front nothing-before (f₄ .grown) (sym (same 4 (λ e. omega arith)));
       }
 
-pub start-unread : (M : Model) (s : List ℕ) → Unread 1 (stateAt M s 0 .offsets)
-start-unread M s =
-    subst (λ (r : Reading). Unread 1 (r .offsets)) (sym (start-is M s))
-    (record { points = λ low. refl; methods = λ low. refl; steps = λ low. refl; certificates = λ low. refl })
+  -- reading ends in the state v
+  ends-in : {r : Read} (v : Reading) → lastState M s ≡ v → ((j : ℕ) → (j ≡ 5 → ⊥) → v .own j ≡ u .own j) → (lastState M s ≡ v → Answered M s r)
+      → Reads M s r c₀ c p₀ p m₀ m e₀ e
+  ends-in v last same answer =
+      record { answer = answer last; tables = tables (lastState M s .own) (λ j ne. ap (λ (l : Reading). l .own j) last ∙ same j ne) }
 
--- Past a section ------------------------------------------------------------------------------------------------------
+  -- .. before the certificates
+  pub stops : {x : Refusal} → a₄ ≡ Refused x → Reads M s (read.Refused x) c₀ c p₀ p m₀ m e₀ e
+  stops {x} is =
+      let ends : Ends o u x = subst (λ (a : Section). Told M s o 5 a u) is (f₄ .told) in
+      ends-in u (ap stateOf (ends .outcome)) (λ j ne. refl) (λ last. subst (λ (l : Reading). Ends o l x) (sym last) ends)
 
-module _ (M : Model) (s : List ℕ) (k from : ℕ) (before after : List ℕ) {c₀ c p₀ p m₀ m e₀ e : List ℕ}
-    (grow : (g : Offsets) → Filled k (stateAt M s from .offsets) g before after → TablesFilled c₀ c p₀ p m₀ m e₀ e g) (a : Section) (told : Told M s k from before after a) where
-  pub goes-on : {at : ℕ} {t : Tally} → Unread k (stateAt M s from .offsets) → a ≡ Done at t → Sofar M s (suc k) at t (TablesFilled c₀ c p₀ p m₀ m e₀ e)
-  goes-on unread is =
-      let (between, filled) = subst (Told M s k from before after) is told in
-      record { between = between; holds = grow _ filled; unread = unread-past unread filled }
+  module _ {at : ℕ} {t : Tally} (is : a₄ ≡ Done at t) where
+    comes-there : Told M s o 5 (Done at t) u
+    comes-there = subst (λ (a : Section). Told M s o 5 a u) is (f₄ .told)
 
-  pub stops : {x : Refusal} {r : Read} → a ≡ Refused x → r ≡ readOf a → Reads M s r c₀ c p₀ p m₀ m e₀ e
-  stops is ans =
-      let (refuses, filled) = subst (Told M s k from before after) is told in
-      record { answer = subst (Answered M s) (sym (ans ∙ ap readOf is)) refuses; tables = grow _ filled }
+    counted : (k : ℕ) → countOf t k ≡ length (u .own k)
+    counted k = sym (comes-there .1 k) ∙ ap (λ (b : ℕ → List Counted). length (b k ++ u .own k)) nothing-before
 
--- Before a section ----------------------------------------------------------------------------------------------------
+    pub certificates-le : t .certificates ≤ at
+    certificates-le = omega (arith, counted 5, ap (λ (xs : List Counted). length xs) no-certificates)
 
-module _ {M : Model} {s : List ℕ} {at : ℕ} {t : Tally} {Holds : Offsets → Type 0} where
-  pub points-next : {table : List ℕ} → Sofar M s 2 at t Holds → Kept M s 2 at at t table table
-  points-next h = begin (h .between) (ap (put 2 (stateAt M s at .offsets)) (h .unread .points (lit≤ tt)))
+    no-method : noneYet (u .own 3) ≡ eqb (t .methods) 0
+    no-method = go (u .own 3) (counted 3)
+      where
+        go : (xs : List Counted) → t .methods ≡ length xs → noneYet xs ≡ eqb (t .methods) 0
+        go [] n = sym (ap (λ (n : ℕ). eqb n 0) n)
+        go (x ∷ xs) n = sym (ap (λ (n : ℕ). eqb n 0) n ∙ eqb·suc-zero (length xs))
 
-  pub methods-next : {table : List ℕ} → Sofar M s 3 at t Holds → Kept M s 3 at at t table table
-  methods-next h = begin (h .between) (ap (put 3 (stateAt M s at .offsets)) (h .unread .methods (lit≤ tt)))
-
-  pub steps-next : {table : List ℕ} → Sofar M s 4 at t Holds → Kept M s 4 at at t table table
-  steps-next h = begin (h .between) (ap (put 4 (stateAt M s at .offsets)) (h .unread .steps (lit≤ tt)))
-
-  pub no-certificates : Sofar M s 5 at t Holds → t .certificates ≡ 0
-  no-certificates h =
-      ap (λ (y : Counts). y .certificates) (sym (h .between .stands .tally) ∙ h .between .stands .counted) ∙ ap length (h .unread .certificates (lit≤ tt))
-
--- The answer ----------------------------------------------------------------------------------------------------------
-
-pub all-read : {M : Model} {s : List ℕ} {from : ℕ} {r : Read} {c₀ c p₀ p m₀ m e₀ e : List ℕ} → TablesFilled c₀ c p₀ p m₀ m e₀ e (stateAt M s from .offsets) → Concluded M s from r
-    → Reads M s r c₀ c p₀ p m₀ m e₀ e
-all-read {c₀ = c₀} {c} {p₀} {p} {m₀} {m} {e₀} {e} h w =
-    record {
-      answer = w .answer;
-      tables = subst (TablesFilled c₀ c p₀ p m₀ m e₀ e) (sym (w .offsets)) (record { conditions = h .conditions; points = h .points; methods = h .methods; steps = h .steps });
-    }
+    -- .. in the certificates, or with them
+    pub concludes : {r : Read} → ((o : Outcome) (u : Reading) → Told M s o 5 (Done at t) u → u .own 5 ≡ [] → noneYet (u .own 3) ≡ eqb (t .methods) 0 → Concluded s o u r)
+        → Reads M s r c₀ c p₀ p m₀ m e₀ e
+    concludes {r} read-on = go r (read-on o u comes-there no-certificates no-method)
+      where
+        go : (r : Read) → Concluded s o u r → Reads M s r c₀ c p₀ p m₀ m e₀ e
+        go (read.Whole x) w =
+            ends-in (w .state) (ap stateOf (w .answers .0)) (w .others)
+            (λ last.
+            let (outcome, counts, first) = subst (λ (l : Reading). Answers s o (read.Whole x) l) (sym last) (w .answers) in
+            record { outcome = outcome; tally = counts; certificates = first })
+        go (read.Refused x) w =
+            ends-in (w .state) (ap stateOf (w .answers .outcome)) (w .others) (λ last. subst (λ (l : Reading). Ends o l x) (sym last) (w .answers))

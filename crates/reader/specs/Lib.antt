@@ -1,3 +1,2 @@
-pub mod State
 pub mod Contract
-pub mod Left
+pub mod Sections

@@ -1,51 +1,29 @@
--- The tally past a record of a kind is the one of reading, past the record of that kind.
-use mathlib.Core.Path.{_≡_, refl, sym, _∙_, subst}
-use mathlib.Core.Option.{Option, none, some}
-use mathlib.Core.List.{List}
-use Prim.Native.Nat.{ℕ}
-use native.Mathlib.Numerals.{add-one}
-use Rattle.sheet.specs.Record.{Record, byteAt, recordsByKind, recordAt}
-use Rattle.sheet.specs.Reading.{tallyPast}
-use Rattle.sheet.proofs.Kind.{numbered, kind-is}
+-- The counts of a tally, and of the one with one more in a section.
+use mathlib.Core.Path.{_≡_, refl, sym, ap}
+use mathlib.Core.Bool.{Bool}
+use Prim.Native.Nat.{ℕ, zero, suc, _≤_}
+use native.Mathlib.Omega.{arith}
+use lib.Dec.{eqb}
+use borrow.Author.Tests.{ne-eqb}
 use Rattle.tally.specs.declared.Tally.{Tally}
-use Rattle.tally.specs.Tally.{tallyOf, tallyAfter}
+use Rattle.tally.specs.Tally.{countOf, plusIf, tallyAfter}
 
-abbrev Right : Tally → ℕ → Option Record → Type 0
-Right t k none = Unit {0}
-Right t k (some x) = tallyOf (tallyAfter t k) ≡ tallyPast (tallyOf t) x
+pub none-of : (t : Tally) (k : ℕ) → (k ≡ 1 → ⊥) → (k ≡ 2 → ⊥) → (k ≡ 3 → ⊥) → (k ≡ 4 → ⊥) → (k ≡ 5 → ⊥) → 0 ≡ countOf t k
+none-of t zero a b c d e = refl
+none-of t (suc zero) a b c d e = absurd (a refl)
+none-of t (suc (suc zero)) a b c d e = absurd (b refl)
+none-of t (suc (suc (suc zero))) a b c d e = absurd (c refl)
+none-of t (suc (suc (suc (suc zero)))) a b c d e = absurd (d refl)
+none-of t (suc (suc (suc (suc (suc zero))))) a b c d e = absurd (e refl)
+none-of t (suc (suc (suc (suc (suc (suc k)))))) a b c d e = refl
 
-pub counted-past : (t : Tally) (s : List ℕ) (at : ℕ) (x : Record) → recordAt s at ≡ some x → tallyOf (tallyAfter t (byteAt s at)) ≡ tallyPast (tallyOf t) x
-counted-past t s at x is =
-    subst (Right t (byteAt s at)) (sym (kind-is s at (byteAt s at) refl) ∙ is)
-    (numbered (Right t) (recordsByKind s at) none (
-      tt,
-      (
-        refl,
-        (
-          refl,
-          (
-            refl,
-            (
-              refl,
-              (
-                refl,
-                (
-                  rw (add-one (t .conditions)),
-                  (
-                    rw (add-one (t .points)),
-                    (
-                      rw (add-one (t .methods)),
-                      (
-                        rw (add-one (t .methods)),
-                        (rw (add-one (t .steps)), (rw (add-one (t .steps)), (rw (add-one (t .steps)), (refl, (rw (add-one (t .certificates)), λ i. tt))))),
-                      ),
-                    ),
-                  ),
-                ),
-              ),
-            ),
-          ),
-        ),
-      ),
-    )
-    (byteAt s at))
+-- section k has one more, and each other section as many as before
+pub count-past : (t : Tally) (k : ℕ) → 1 ≤ k → k ≤ 5 → (j : ℕ) → countOf (tallyAfter t k) j ≡ plusIf (eqb k j) (countOf t j)
+count-past t k low high zero = simp (ne-eqb k 0 (λ e. omega arith))
+count-past t k low high (suc zero) = refl
+count-past t k low high (suc (suc zero)) = refl
+count-past t k low high (suc (suc (suc zero))) = refl
+count-past t k low high (suc (suc (suc (suc zero)))) = refl
+count-past t k low high (suc (suc (suc (suc (suc zero))))) = refl
+count-past t k low high (suc (suc (suc (suc (suc (suc j)))))) =
+    ap (λ (b : Bool). plusIf b 0) (sym (ne-eqb k (suc (suc (suc (suc (suc (suc j)))))) (λ e. omega arith)))

@@ -1,28 +1,31 @@
--- The code's tally: what it counts, and the tally past a record of a kind. proofs/Laws shows that this is `tallyPast` of that record.
+-- The code's tally: what was counted in each section, and the tally with one more in a section.
 use Prim.Native.Nat.{ℕ, _+_, _^_, _<_}
-use mathlib.Core.Bool.{cond}
-use lib.Dec.{eqb, ltb}
-use Rattle.sheet.specs.Reading as reading
+use mathlib.Core.Bool.{Bool, cond}
+use mathlib.Core.List.{[], _∷_}
+use lib.ListN.{getD}
+use lib.Dec.{eqb}
 use Rattle.tally.specs.declared.Tally.{Tally}
 
-abbrev pub tallyOf : Tally → reading.Tally
-tallyOf t =
-    record { conditions = t .conditions; points = t .points; methods = t .methods; steps = t .steps; certificates = t .certificates }
+abbrev pub countOf : Tally → ℕ → ℕ
+countOf t k = getD (0 ∷ t .conditions ∷ t .points ∷ t .methods ∷ t .steps ∷ t .certificates ∷ []) k 0
 
--- one more of each fits a machine number
-pub record Room (t : reading.Tally) : Type 0 where
-  pub conditions : t .conditions + 1 < 2 ^ 64
-  pub points : t .points + 1 < 2 ^ 64
-  pub methods : t .methods + 1 < 2 ^ 64
-  pub steps : t .steps + 1 < 2 ^ 64
-  pub certificates : t .certificates + 1 < 2 ^ 64
+-- one more of a section fits a machine number
+abbrev pub Room : Tally → ℕ → Type 0
+Room t k = countOf t k + 1 < 2 ^ 64
 
--- by the kind, as the code tests it: 6, 7, 8 and 9, 10 to 12, and 14 count
+-- one more where the test passes
+abbrev pub plusIf : Bool → ℕ → ℕ
+plusIf b n = cond b (n + 1) n
+
 abbrev pub tallyAfter : Tally → ℕ → Tally
 tallyAfter t k =
-    cond (eqb k 6) (record { conditions = t .conditions + 1; points = t .points; methods = t .methods; steps = t .steps; certificates = t .certificates })
-    (cond (eqb k 7) (record { conditions = t .conditions; points = t .points + 1; methods = t .methods; steps = t .steps; certificates = t .certificates })
-    (cond (ltb k 8) t
-    (cond (ltb k 10) (record { conditions = t .conditions; points = t .points; methods = t .methods + 1; steps = t .steps; certificates = t .certificates })
-    (cond (ltb k 13) (record { conditions = t .conditions; points = t .points; methods = t .methods; steps = t .steps + 1; certificates = t .certificates })
-    (cond (eqb k 14) (record { conditions = t .conditions; points = t .points; methods = t .methods; steps = t .steps; certificates = t .certificates + 1 }) t)))))
+    record {
+      conditions = plusIf (eqb k 1) (t .conditions);
+      points = plusIf (eqb k 2) (t .points);
+      methods = plusIf (eqb k 3) (t .methods);
+      steps = plusIf (eqb k 4) (t .steps);
+      certificates = plusIf (eqb k 5) (t .certificates);
+    }
+
+abbrev pub nothingCounted : Tally
+nothingCounted = record { conditions = 0; points = 0; methods = 0; steps = 0; certificates = 0 }

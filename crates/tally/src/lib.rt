@@ -1,6 +1,11 @@
 // The tally of a sheet, which advances record by record.
 ghost use mathlib.Core.Path.{_≡_};
-ghost use Rattle.tally.specs.Tally.{tallyOf, tallyAfter, Room};
+ghost use Rattle.tally.specs.Tally.{countOf, Room, tallyAfter, nothingCounted};
+use format::kinds::CERTIFICATES;
+use format::kinds::CONDITIONS;
+use format::kinds::METHODS;
+use format::kinds::POINTS;
+use format::kinds::STEPS;
 
 pub struct Tally {
     pub conditions: usize,
@@ -10,54 +15,65 @@ pub struct Tally {
     pub certificates: usize,
 }
 
+pub fn nothing_counted() -> Tally
+    ensures { λ r. ⌜ r ≡ nothingCounted ⌝ }
+{
+    Tally {
+        conditions: 0,
+        points: 0,
+        methods: 0,
+        steps: 0,
+        certificates: 0,
+    }
+}
+
 impl Tally {
-    // The tally past a record of a kind: conditions and certificates count at their end.
-    pub fn counted(self, kind: u8) -> Tally
-        requires { ⌜ Room (tallyOf self) ⌝ }
-        ensures { λ r. ⌜ r ≡ tallyAfter self kind ⌝ }
+    // How many of a section are counted.
+    pub fn count(self, section: u8) -> usize
+        ensures { λ r. ⌜ r ≡ countOf self section ⌝ }
+    {
+        match section {
+            CONDITIONS => self.conditions,
+            POINTS => self.points,
+            METHODS => self.methods,
+            STEPS => self.steps,
+            CERTIFICATES => self.certificates,
+            _ => 0,
+        }
+    }
+
+    // The tally with one more of a section.
+    pub fn counted(self, section: u8) -> Tally
+        requires { ⌜ Room self section ⌝ }
+        ensures { λ r. ⌜ r ≡ tallyAfter self section ⌝ }
     {
         let mut next = self;
-        if kind == 6 {
-            next.conditions = self.conditions + 1;
-            return next;
-        }
-        if kind == 7 {
-            next.points = self.points + 1;
-            return next;
-        }
-        if kind < 8 {
-            return self;
-        }
-        if kind < 10 {
-            next.methods = self.methods + 1;
-            return next;
-        }
-        if kind < 13 {
-            next.steps = self.steps + 1;
-            return next;
-        }
-        if kind == 14 {
-            next.certificates = self.certificates + 1;
-            return next;
+        match section {
+            CONDITIONS => next.conditions = self.conditions + 1,
+            POINTS => next.points = self.points + 1,
+            METHODS => next.methods = self.methods + 1,
+            STEPS => next.steps = self.steps + 1,
+            CERTIFICATES => next.certificates = self.certificates + 1,
+            _ => {}
         }
         next
     }
 }
 
 // The same of a tally that is lent: document 01 asks for this form, one thin update of a struct behind `&mut`.
-pub fn advance(t: &mut Tally, kind: u8)
-    requires { ⌜ Room (tallyOf (now t)) ⌝ }
-    ensures { λ _. ⌜ now (t .exit) ≡ tallyAfter (now (t .entry)) kind ⌝ }
+pub fn advance(t: &mut Tally, section: u8)
+    requires { ⌜ Room (now t) section ⌝ }
+    ensures { λ _. ⌜ now (t .exit) ≡ tallyAfter (now (t .entry)) section ⌝ }
 {
-    *t = Tally::counted(*t, kind);
+    *t = Tally::counted(*t, section);
 }
 
 // By value over the lent update, for callers that hold a tally.
-pub fn past(t: Tally, kind: u8) -> Tally
-    requires { ⌜ Room (tallyOf t) ⌝ }
-    ensures { λ r. ⌜ r ≡ tallyAfter t kind ⌝ }
+pub fn past(t: Tally, section: u8) -> Tally
+    requires { ⌜ Room t section ⌝ }
+    ensures { λ r. ⌜ r ≡ tallyAfter t section ⌝ }
 {
     let mut next = t;
-    advance(&mut next, kind);
+    advance(&mut next, section);
     next
 }

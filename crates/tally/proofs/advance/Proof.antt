@@ -38,7 +38,7 @@ use denote.Triple.Spec.{Meets, tripleOf}
 use denote.Triple.Table.{entered, cited}
 use denote.Triple.Walked.{says, needs, Stays, stay-ref, stay-none, walkOf, AllGo, goes-none, goes-ref, Walks, ends-at, walked, walk-meets}
 use denote.Exit.{yes}
-use Rattle.tally.specs.Tally.{tallyOf, tallyAfter, Room}
+use Rattle.tally.specs.Tally.{tallyAfter, Room}
 use Rattle.tally.specs.declared.Tally.{Tally}
 use Rattle.tally.proofs.Tally as T
 use Rattle.tally.proofs.Tally.Laws as T′
@@ -72,7 +72,7 @@ module _ {M : Type 1} (𝓤 : URA M) (H : Heap 𝓤) (A : Atoms 𝓤) (mem : Mem
   counted-of : (h : Tally) (n : ℕ) (r : Tally) → ent 𝓤 (ensured 𝓤 H A counted.ended (counted.clauses 𝓤 H A mem run) tt (h, (n, tt)) tt r) (fact 𝓤 (r ≡ tallyAfter h n))
   counted-of h n r = exE 𝓤 _ (λ ws. snd∗ 𝓤 (sem 𝓤 H A (lasts counted.ended tt (h, (n, tt)) ws)) (fact 𝓤 (r ≡ tallyAfter h n)))
 
-module _ {M : Type 1} (𝓤 : URA M) (H : Heap 𝓤) (A : Atoms 𝓤) (W : Given 𝓤 H A) (at-mem : Memory → SProp 𝓤) (run : Routine → Fun 𝓤) (κ : Lft) (q : Share) (b o : ℕ) (γ : GName) (h : Tally) (n : ℕ) (ok : Room (tallyOf h)) where
+module _ {M : Type 1} (𝓤 : URA M) (H : Heap 𝓤) (A : Atoms 𝓤) (W : Given 𝓤 H A) (at-mem : Memory → SProp 𝓤) (run : Routine → Fun 𝓤) (κ : Lft) (q : Share) (b o : ℕ) (γ : GName) (h : Tally) (n : ℕ) (ok : Room h n) where
   abbrev x : Arg
   x = (record { ptr = (b, o); name = γ; now = h }, (n, tt))
 

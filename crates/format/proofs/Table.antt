@@ -1,0 +1,197 @@
+-- The table of kinds, row by row: what the code's tables and tests say of a kind.
+use mathlib.Core.Path.{_≡_, refl, ap}
+use mathlib.Core.Bool.{Bool, true, false, not, cond}
+use mathlib.Core.List.{List, [], _∷_}
+use Prim.Native.Nat.{ℕ, zero, suc, _+_, _≤_, _<_}
+use native.Mathlib.Omega.{arith}
+use lib.ListN.{getD}
+use lib.Dec.{eqb, ltb, lit≤}
+use borrow.Author.Tests.{eqb-true, eqb-false, ne-eqb}
+use Rattle.sheet.specs.Kind.{conditions, points, methods, steps, certificates, Field, a-set, a-name, a-place, Role, symbol, a-pair, counts, Kind, a-kind, kinds, kindOf, sectionOf, widths, bodyLength}
+use Rattle.sheet.specs.Reading.{allExist}
+use Rattle.format.specs.Kinds.{lastKind, countsOne, takesItems, primitiveKind}
+
+infixr 20 _and_
+_and_ : {A B : Type 0} → A → B → A × B
+a and b = (a, b)
+
+-- P i of the i-th row, for each i, and of no kind past the table
+abbrev Rows : (ℕ → Kind → Type 0) → List Kind → Type 0
+Rows P [] = (i : ℕ) → P i (a-kind 0 counts [])
+Rows P (x ∷ xs) = P 0 x × Rows (λ i. P (suc i)) xs
+
+by-rows : (P : ℕ → Kind → Type 0) (xs : List Kind) → Rows P xs → (i : ℕ) → P i (getD xs i (a-kind 0 counts []))
+by-rows P [] h i = h i
+by-rows P (x ∷ xs) h zero = h .0
+by-rows P (x ∷ xs) h (suc i) = by-rows (λ i. P (suc i)) xs (h .1) i
+
+-- Body lengths and sections -------------------------------------------------------------------------------------------
+
+-- body lengths from kind 1 on, as the code's table has them
+abbrev pub bodies : List ℕ
+bodies = 4 ∷ 0 ∷ 0 ∷ 0 ∷ 0 ∷ 0 ∷ 6 ∷ 6 ∷ 10 ∷ 5 ∷ 6 ∷ 4 ∷ 5 ∷ 0 ∷ []
+
+pub body-is : (k : ℕ) → getD (0 ∷ bodies) k 0 ≡ bodyLength k
+body-is =
+    by-rows (λ k x. getD (0 ∷ bodies) k 0 ≡ widths (x .fields)) kinds
+    (refl and refl and refl and refl and refl and refl and refl and refl and refl and refl and refl and refl and refl and refl and refl and (λ i. refl))
+
+pub body-le : (k : ℕ) → bodyLength k ≤ 10
+body-le =
+    by-rows (λ k x. widths (x .fields) ≤ 10) kinds
+    (lit≤ tt and lit≤ tt and lit≤ tt and lit≤ tt and lit≤ tt and lit≤ tt and lit≤ tt and lit≤ tt
+    and lit≤ tt and lit≤ tt and lit≤ tt and lit≤ tt and lit≤ tt and lit≤ tt and lit≤ tt and (λ i. lit≤ tt))
+
+-- sections by comparisons
+pub section-is : (k : ℕ) → 1 ≤ k → k ≤ lastKind → cond (ltb k 7) conditions (cond (ltb k 8) points (cond (ltb k 10) methods (cond (ltb k 13) steps certificates))) ≡ sectionOf k
+section-is =
+    by-rows (λ k x. 1 ≤ k → k ≤ lastKind → cond (ltb k 7) conditions (cond (ltb k 8) points (cond (ltb k 10) methods (cond (ltb k 13) steps certificates))) ≡ x .section) kinds
+    ((λ low high. absurd (omega arith)) and same and same and same and same and same and same and same and same and same and same and same and same and same and same
+    and (λ i low high. absurd (omega arith)))
+  where
+    same : {n : ℕ} {A B : Type 0} → A → B → n ≡ n
+    same low high = refl
+
+-- the fields of points, methods and steps have their bytes
+pub names-length : (k : ℕ) → points ≤ sectionOf k → sectionOf k ≤ steps → (4 ≤ bodyLength k) × (k < 10 → 6 ≤ bodyLength k)
+names-length =
+    by-rows (λ k x. points ≤ x .section → x .section ≤ steps → (4 ≤ widths (x .fields)) × (k < 10 → 6 ≤ widths (x .fields))) kinds
+    (none and low and low and low and low and low and low and (λ g h. (lit≤ tt, λ l. lit≤ tt)) and (λ g h. (lit≤ tt, λ l. lit≤ tt)) and (λ g h. (lit≤ tt, λ l. lit≤ tt))
+    and (λ g h. (lit≤ tt, λ l. absurd (omega arith))) and (λ g h. (lit≤ tt, λ l. absurd (omega arith))) and (λ g h. (lit≤ tt, λ l. absurd (omega arith)))
+    and high and high and (λ i. none))
+  where
+    none : {A : Type 0} → 2 ≤ 0 → A
+    none g = absurd (omega arith)
+
+    low : {A : Type 0} → 2 ≤ 1 → A
+    low g = absurd (omega arith)
+
+    high : {A B : Type 0} → A → 5 ≤ 4 → B
+    high g h = absurd (omega arith)
+
+-- a record that reading takes is of one of the five sections
+pub section-low : (k : ℕ) → 1 ≤ k → k ≤ lastKind → 1 ≤ sectionOf k
+section-low =
+    by-rows (λ k x. 1 ≤ k → k ≤ lastKind → 1 ≤ x .section) kinds
+    ((λ low high. low) and one and one and one and one and one and one and one and one and one and one and one and one and one and one
+    and (λ i low high. absurd (omega arith)))
+  where
+    one : {n : ℕ} {A B : Type 0} → A → B → 1 ≤ suc n
+    one low high = omega arith
+
+pub section-high : (k : ℕ) → sectionOf k ≤ 5
+section-high =
+    by-rows (λ k x. x .section ≤ 5) kinds
+    (lit≤ tt and lit≤ tt and lit≤ tt and lit≤ tt and lit≤ tt and lit≤ tt and lit≤ tt and lit≤ tt
+    and lit≤ tt and lit≤ tt and lit≤ tt and lit≤ tt and lit≤ tt and lit≤ tt and lit≤ tt and (λ i. lit≤ tt))
+
+-- Roles ---------------------------------------------------------------------------------------------------------------
+
+-- kinds 1 to 5 and 13 do not count
+pub low-counts : (k : ℕ) → 1 ≤ k → k < 6 → countsOne (kindOf k .role) ≡ false
+low-counts =
+    by-rows (λ k x. 1 ≤ k → k < 6 → countsOne (x .role) ≡ false) kinds
+    ((λ low high. absurd (omega arith)) and (λ low high. refl) and (λ low high. refl) and (λ low high. refl) and (λ low high. refl) and (λ low high. refl)
+    and out 0 and out 1 and out 2 and out 3 and out 4 and out 5 and out 6 and out 7 and out 8 and (λ i low high. absurd (omega arith)))
+  where
+    out : (n : ℕ) {A B : Type 0} → A → 6 + n < 6 → B
+    out n low high = absurd (omega arith)
+
+all-but-pairs : (k : ℕ) → 6 ≤ k → (k ≡ 13 → ⊥) → countsOne (kindOf k .role) ≡ true
+all-but-pairs =
+    by-rows (λ k x. 6 ≤ k → (k ≡ 13 → ⊥) → countsOne (x .role) ≡ true) kinds
+    (low 0 (lit≤ tt) and low 1 (lit≤ tt) and low 2 (lit≤ tt) and low 3 (lit≤ tt) and low 4 (lit≤ tt) and low 5 (lit≤ tt) and same and same and same and same and same and same and same
+    and (λ h ne. absurd (ne refl)) and same and (λ i. same))
+  where
+    low : (n : ℕ) {A : Type 0} → n ≤ 5 → 6 ≤ n → A
+    low n g h = absurd (omega arith)
+
+    same : {A B : Type 0} → A → B → true ≡ true
+    same h ne = refl
+
+pub high-counts : (k : ℕ) → 6 ≤ k → countsOne (kindOf k .role) ≡ not (eqb k 13)
+high-counts k h = go (eqb k 13) refl
+  where
+    go : (b : Bool) → eqb k 13 ≡ b → countsOne (kindOf k .role) ≡ not b
+    go true e = ap (λ (k : ℕ). countsOne (kindOf k .role)) (eqb-true k 13 e)
+    go false e = all-but-pairs k h (eqb-false k 13 e)
+
+-- no kind but 3, 4 and 5 takes items
+pub none-taken : (k : ℕ) → (k ≡ 3 → ⊥) → (k ≡ 4 → ⊥) → (k ≡ 5 → ⊥) → takesItems (kindOf k .role) ≡ 0
+none-taken =
+    by-rows (λ k x. (k ≡ 3 → ⊥) → (k ≡ 4 → ⊥) → (k ≡ 5 → ⊥) → takesItems (x .role) ≡ 0) kinds
+    (same and same and same and (λ a b c. absurd (a refl)) and (λ a b c. absurd (b refl)) and (λ a b c. absurd (c refl))
+    and same and same and same and same and same and same and same and same and same and (λ i. same))
+  where
+    same : {A B C : Type 0} → A → B → C → _≡_ {A = ℕ} 0 0
+    same a b c = refl
+
+-- the symbols are of section 1, the pairs of section 5
+abbrev pub Suits : ℕ → Role → Type 0
+Suits section (symbol takes make) = section ≡ conditions
+Suits section a-pair = section ≡ certificates
+Suits section counts = Unit {0}
+
+pub suits : (k : ℕ) → Suits (sectionOf k) (kindOf k .role)
+suits =
+    by-rows (λ k x. Suits (x .section) (x .role)) kinds
+    (tt and refl and refl and refl and refl and refl and tt and tt and tt and tt and tt and tt and tt and refl and tt and (λ i. tt))
+
+-- a primitive is a method
+pub primitive-section : (k : ℕ) → primitiveKind k ≡ true → sectionOf k ≡ methods
+primitive-section k e = ap sectionOf (eqb-true k 8 e)
+
+pub not-primitive : (k : ℕ) → (sectionOf k ≡ methods → ⊥) → primitiveKind k ≡ false
+not-primitive k ne = ne-eqb k 8 (λ (e : k ≡ 8). ne (ap sectionOf e))
+
+-- Fields --------------------------------------------------------------------------------------------------------------
+
+abbrev pub threeNames : List Field
+threeNames = a-name conditions ∷ a-name conditions ∷ a-name conditions ∷ []
+
+-- kinds 7 and 8
+pub three-conditions : (k : ℕ) → points ≤ sectionOf k → k < 9 → kindOf k .fields ≡ threeNames
+three-conditions =
+    by-rows (λ k x. points ≤ x .section → k < 9 → x .fields ≡ threeNames) kinds
+    (none and low and low and low and low and low and low and (λ g h. refl) and (λ g h. refl) and out 0 and out 1 and out 2 and out 3 and out 4 and out 5 and (λ i. none))
+  where
+    none : {A : Type 0} → 2 ≤ 0 → A
+    none g = absurd (omega arith)
+
+    low : {A : Type 0} → 2 ≤ 1 → A
+    low g = absurd (omega arith)
+
+    out : (n : ℕ) {A B : Type 0} → A → 9 + n < 9 → B
+    out n g h = absurd (omega arith)
+
+-- no kind after 12
+pub last-step : (k : ℕ) → points ≤ sectionOf k → sectionOf k ≤ steps → k ≤ 12
+last-step =
+    by-rows (λ k x. points ≤ x .section → x .section ≤ steps → k ≤ 12) kinds
+    ((λ g h. lit≤ tt) and (λ g h. lit≤ tt) and (λ g h. lit≤ tt) and (λ g h. lit≤ tt) and (λ g h. lit≤ tt) and (λ g h. lit≤ tt) and (λ g h. lit≤ tt)
+    and (λ g h. lit≤ tt) and (λ g h. lit≤ tt) and (λ g h. lit≤ tt) and (λ g h. lit≤ tt) and (λ g h. lit≤ tt) and (λ g h. lit≤ tt) and high and high and (λ i. none))
+  where
+    none : {A : Type 0} → 2 ≤ 0 → A
+    none g = absurd (omega arith)
+
+    high : {A B : Type 0} → A → 5 ≤ 4 → B
+    high g h = absurd (omega arith)
+
+-- the records of conditions and of certificates name nothing
+pub names-nothing : (events : ℕ) (counted : ℕ → ℕ) (k : ℕ) → (2 ≤ sectionOf k → sectionOf k ≤ 4 → ⊥) → (vs : List ℕ) → allExist events counted (kindOf k .fields) vs ≡ true
+names-nothing events counted =
+    by-rows (λ k x. (2 ≤ x .section → x .section ≤ 4 → ⊥) → (vs : List ℕ) → allExist events counted (x .fields) vs ≡ true) kinds
+    (none and (λ h. a-leaf) and none and none and none and none and none and (λ h. absurd (h (lit≤ tt) (lit≤ tt))) and (λ h. absurd (h (lit≤ tt) (lit≤ tt))) and (λ h. absurd (h (lit≤ tt) (lit≤ tt)))
+    and (λ h. absurd (h (lit≤ tt) (lit≤ tt))) and (λ h. absurd (h (lit≤ tt) (lit≤ tt))) and (λ h. absurd (h (lit≤ tt) (lit≤ tt)))
+    and (λ h. pair-fields) and none and (λ i. none))
+  where
+    none : {A : Type 0} → A → (vs : List ℕ) → true ≡ true
+    none h vs = refl
+
+    a-leaf : (vs : List ℕ) → allExist events counted (a-set ∷ []) vs ≡ true
+    a-leaf [] = refl
+    a-leaf (v ∷ vs) = refl
+
+    pair-fields : (vs : List ℕ) → allExist events counted (a-place ∷ a-set ∷ []) vs ≡ true
+    pair-fields [] = refl
+    pair-fields (v ∷ vs) = a-leaf vs

@@ -1,0 +1,13 @@
+use mathlib.Core.Path.{sym}
+use Rattle.format.proofs.Table.{low-counts, high-counts}
+use Rattle.format.proofs.kinds.counts.Statement.{statement}
+use Rattle.format.proofs.kinds.counts.Tie as tie
+
+returns : tie.Need-returns
+returns c = sym (low-counts (c .before .args .kind) (c .before .pre) (c .if1 .taken))
+
+returns-2 : tie.Need-returns-2
+returns-2 c = sym (high-counts (c .before .args .kind) (c .if1 .left))
+
+pub counts-spec : {M : Type 1} → statement M
+counts-spec = tie.close (tie.spec returns returns-2)

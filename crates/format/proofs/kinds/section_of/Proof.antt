@@ -1,0 +1,23 @@
+-- The tests are those of `section-is`, in its order.
+use borrow.Author.Tests.{lt-ltb, le-ltb}
+use Rattle.format.proofs.Table.{section-is}
+use Rattle.format.proofs.kinds.section_of.Statement.{statement}
+use Rattle.format.proofs.kinds.section_of.Tie as tie
+
+returns : tie.Need-returns
+returns c = simp (lt-ltb (c .before .args .kind) 7 (c .if1 .taken)) at (section-is (c .before .args .kind) (c .before .pre .0) (c .before .pre .1))
+
+returns-2 : tie.Need-returns-2
+returns-2 c = simp (le-ltb (c .before .before .args .kind) 7 (c .before .if1 .left), lt-ltb (c .before .before .args .kind) 8 (c .if2 .taken)) at (section-is (c .before .before .args .kind) (c .before .before .pre .0) (c .before .before .pre .1))
+
+returns-3 : tie.Need-returns-3
+returns-3 c = simp (le-ltb (c .before .before .before .args .kind) 7 (c .before .before .if1 .left), le-ltb (c .before .before .before .args .kind) 8 (c .before .if2 .left), lt-ltb (c .before .before .before .args .kind) 10 (c .if3 .taken)) at (section-is (c .before .before .before .args .kind) (c .before .before .before .pre .0) (c .before .before .before .pre .1))
+
+returns-4 : tie.Need-returns-4
+returns-4 c = simp (le-ltb (c .before .before .before .before .args .kind) 7 (c .before .before .before .if1 .left), le-ltb (c .before .before .before .before .args .kind) 8 (c .before .before .if2 .left), le-ltb (c .before .before .before .before .args .kind) 10 (c .before .if3 .left), lt-ltb (c .before .before .before .before .args .kind) 13 (c .if4 .taken)) at (section-is (c .before .before .before .before .args .kind) (c .before .before .before .before .pre .0) (c .before .before .before .before .pre .1))
+
+returns-5 : tie.Need-returns-5
+returns-5 c = simp (le-ltb (c .before .before .before .before .args .kind) 7 (c .before .before .before .if1 .left), le-ltb (c .before .before .before .before .args .kind) 8 (c .before .before .if2 .left), le-ltb (c .before .before .before .before .args .kind) 10 (c .before .if3 .left), le-ltb (c .before .before .before .before .args .kind) 13 (c .if4 .left)) at (section-is (c .before .before .before .before .args .kind) (c .before .before .before .before .pre .0) (c .before .before .before .before .pre .1))
+
+pub section-of-spec : {M : Type 1} → statement M
+section-of-spec = tie.close (tie.spec returns returns-2 returns-3 returns-4 returns-5)

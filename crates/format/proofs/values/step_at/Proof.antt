@@ -1,0 +1,66 @@
+use mathlib.Core.Path.{sym, _∙_}
+use borrow.Author.Tests.{eq-eqb, ne-eqb}
+use Rattle.sheet.specs.AtOffset.{stepAt}
+use borrow.Author.Needs.{needs}
+use Rattle.format.proofs.values.step_at.Statement.{statement}
+use Rattle.format.proofs.values.step_at.Tie as tie
+
+byte-at-requires : tie.Need-byte-at-requires
+byte-at-requires c κs = search needs
+
+add-short-at : tie.Need-add-short-at
+add-short-at c = search needs
+
+short-at-requires : tie.Need-short-at-requires
+short-at-requires c κs = search needs
+
+add-short-at-2 : tie.Need-add-short-at-2
+add-short-at-2 c = search needs
+
+short-at-requires-2 : tie.Need-short-at-requires-2
+short-at-requires-2 c κs = search needs
+
+add-byte-at : tie.Need-add-byte-at
+add-byte-at c = search needs
+
+byte-at-requires-2 : tie.Need-byte-at-requires-2
+byte-at-requires-2 c κs = search needs
+
+index-requires : tie.Need-index-requires
+index-requires c κs = search needs
+
+returns : tie.Need-returns
+unfolding stepAt
+returns c = simp (c .before .before .before .before .short-at .ensures, c .before .before .before .short-at2 .ensures, c .index .ensures, c .before .byte-at2 .ensures, eq-eqb _ _ (sym (c .before .before .before .before .before .byte-at .ensures) ∙ c .before .before .if1 .taken))
+
+add-short-at-3 : tie.Need-add-short-at-3
+add-short-at-3 c = search needs
+
+short-at-requires-3 : tie.Need-short-at-requires-3
+short-at-requires-3 c κs = search needs
+
+returns-2 : tie.Need-returns-2
+unfolding stepAt
+returns-2 c = simp (c .before .before .before .before .short-at .ensures, c .before .before .before .short-at2 .ensures, c .short-at3 .ensures, ne-eqb _ _ (λ e. c .before .before .if1 .left (c .before .before .before .before .before .byte-at .ensures ∙ e)), eq-eqb _ _ (sym (c .before .before .before .before .before .byte-at .ensures) ∙ c .before .if2 .taken))
+
+returns-3 : tie.Need-returns-3
+unfolding stepAt
+returns-3 c = simp (c .before .before .before .short-at .ensures, c .before .before .short-at2 .ensures, ne-eqb _ _ (λ e. c .before .if1 .left (c .before .before .before .before .byte-at .ensures ∙ e)), ne-eqb _ _ (λ e. c .if2 .left (c .before .before .before .before .byte-at .ensures ∙ e)))
+
+pub step-at-spec : {M : Type 1} → statement M
+step-at-spec =
+    tie.close
+    (tie.spec
+    byte-at-requires
+    add-short-at
+    short-at-requires
+    add-short-at-2
+    short-at-requires-2
+    add-byte-at
+    byte-at-requires-2
+    index-requires
+    returns
+    add-short-at-3
+    short-at-requires-3
+    returns-2
+    returns-3)

@@ -1,0 +1,62 @@
+-- The symbols of a condition as the code has them: what they stand for, and what each takes, has and is long.
+use mathlib.Core.Path.{_≡_}
+use mathlib.Core.Bool.{Bool, true, false}
+use mathlib.Core.Option.{Option, none, some}
+use mathlib.Core.List.{List}
+use Prim.Native.Nat.{ℕ, _+_, _<_}
+use lib.ListN.{length}
+use Rattle.sheet.specs.Record.{nextAt}
+use Rattle.sheet.specs.AtOffset.{leaf-symbol, empty-symbol, join-symbol, either-symbol, star-symbol, symbolAt}
+use Rattle.sheet.specs.AtOffset as sheet
+use Rattle.format.specs.declared.symbols.Symbol.{Symbol}
+use Rattle.format.specs.declared.symbols.Symbol.the-variants.{None, Leaf, Empty, Join, Either, Star}
+
+-- a symbol as a value, and None where there is none
+abbrev pub valueOf : Option sheet.Symbol → Symbol
+valueOf none = None
+valueOf (some (leaf-symbol set)) = Leaf set
+valueOf (some empty-symbol) = Empty
+valueOf (some join-symbol) = Join
+valueOf (some either-symbol) = Either
+valueOf (some star-symbol) = Star
+
+abbrev pub isSymbol : Symbol → Bool
+isSymbol None = false
+isSymbol (Leaf set) = true
+isSymbol Empty = true
+isSymbol Join = true
+isSymbol Either = true
+isSymbol Star = true
+
+-- how many items a symbol takes: two of JOIN and EITHER, one of STAR
+abbrev pub itemsTaken : Symbol → ℕ
+itemsTaken None = 0
+itemsTaken (Leaf set) = 0
+itemsTaken Empty = 0
+itemsTaken Join = 2
+itemsTaken Either = 2
+itemsTaken Star = 1
+
+-- how many leaves it has
+abbrev pub leavesIn : Symbol → ℕ
+leavesIn None = 0
+leavesIn (Leaf set) = 1
+leavesIn Empty = 0
+leavesIn Join = 0
+leavesIn Either = 0
+leavesIn Star = 0
+
+-- how many bytes its record has
+abbrev pub bytesOf : Symbol → ℕ
+bytesOf None = 1
+bytesOf (Leaf set) = 5
+bytesOf Empty = 1
+bytesOf Join = 1
+bytesOf Either = 1
+bytesOf Star = 1
+
+-- y is the symbol at the offset; its record stands in the sheet, and the next one behind it
+pub record IsSymbolAt (s : List ℕ) (at : ℕ) (y : Symbol) : Type 0 where
+  pub symbol-is : y ≡ valueOf (symbolAt s at)
+  pub inside : isSymbol y ≡ true → at < length s
+  pub next-is : isSymbol y ≡ true → nextAt s at ≡ at + bytesOf y

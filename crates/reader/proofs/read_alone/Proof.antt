@@ -1,0 +1,218 @@
+-- The loop keeps `Filled`, with section k still to come. Each answer is the law of the test that led to it.
+use mathlib.Core.Path.{_≡_, refl, sym, _∙_, subst}
+use mathlib.Core.Bool.{false, _&&_}
+use mathlib.Core.List.{[]}
+use Prim.Native.Nat.{_-_}
+use native.Mathlib.Omega.{arith}
+use lib.ListN.{length, length-set}
+use lib.Dec.{eqb, leb}
+use borrow.Author.Tests.{le-leb, lt-leb, not-true, not-false}
+use borrow.Author.Needs.{needs}
+use Rattle.sheet.specs.Kind.{sectionOf}
+use Rattle.sheet.specs.Reading.{Reading, Outcome}
+use Rattle.sheet.proofs.Take.{next-lt}
+use Rattle.format.specs.declared.Refusal.{Refusal}
+use Rattle.format.specs.Kinds.{primitiveKind}
+use Rattle.format.proofs.Laws.{Stood, stood, Refuses, refused}
+use Rattle.instrument.specs.Model.{modelWith}
+use Rattle.tally.specs.Tally.{countOf}
+use Rattle.reader.specs.declared.Section.{Section}
+use Rattle.reader.specs.declared.Section.the-variants.{Done}
+use Rattle.reader.specs.Sections.{Told, Filled}
+use Rattle.reader.proofs.Alone.{begin, passes, no-more, no-record, too-early, later-section, over-limit, unnamed, primitive-first, again}
+use Rattle.reader.proofs.read_alone.Statement.{statement}
+use Rattle.reader.proofs.read_alone.Tie as tie
+
+abbrev Inv-loop : tie.InvT-loop
+Inv-loop s limits section limit table₀ from first at₀ tally₀ table at tally = (length table ≡ length table₀)
+    × ((o : Outcome) (u : Reading) → Told (modelWith limits) s o section (Done at₀ tally₀) u → u .own section ≡ []
+    → Filled (modelWith limits) s o section (Done at tally) section u table₀ table)
+
+abbrev μ-loop : tie.MeasureT-loop
+μ-loop s limits section limit table₀ from first at₀ tally₀ table at tally = length s - at
+
+enum-known-reached : tie.Need-enum-known-reached Inv-loop μ-loop
+enum-known-reached c = search needs
+
+enum-told : tie.Need-enum-told Inv-loop μ-loop
+enum-told c = search needs
+
+returns : tie.Need-returns Inv-loop μ-loop
+returns c = λ o u told none. passes (c .enum-told .given .1) told none
+
+count-requires : tie.Need-count-requires Inv-loop μ-loop
+count-requires c κs = search needs
+
+loop-holds : tie.Need-loop-holds Inv-loop μ-loop
+loop-holds c = (refl, λ o u told none. record { state = u; told = told; grown = begin _ none })
+
+record-at-requires : tie.Need-record-at-requires Inv-loop μ-loop
+record-at-requires c κs = c .before .before .before .before .before .before .before .before .pre .kinds
+
+enum-known-got : tie.Need-enum-known-got Inv-loop μ-loop
+enum-known-got c = search needs
+
+enum-told-2 : tie.Need-enum-told-2 Inv-loop μ-loop
+enum-told-2 c = search needs
+
+refusal-at-requires : tie.Need-refusal-at-requires Inv-loop μ-loop
+refusal-at-requires c κs = search needs
+
+-- reading has come to the section
+given : (c : tie.After-count Inv-loop μ-loop) (o : Outcome) (u : Reading) → Told (modelWith (c .before .before .before .before .before .before .args .limits)) (c .before .before .before .before .before .before .args .s .now) o (c .before .before .before .before .before .before .args .section) (c .before .before .before .before .before .before .args .reached) u
+    → Told (modelWith (c .before .before .before .before .before .before .args .limits)) (c .before .before .before .before .before .before .args .s .now) o (c .before .before .before .before .before .before .args .section) (Done (c .before .before .reached .given .0 .0) (c .before .before .reached .given .0 .1 .0)) u
+given c o u told = subst (λ (a : Section). Told (modelWith (c .before .before .before .before .before .before .args .limits)) (c .before .before .before .before .before .before .args .s .now) o (c .before .before .before .before .before .before .args .section) a u) (c .before .before .reached .given .1) told
+
+-- what the loop has kept, where a turn begins
+kept : (c : tie.In-loop Inv-loop μ-loop) (o : Outcome) (u : Reading) → Told (modelWith (c .before .before .before .before .before .before .before .before .args .limits)) (c .before .before .before .before .before .before .before .before .args .s .now) o (c .before .before .before .before .before .before .before .before .args .section) (c .before .before .before .before .before .before .before .before .args .reached) u → u .own (c .before .before .before .before .before .before .before .before .args .section) ≡ []
+    → Filled (modelWith (c .before .before .before .before .before .before .before .before .args .limits)) (c .before .before .before .before .before .before .before .before .args .s .now) o (c .before .before .before .before .before .before .before .before .args .section) (Done (c .before .loop .at) (c .before .loop .tally)) (c .before .before .before .before .before .before .before .before .args .section) u (c .before .before .before .before .before .before .before .before .args .table .now) (c .before .loop .table)
+kept c o u told none = c .before .loop .inv .1 o u (given (c .before .before) o u told) none
+
+-- the record that the turn reads
+standing : (c : tie.After-known-told2 Inv-loop μ-loop) → Stood (modelWith (c .before .before .before .before .before .before .before .before .before .before .before .before .args .limits)) (c .before .before .before .before .before .before .before .before .before .before .before .before .args .s .now) (c .before .before .before .before .before .loop .at) (c .before .got .given .0 .0) (c .before .got .given .0 .1 .0)
+standing c = stood _ _ _ (sym (c .before .before .before .record-at .ensures) ∙ c .before .got .given .1)
+
+same-length : tie.Need-same-length Inv-loop μ-loop
+same-length c = c .before .before .before .before .before .loop .inv .0
+
+returns-2 : tie.Need-returns-2 Inv-loop μ-loop
+returns-2 c = λ o u told none.
+    let k = kept (c .before .before .before .before) o u told none in
+    let why = refused (modelWith (c .before .before .before .before .before .before .before .before .before .before .before .before .args .limits)) (c .before .before .before .before .before .before .before .before .before .before .before .before .args .s .now) (c .before .before .before .before .before .loop .at) (k .state) (sym (c .before .before .before .record-at .ensures) ∙ c .before .enum-told2 .given .1) in
+    no-record (c .before .before .before .before .before .before .before .before .before .before .before .before .pre) k (c .before .before .before .before .loop-test .taken) _ (subst (λ (x : Refusal). Refuses (modelWith (c .before .before .before .before .before .before .before .before .before .before .before .before .args .limits)) (c .before .before .before .before .before .before .before .before .before .before .before .before .args .s .now) (c .before .before .before .before .before .loop .at) (k .state) x) (sym (c .refusal-at .ensures)) why)
+
+section-of-requires : tie.Need-section-of-requires Inv-loop μ-loop
+section-of-requires c κs = (standing c .low, omega (arith, standing c .high, c .before .before .before .before .before .before .before .before .before .before .before .before .pre .kinds))
+
+same-length-2 : tie.Need-same-length-2 Inv-loop μ-loop
+same-length-2 c = c .before .before .before .before .before .before .before .loop .inv .0
+
+returns-3 : tie.Need-returns-3 Inv-loop μ-loop
+returns-3 c = λ o u told none.
+    too-early (c .before .before .before .before .before .before .before .before .before .before .before .before .before .before .pre) (kept (c .before .before .before .before .before .before) o u told none) (c .before .before .before .before .before .before .loop-test .taken) (standing (c .before .before)) (omega (arith, c .if1 .taken, c .before .section-of .ensures))
+
+same-length-3 : tie.Need-same-length-3 Inv-loop μ-loop
+same-length-3 c = c .before .before .before .before .before .before .before .before .loop .inv .0
+
+returns-4 : tie.Need-returns-4 Inv-loop μ-loop
+returns-4 c = λ o u told none.
+    later-section (c .before .before .before .before .before .before .before .before .before .before .before .before .before .before .before .pre) (kept (c .before .before .before .before .before .before .before) o u told none) (c .before .before .before .before .before .before .before .loop-test .taken) (standing (c .before .before .before)) (omega (arith, c .if2 .taken, c .before .before .section-of .ensures))
+
+count-requires-2 : tie.Need-count-requires-2 Inv-loop μ-loop
+count-requires-2 c κs = search needs
+
+-- the record is of the section
+same : (c : tie.After-count2 Inv-loop μ-loop) → sectionOf (c .before .before .before .before .before .got .given .0 .0) ≡ c .before .before .before .before .before .before .before .before .before .before .before .before .before .before .before .before .args .section
+same c = omega (arith, c .before .if2 .left, c .before .before .if1 .left, c .before .before .before .section-of .ensures)
+
+same-length-4 : tie.Need-same-length-4 Inv-loop μ-loop
+same-length-4 c = c .before .before .before .before .before .before .before .before .before .before .loop .inv .0
+
+returns-5 : tie.Need-returns-5 Inv-loop μ-loop
+returns-5 c = λ o u told none.
+    over-limit (c .before .before .before .before .before .before .before .before .before .before .before .before .before .before .before .before .before .pre) (kept (c .before .before .before .before .before .before .before .before .before) o u told none) (c .before .before .before .before .before .before .before .before .before .loop-test .taken) (standing (c .before .before .before .before .before)) (same (c .before)) (le-leb (c .before .before .before .before .before .before .before .before .before .before .before .before .before .before .before .before .before .args .limit) (countOf (c .before .before .before .before .before .before .before .before .before .before .loop .tally) (c .before .before .before .before .before .before .before .before .before .before .before .before .before .before .before .before .before .args .section)) (omega (arith, c .if3 .taken, c .before .count2 .ensures)))
+
+named-requires : tie.Need-named-requires Inv-loop μ-loop
+named-requires c κs =
+    let is = same (c .before) in
+    let a = c .before .before .before .before .before .before .before .before .before .before .before .before .before .before .before .before .before .pre in
+    let w = standing (c .before .before .before .before .before) in
+    record { is = w .kind; low = omega (arith, a .low); high = omega (arith, a .high); inside = w .inside }
+
+-- there is room for one more
+within : (c : tie.Else3 Inv-loop μ-loop) → leb (c .before .before .before .before .before .before .before .before .before .before .before .before .before .before .before .before .before .args .limit) (countOf (c .before .before .before .before .before .before .before .before .before .before .loop .tally) (c .before .before .before .before .before .before .before .before .before .before .before .before .before .before .before .before .before .args .section)) ≡ false
+within c = lt-leb (c .before .before .before .before .before .before .before .before .before .before .before .before .before .before .before .before .before .args .limit) (countOf (c .before .before .before .before .before .before .before .before .before .before .loop .tally) (c .before .before .before .before .before .before .before .before .before .before .before .before .before .before .before .before .before .args .section)) (omega (arith, c .if3 .left, c .before .count2 .ensures))
+
+same-length-5 : tie.Need-same-length-5 Inv-loop μ-loop
+same-length-5 c = c .before .before .before .before .before .before .before .before .before .before .before .before .loop .inv .0
+
+returns-6 : tie.Need-returns-6 Inv-loop μ-loop
+returns-6 c = λ o u told none.
+    unnamed (c .before .before .before .before .before .before .before .before .before .before .before .before .before .before .before .before .before .before .before .pre) (kept (c .before .before .before .before .before .before .before .before .before .before .before) o u told none) (c .before .before .before .before .before .before .before .before .before .before .before .loop-test .taken) (standing (c .before .before .before .before .before .before .before)) (same (c .before .before .before)) (within (c .before .before)) (sym (c .before .named .ensures) ∙ not-true (c .before .named .result) (c .if4 .taken))
+
+is-primitive-requires : tie.Need-is-primitive-requires Inv-loop μ-loop
+is-primitive-requires c κs = search needs
+
+both-requires : tie.Need-both-requires Inv-loop μ-loop
+both-requires c κs = search needs
+
+-- it is this sheet's first method, and a primitive
+first-primitive : (c : tie.After-both Inv-loop μ-loop)
+    → (eqb (countOf (c .before .before .before .before .before .before .before .before .before .before .before .before .before .before .loop .tally) (c .before .before .before .before .before .before .before .before .before .before .before .before .before .before .before .before .before .before .before .before .before .args .section)) (countOf (c .before .before .before .before .before .before .before .before .before .before .before .before .before .before .before .before .before .reached .given .0 .1 .0) (c .before .before .before .before .before .before .before .before .before .before .before .before .before .before .before .before .before .before .before .before .before .args .section)) && primitiveKind (c .before .before .before .before .before .before .before .before .before .before .got .given .0 .0)) ≡ c .both .result
+first-primitive c = cc (c .both .ensures, c .before .is-primitive .ensures, c .before .before .before .before .before .count2 .ensures, c .before .before .before .before .before .before .before .before .before .before .before .before .before .before .before .count .ensures)
+
+same-length-6 : tie.Need-same-length-6 Inv-loop μ-loop
+same-length-6 c = c .before .before .before .before .before .before .before .before .before .before .before .before .before .before .before .loop .inv .0
+
+returns-7 : tie.Need-returns-7 Inv-loop μ-loop
+returns-7 c = λ o u told none.
+    primitive-first (c .before .before .before .before .before .before .before .before .before .before .before .before .before .before .before .before .before .before .before .before .before .before .pre) (kept (c .before .before .before .before .before .before .before .before .before .before .before .before .before .before) o u told none) (c .before .before .before .before .before .before .before .before .before .before .before .before .before .before .loop-test .taken) (standing (c .before .before .before .before .before .before .before .before .before .before)) (same (c .before .before .before .before .before .before)) (within (c .before .before .before .before .before)) (sym (c .before .before .before .before .named .ensures) ∙ not-false (c .before .before .before .before .named .result) (c .before .before .before .if4 .left))
+    (given (c .before .before .before .before .before .before .before .before .before .before .before .before .before .before .before .before) o u told .1) none (first-primitive (c .before) ∙ c .if5 .taken)
+
+mul-table : tie.Need-mul-table Inv-loop μ-loop
+mul-table c = omega (arith, c .before .before .before .before .before .if3 .left, c .before .before .before .before .before .before .before .before .before .before .before .before .before .before .before .before .before .before .before .before .before .before .pre .few)
+
+slice-write-table : tie.Need-slice-write-table Inv-loop μ-loop
+slice-write-table c = omega (arith, c .before .before .before .before .before .if3 .left, c .before .before .before .before .before .before .before .before .before .before .before .before .before .before .before .before .before .before .before .before .before .before .pre .room, c .before .before .before .before .before .before .before .before .before .before .before .before .before .before .before .loop .inv .0)
+
+past-requires : tie.Need-past-requires Inv-loop μ-loop
+past-requires c κs = omega (arith, c .before .before .before .before .before .if3 .left, c .before .before .before .before .before .before .count2 .ensures, c .before .before .before .before .before .before .before .before .before .before .before .before .before .before .before .before .before .before .before .before .before .before .pre .room)
+
+loop-less : tie.Need-loop-less Inv-loop μ-loop
+loop-less c =
+    let w = standing (c .before .before .before .before .before .before .before .before .before .before .before) in
+    omega (arith, w .next, w .inside, next-lt (c .before .before .before .before .before .before .before .before .before .before .before .before .before .before .before .before .before .before .before .before .before .before .before .args .s .now) (c .before .before .before .before .before .before .before .before .before .before .before .before .before .before .before .before .loop .at))
+
+loop-again : tie.Need-loop-again Inv-loop μ-loop
+loop-again c = (
+  length-set (c .before .before .before .before .before .before .before .before .before .before .before .before .before .before .before .before .loop .table) (c .before .before .before .before .before .before .before .count2 .result) (c .before .before .before .before .before .before .before .before .before .before .before .before .before .before .before .before .loop .at) ∙ c .before .before .before .before .before .before .before .before .before .before .before .before .before .before .before .before .loop .inv .0,
+  λ o u told none.
+      again (c .before .before .before .before .before .before .before .before .before .before .before .before .before .before .before .before .before .before .before .before .before .before .before .pre) (c .before .before .before .before .before .before .before .before .before .before .before .before .before .before .before .before .loop .inv .1 o u told none) (c .before .before .before .before .before .before .before .before .before .before .before .before .before .before .before .loop-test .taken) (standing (c .before .before .before .before .before .before .before .before .before .before .before)) (same (c .before .before .before .before .before .before .before)) (within (c .before .before .before .before .before .before)) (sym (c .before .before .before .before .before .named .ensures) ∙ not-false (c .before .before .before .before .before .named .result) (c .before .before .before .before .if4 .left))
+      (told .1) none (first-primitive (c .before .before) ∙ c .before .if5 .left) (c .before .before .before .before .before .before .before .count2 .ensures) (c .past .ensures),
+)
+
+same-length-7 : tie.Need-same-length-7 Inv-loop μ-loop
+same-length-7 c = c .before .loop .inv .0
+
+returns-8 : tie.Need-returns-8 Inv-loop μ-loop
+returns-8 c = λ o u told none. no-more (c .before .before .before .before .before .before .before .before .pre) (c .before .loop .inv .1 o u (given (c .before .before) o u told) none) (c .loop-test .left)
+
+pub read-alone-spec : {M : Type 1} → statement M
+read-alone-spec =
+    tie.close
+    (tie.spec
+    Inv-loop
+    μ-loop
+    enum-known-reached
+    enum-told
+    returns
+    count-requires
+    loop-holds
+    record-at-requires
+    enum-known-got
+    enum-told-2
+    refusal-at-requires
+    same-length
+    returns-2
+    section-of-requires
+    same-length-2
+    returns-3
+    same-length-3
+    returns-4
+    count-requires-2
+    same-length-4
+    returns-5
+    named-requires
+    same-length-5
+    returns-6
+    is-primitive-requires
+    both-requires
+    same-length-6
+    returns-7
+    mul-table
+    slice-write-table
+    past-requires
+    loop-less
+    loop-again
+    same-length-7
+    returns-8)

@@ -1,0 +1,76 @@
+-- What the section readers keep from record to record, and tell each other: reading has come to where the code stands, in a state that agrees
+-- with the code's values, or has ended. The outcome is o, whatever state reading started in.
+use Prim.Native.Nat.{ℕ, zero, suc, _+_, _≤_, _<_}
+use mathlib.Core.Path.{_≡_}
+use mathlib.Core.List.{List, [], _∷_}
+use lib.ListN.{length, getD}
+use lib.Dec.{leb}
+use Rattle.sheet.specs.Model.{Model}
+use Rattle.sheet.specs.Kind.{points, steps, certificates, sectionOf}
+use Rattle.sheet.specs.Record.{byteAt}
+use Rattle.sheet.specs.Reading.{nothing, Reading, startsOf, full, Outcome, whole, andThen, readOn, atEnd}
+use Rattle.format.specs.Kinds.{lastKind}
+use Rattle.instrument.specs.declared.Limits.{Limits}
+use Rattle.instrument.specs.Model.{modelWith}
+use Rattle.reader.specs.declared.Section.{Section}
+use Rattle.reader.specs.declared.Section.the-variants.{Done, Refused}
+use Rattle.reader.specs.declared.Read.{Read}
+use Rattle.reader.specs.declared.Read.the-variants.{Whole}
+use Rattle.reader.specs.declared.Read.the-variants as read
+use Rattle.reader.specs.Contract.{Counts, Ends, overwritten}
+
+-- reading has come to the offset `at` in the state r: reading on from there gives the outcome
+pub record Comes (M : Model) (s : List ℕ) (o : Outcome) (at : ℕ) (r : Reading) : Type 0 where
+  pub inside : at ≤ length s
+  pub fuel : ℕ
+  pub enough : length s ≤ fuel + at
+  pub rest : andThen (readOn M s (length s) fuel at r) (λ t. atEnd s t) ≡ o
+
+-- .. with nothing open, past no record of a section after k; before the first record of section k, what comes is of no earlier section
+pub record Between (M : Model) (s : List ℕ) (o : Outcome) (k at : ℕ) (r : Reading) : Type 0 where
+  pub comes : Comes M s o at r
+  pub section : r .section ≤ k
+  pub closed : r .opened ≡ nothing
+  pub begun : at < length s → r .section < k → k ≤ sectionOf (byteAt s at)
+
+-- section k comes next, in the state r, or reading has ended in it
+abbrev pub Told : Model → List ℕ → Outcome → ℕ → Section → Reading → Type 0
+Told M s o k (Done at t) r = Between M s o k at r × Counts r t
+Told M s o k (Refused x) r = Ends o r x
+
+-- a table with these offsets written over it from an index on
+abbrev pub overwrittenFrom : ℕ → List ℕ → List ℕ → List ℕ
+overwrittenFrom zero offsets table = overwritten offsets table
+overwrittenFrom (suc n) offsets [] = []
+overwrittenFrom (suc n) offsets (x ∷ table) = x ∷ overwrittenFrom n offsets table
+
+-- from the state r to the state u only section k has grown, and the table holds its offsets, behind those from before this sheet
+pub record Extended (k : ℕ) (r u : Reading) (before after : List ℕ) : Type 0 where
+  pub same : u .before ≡ r .before
+  pub others : (j : ℕ) → (j ≡ k → ⊥) → u .own j ≡ r .own j
+  pub table : after ≡ overwrittenFrom (length (u .before k)) (startsOf (u .own k)) before
+
+-- what the reader of section k, which began in the state r, has told when section `next` comes next
+pub record Filled (M : Model) (s : List ℕ) (o : Outcome) (next : ℕ) (a : Section) (k : ℕ) (r : Reading) (before after : List ℕ) : Type 0 where
+  pub state : Reading
+  pub told : Told M s o next a state
+  pub grown : Extended k r state before after
+
+-- what the reader of certificates, which began in the state r, tells: the outcome, and that only certificates were counted
+abbrev pub Answers : List ℕ → Outcome → Read → Reading → Type 0
+Answers s o (Whole c) u = (o ≡ whole u) × Counts u (c .tally) × (c .certificates ≡ getD (startsOf (u .own certificates)) 0 (length s))
+Answers s o (read.Refused x) u = Ends o u x
+
+pub record Concluded (s : List ℕ) (o : Outcome) (r : Reading) (a : Read) : Type 0 where
+  pub state : Reading
+  pub answers : Answers s o a state
+  pub others : (j : ℕ) → (j ≡ certificates → ⊥) → state .own j ≡ r .own j
+
+-- section k, of points, methods or steps: it has `limit` at most, and the table has room for them
+pub record Alone (l : Limits) (k limit : ℕ) (table : List ℕ) : Type 0 where
+  pub low : points ≤ k
+  pub high : k ≤ steps
+  pub kinds : l .kinds ≤ lastKind
+  pub few : limit ≤ 512
+  pub room : limit ≤ length table
+  pub limited : (n : ℕ) → full (modelWith l) k n ≡ leb limit n

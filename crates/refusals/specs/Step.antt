@@ -1,0 +1,44 @@
+-- One record of a condition, as the code takes it.
+use Prim.Native.Nat.{ℕ, _+_, _-_, _≤_}
+use mathlib.Core.Bool.{Bool, cond, _&&_}
+use lib.Dec.{ltb, leb, eqb}
+use Rattle.sheet.specs.Model.{conditionLimit, symbolLimit, leafLimit}
+use Rattle.sheet.specs.Kind.{kindOf}
+use Rattle.format.specs.declared.Refusal.the-variants.{WrongItems, OverLimit}
+use Rattle.format.specs.Kinds.{countsOne, takesItems, leafKind}
+use Rattle.refusals.specs.declared.Begun.{Begun}
+use Rattle.refusals.specs.declared.Stepped.{Stepped}
+use Rattle.refusals.specs.declared.Stepped.the-variants.{On, Refused}
+
+abbrev pub nothingBegun : Begun
+nothingBegun = record { items = 0; symbols = 0; leaves = 0 }
+
+-- each record adds an item or a leaf at most
+pub record Modest (b : Begun) : Type 0 where
+  pub items : b .items ≤ b .symbols
+  pub leaves : b .leaves ≤ b .symbols
+
+abbrev pub itemsOfKind : ℕ → ℕ
+itemsOfKind kind = takesItems (kindOf kind .role)
+
+abbrev pub leavesOfKind : ℕ → ℕ
+leavesOfKind kind = cond (leafKind kind) 1 0
+
+abbrev pub symbolStep : Begun → ℕ → ℕ → Stepped
+symbolStep b kind at =
+    cond (ltb (b .items) (itemsOfKind kind)) (Refused (WrongItems at))
+    (cond (leb symbolLimit (b .symbols)) (Refused (OverLimit at))
+    (cond (leafKind kind && leb leafLimit (b .leaves)) (Refused (OverLimit at))
+    (On (record { items = b .items - itemsOfKind kind + 1; symbols = b .symbols + 1; leaves = b .leaves + leavesOfKind kind }))))
+
+-- past n conditions
+abbrev pub endStep : Begun → ℕ → ℕ → Stepped
+endStep b n at =
+    cond (eqb (b .items) 1) (cond (leb conditionLimit n) (Refused (OverLimit at)) (On nothingBegun)) (Refused (WrongItems at))
+
+-- what counts in the section of conditions is the end of one
+abbrev pub endsOne : ℕ → Bool
+endsOne kind = countsOne (kindOf kind .role)
+
+abbrev pub conditionStep : Begun → ℕ → ℕ → ℕ → Stepped
+conditionStep b kind n at = cond (endsOne kind) (endStep b n at) (symbolStep b kind at)
