@@ -4,7 +4,7 @@ use mathlib.Core.Path.{_≡_}
 use mathlib.Core.List.{List}
 use lib.ListN.{getD}
 use Rattle.format.specs.Refusal.{numberOf, placeOf}
-use Rattle.tally.specs.Tally.{tallyOf}
+use Rattle.tally.specs.Tally.{countOf}
 use Rattle.reader.specs.declared.Read.{Read}
 use Rattle.reader.specs.declared.Read.the-variants.{Whole, Refused}
 use Rattle.verdict.specs.Verdict.{refused}
@@ -17,5 +17,5 @@ pub record Stores (numbers before after : List ℕ) (result : ℕ) : Type 0 wher
 
 -- the numbers of the reader's answer
 abbrev pub numbersRead : Read → List ℕ
-numbersRead (Whole c) = numbersOf 1 (tallyReply (tallyOf (c .tally)))
+numbersRead (Whole c) = numbersOf 1 (tallyReply (countOf (c .tally)))
 numbersRead (Refused x) = reportNumbers (refused (numberOf x) (placeOf x))

@@ -7,7 +7,8 @@ use mathlib.Core.List.{List, [], _∷_, _++_}
 use lib.ListN.{length, drop}
 use lib.Dec.{leb}
 use Rattle.sheet.specs.Model.{large}
-use Rattle.sheet.specs.Reading.{Tally, Outcome, whole, refusal, readSheet}
+use Rattle.sheet.specs.Kind.{conditions, points, methods, steps, certificates}
+use Rattle.sheet.specs.Reading.{tally, Outcome, whole, refusal, readSheet}
 use Rattle.verdict.specs.Verdict.{Report, accepted, refused, unproved, verdictOf}
 use Rattle.verdict.specs.WordTest.{Answer, tested, untested, wordTest}
 use Rattle.verdict.specs.Reply.{Reply, replyOf, answerReply}
@@ -27,7 +28,7 @@ unwritten = 0
 abbrev pub reportStatus : Report → ℕ
 reportStatus (accepted n) = 1
 reportStatus (refused n at) = 2
-reportStatus (unproved r k c i e l) = 3
+reportStatus (unproved r k f) = 3
 
 -- 1 yes, 2 refused, 3 no
 abbrev pub answerStatus : Answer → ℕ
@@ -38,17 +39,17 @@ answerStatus (untested n at) = 2
 -- 1 read whole, 2 refused
 abbrev pub readStatus : Outcome → ℕ
 readStatus (whole r) = 1
-readStatus (refusal n at) = 2
+readStatus (refusal n at r) = 2
 
 -- Numbers ---------------------------------------------------------------------------------------------------------------
 
 -- the reply of reading alone: the five counts of a sheet that is read whole, or a refusal's number and place
-abbrev pub tallyReply : Tally → Reply
-tallyReply t = record { number = none; values = t .conditions ∷ t .points ∷ t .methods ∷ t .steps ∷ t .certificates ∷ [] }
+abbrev pub tallyReply : (ℕ → ℕ) → Reply
+tallyReply count = record { number = none; values = count conditions ∷ count points ∷ count methods ∷ count steps ∷ count certificates ∷ [] }
 
 abbrev pub readReply : Outcome → Reply
-readReply (whole r) = tallyReply (r .tally)
-readReply (refusal n at) = replyOf (refused n (some at))
+readReply (whole r) = tallyReply (tally r)
+readReply (refusal n at r) = replyOf (refused n (some at))
 
 -- document 01's number of an answer; 0 where it has none
 abbrev pub numberOrZero : Option ℕ → ℕ

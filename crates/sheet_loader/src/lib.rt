@@ -14,6 +14,7 @@ use answers::refusal_place;
 use answers::rule_number;
 use answers::rule_subject;
 use format::Refusal;
+use instrument::Instrument;
 use loader::load;
 use loader::word_test;
 use reader::Read;
@@ -75,21 +76,15 @@ fn verdict_numbers(v: Verdict) -> [usize; ROOM]
     match v {
         Verdict::Accepted(n) => [ACCEPTED, 0, n, 0, 0, 0, 0, 0],
         Verdict::Refused(x) => refusal_numbers(x),
-        Verdict::Unproved {
-            rule,
-            clause,
-            pair,
-            event,
-            place,
-        } => [
+        Verdict::Unproved { rule, fault } => [
             UNPROVED,
             FAULT,
             rule_number(rule),
             rule_subject(rule),
-            clause,
-            pair,
-            event,
-            place,
+            fault.clause,
+            fault.pair,
+            fault.event,
+            fault.place,
         ],
     }
 }
@@ -134,6 +129,7 @@ pub extern "C" fn sheet_loader_read(sheet: &[u8], out: &mut [usize]) -> usize
     let mut methods = [0usize; 64];
     let mut steps = [0usize; 512];
     let read = read_sheet(
+        Instrument::Large,
         sheet,
         &mut conditions,
         &mut points,

@@ -1,45 +1,44 @@
 use mathlib.Core.Path.{sym, _∙_}
 use mathlib.Core.Bool.{true, false}
 use native.Mathlib.Omega.{arith}
-use Rattle.sheet.specs.Model.{large}
-use Rattle.walk.proofs.Indexed.{condition-at}
-use Rattle.loader.proofs.Laws.{condition-missing, too-long, stray-at, word-tested}
+use Rattle.loader.proofs.Laws.{condition-there, condition-missing, too-long, stray-at, word-tested}
 use borrow.Author.Needs.{needs}
 use Rattle.loader.proofs.answer.Statement.{statement}
 use Rattle.loader.proofs.answer.Tie as tie
 
 returns : tie.Need-returns
-returns c = condition-missing _ _ (c .before .before .before .pre .0) _ _ (omega (arith, c .before .before .before .pre .1))
+returns c = let (few, (t, named)) = c .before .before .before .before .before .pre in condition-missing t _ _ (c .if1 .taken)
 
 returns-2 : tie.Need-returns-2
-returns-2 c = too-long _ _ (c .before .before .before .before .pre .0) _ _ (omega (arith, c .before .before .before .before .pre .1)) (c .if2 .taken)
+returns-2 c = let (few, (t, named)) = c .before .before .before .before .before .before .pre in too-long t _ _ (condition-there t (c .before .if1 .left)) (c .if2 .taken)
 
 first-stray-requires : tie.Need-first-stray-requires
 first-stray-requires c κs = search needs
 
 returns-3 : tie.Need-returns-3
-returns-3 c = stray-at _ _ (c .before .before .before .before .before .before .pre .0) _ _ (omega (arith, c .before .before .before .before .before .before .pre .1)) (c .before .before .if2 .left) _ (c .before .first-stray .ensures) (c .if3 .taken)
+returns-3 c = let (few, (t, named)) = c .before .before .before .before .before .before .before .before .pre in
+    stray-at t _ _ (condition-there t (c .before .before .before .if1 .left)) (c .before .before .if2 .left) _ (c .before .first-stray .ensures) (c .if3 .taken)
 
 mul-holds-word : tie.Need-mul-holds-word
-mul-holds-word c = omega (arith, condition-at large _ _ (c .before .before .before .before .before .before .pre .0) (c .before .before .before .before .before .before .args .condition) (omega (arith, c .before .before .before .before .before .before .pre .1)) .0)
+mul-holds-word c = let (few, (t, named)) = c .before .before .before .before .before .before .before .before .pre in omega (arith, named _ (condition-there t (c .before .before .before .if1 .left)) .exists)
 
 element-copy-out-holds-word : tie.Need-element-copy-out-holds-word
-element-copy-out-holds-word c = condition-at large _ _ (c .before .before .before .before .before .before .pre .0) (c .before .before .before .before .before .before .args .condition) (omega (arith, c .before .before .before .before .before .before .pre .1)) .0
+element-copy-out-holds-word c = let (few, (t, named)) = c .before .before .before .before .before .before .before .before .pre in named _ (condition-there t (c .before .before .before .if1 .left)) .exists
 
 holds-word-requires : tie.Need-holds-word-requires
-holds-word-requires c κs = (omega arith, λ i l. c .before .before .first-stray .ensures .before i (omega (arith, c .before .if3 .left)))
+holds-word-requires c κs = let (few, (t, named)) = c .before .before .before .before .before .before .before .before .before .pre in (few, λ i l. c .before .before .first-stray .ensures .before i (omega (arith, c .before .if3 .left)))
 
 returns-4 : tie.Need-returns-4
-returns-4 c = let (few, stands) = condition-at large _ _ (c .before .before .before .before .before .before .before .before .before .pre .0) (c .before .before .before .before .before .before .before .before .before .args .condition) (omega (arith, c .before .before .before .before .before .before .before .before .before .pre .1)) in
-    word-tested _ _ (c .before .before .before .before .before .before .before .before .before .pre .0) _ _ (omega (arith, c .before .before .before .before .before .before .before .before .before .pre .1)) (c .before .before .before .before .before .if2 .left)
-    (λ i l. c .before .before .before .before .first-stray .ensures .before i (omega (arith, c .before .before .before .if3 .left)))
-    true (sym (c .if4 .taken) ∙ c .before .holds-word .ensures _ stands)
+returns-4 c = let (few, (t, named)) = c .before .before .before .before .before .before .before .before .before .before .before .pre in
+    let there = condition-there t (c .before .before .before .before .before .before .if1 .left) in
+    word-tested t _ _ there (c .before .before .before .before .before .if2 .left) (λ i l. c .before .before .before .before .first-stray .ensures .before i (omega (arith, c .before .before .before .if3 .left))) true
+    (sym (c .if4 .taken) ∙ c .before .holds-word .ensures _ (named _ there .stands))
 
 returns-5 : tie.Need-returns-5
-returns-5 c = let (few, stands) = condition-at large _ _ (c .before .before .before .before .before .before .before .before .before .pre .0) (c .before .before .before .before .before .before .before .before .before .args .condition) (omega (arith, c .before .before .before .before .before .before .before .before .before .pre .1)) in
-    word-tested _ _ (c .before .before .before .before .before .before .before .before .before .pre .0) _ _ (omega (arith, c .before .before .before .before .before .before .before .before .before .pre .1)) (c .before .before .before .before .before .if2 .left)
-    (λ i l. c .before .before .before .before .first-stray .ensures .before i (omega (arith, c .before .before .before .if3 .left)))
-    false (sym (c .if4 .left) ∙ c .before .holds-word .ensures _ stands)
+returns-5 c = let (few, (t, named)) = c .before .before .before .before .before .before .before .before .before .before .before .pre in
+    let there = condition-there t (c .before .before .before .before .before .before .if1 .left) in
+    word-tested t _ _ there (c .before .before .before .before .before .if2 .left) (λ i l. c .before .before .before .before .first-stray .ensures .before i (omega (arith, c .before .before .before .if3 .left))) false
+    (sym (c .if4 .left) ∙ c .before .holds-word .ensures _ (named _ there .stands))
 
 pub answer-spec : {M : Type 1} → statement M
 answer-spec =

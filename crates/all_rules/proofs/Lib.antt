@@ -1,4 +1,0 @@
-pub mod Tried
-pub mod Claimed
-pub mod Subjects
-pub mod Sums

@@ -1,0 +1,43 @@
+-- What an answer of the checker stands for, and what a question asks.
+use Prim.Native.Nat.{ℕ}
+use mathlib.Core.Path.{_≡_}
+use mathlib.Core.List.{List}
+use Rattle.condition.specs.Condition.{Condition}
+use Rattle.runs.specs.Rules as runs
+use Rattle.runs.specs.Rules.{_isIn_, holdsEmpty}
+use Rattle.faults.specs.Fault.{faultOf}
+use Rattle.places.specs.Tables.{Tables}
+use Rattle.places.specs.declared.Side.{Side}
+use Rattle.answers.specs.Answers.{ruleNumber, ruleSubject}
+use Rattle.answers.specs.declared.Rule.{Rule}
+use Rattle.index.specs.Trial.{Trial, passed, failed, tryRules}
+use Rattle.claims.specs.Claims.{_says_}
+use Rattle.checker.specs.declared.Tested.{Tested}
+use Rattle.checker.specs.declared.Tested.the-variants.{Passed, Failed}
+use Rattle.checker.specs.declared.Question.{Question}
+use Rattle.checker.specs.declared.Question.the-variants.{Inclusion, HoldsEmpty}
+
+abbrev pub trialOf : Tested → Trial
+trialOf (Passed at) = passed at
+trialOf (Failed r f) = failed (ruleNumber r) (ruleSubject r) (faultOf f)
+
+-- the answer is what testing the rules over so many events, with the certificates from an offset on, comes to
+pub record Tries (events : ℕ) (s : List ℕ) (xs : List runs.Rule) (from : ℕ) (answer : Tested) : Type 0 where
+  pub comes-to : trialOf answer ≡ tryRules events s xs from
+
+-- a question about the rule x, of the conditions whose places are in the tables: the left ones, and for an inclusion the right ones
+pub record AsksInclusion (F S F′ S′ : List ℕ) (r : Rule) (left right : Side) (x : runs.Rule) : Type 0 where
+  pub left-one : Condition
+  pub right-one : Condition
+  pub left-is : Tables left-one left F S
+  pub right-is : Tables right-one right F′ S′
+  pub rule-is : x ≡ (r says left-one isIn right-one)
+
+pub record AsksEmpty (F S : List ℕ) (r : Rule) (side : Side) (x : runs.Rule) : Type 0 where
+  pub part-one : Condition
+  pub part-is : Tables part-one side F S
+  pub rule-is : x ≡ (r says holdsEmpty part-one)
+
+abbrev pub QuestionIs : (F S F′ S′ : List ℕ) → Question → runs.Rule → Type 0
+QuestionIs F S F′ S′ (Inclusion r left right) x = AsksInclusion F S F′ S′ r left right x
+QuestionIs F S F′ S′ (HoldsEmpty r side) x = AsksEmpty F S r side x

@@ -1,0 +1,71 @@
+// The forms of the claims: a word of a condition with what is raised behind it or ahead of it, one condition in another, the empty word.
+ghost use mathlib.Core.List.{List};
+ghost use mathlib.Core.Option.{Option};
+ghost use Prim.Native.Nat.{ℕ};
+ghost use Rattle.condition.specs.Condition.{Condition};
+ghost use Rattle.postfix.specs.Parts.{StandsAt};
+ghost use Rattle.runs.specs.Rules as runs;
+ghost use Rattle.runs.specs.Rules.{_isIn_};
+ghost use Rattle.claims.specs.Claims.{_says_, Asks, RaisedIs, thenRaised, raisedThen};
+use crate::Asked;
+use crate::Claim;
+use crate::Left;
+use answers::Rule;
+use postfix::Part;
+
+// What a step raises: nothing, or a word of a part.
+pub enum Raised {
+    Nothing,
+    Word(Part),
+}
+
+// A word of a condition, then what is raised, is a word of another: rules 7 and 8, 11 and 12, 15 and 16.
+pub fn forward(rule: Rule, before: usize, raised: Raised, after: usize) -> Asked
+    ensures { λ r. ⌜ ((s : List ℕ) (a b : Condition) (t : Option Condition) → StandsAt s before a → RaisedIs s raised t → StandsAt s after b →
+        Asks s r (rule says thenRaised a t isIn b)) ⌝ }
+{
+    let first = Part::Condition(before);
+    let left = match raised {
+        Raised::Nothing => Left::One(first),
+        Raised::Word(second) => Left::Two(first, second),
+    };
+    Asked::Claim(Claim::Inclusion {
+        rule,
+        left,
+        right: Part::Condition(after),
+    })
+}
+
+// What is raised, then a word of a condition, is a word of another: rules 9, 14 and 17.
+pub fn backward(rule: Rule, raised: Raised, after: usize, before: usize) -> Asked
+    ensures { λ r. ⌜ ((s : List ℕ) (a b : Condition) (t : Option Condition) → RaisedIs s raised t → StandsAt s after b → StandsAt s before a →
+        Asks s r (rule says raisedThen t b isIn a)) ⌝ }
+{
+    let second = Part::Condition(after);
+    let left = match raised {
+        Raised::Nothing => Left::One(second),
+        Raised::Word(first) => Left::Two(first, second),
+    };
+    Asked::Claim(Claim::Inclusion {
+        rule,
+        left,
+        right: Part::Condition(before),
+    })
+}
+
+// The words of a condition are in another.
+pub fn inclusion(rule: Rule, left: usize, right: usize) -> Asked
+    ensures { λ r. ⌜ ((s : List ℕ) (a b : Condition) → StandsAt s left a → StandsAt s right b → Asks s r (rule says a isIn b)) ⌝ }
+{
+    forward(rule, left, Raised::Nothing, right)
+}
+
+// A condition holds the empty word.
+pub fn holds_empty(rule: Rule, condition: usize) -> Asked
+    ensures { λ r. ⌜ ((s : List ℕ) (a : Condition) → StandsAt s condition a → Asks s r (rule says runs.holdsEmpty a)) ⌝ }
+{
+    Asked::Claim(Claim::HoldsEmpty {
+        rule,
+        part: Part::Condition(condition),
+    })
+}

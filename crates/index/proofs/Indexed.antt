@@ -1,0 +1,81 @@
+-- What the tables of an indexed sheet lead to: its points and methods with their conditions, its bodies and its steps.
+use mathlib.Core.Path.{_≡_, ap, _∙_, subst}
+use mathlib.Core.Option.{Option, none, some}
+use mathlib.Core.List.{List}
+use Prim.Native.Nat.{ℕ, _<_}
+use native.Mathlib.Omega.{arith}
+use lib.ListN.{length, getD, getElem?}
+use Rattle.sheet.specs.Each.{Each}
+use Rattle.sheet.specs.Model.{stepLimit}
+use Rattle.sheet.specs.Sheet.{Point, Body, Method, Step, Sheet, conditionNamed, bodyIn, body}
+use Rattle.sheet.specs.AtOffset.{methodAt, stepAt}
+use Rattle.sheet.specs.Names.{PointNamed, BodyNamed, MethodNamed, StepNamed, EventBelow}
+use Rattle.sheet.proofs.Each.{each-get}
+use Rattle.index.specs.Indexed.{Indexes, ConditionIn, PointIn, MethodIn}
+
+abbrev OrNone : {A : Type 0} → (A → Type 0) → Option A → Type 0
+OrNone P none = Unit {0}
+OrNone P (some x) = P x
+
+-- a property of each element holds of the one with a number
+each-some : {A : Type 0} (P : A → Type 0) {xs : List A} → Each P xs → (k : ℕ) (x : A) → getElem? xs k ≡ some x → P x
+each-some P all k x is = subst (OrNone P) is (each-get (OrNone P) tt all k)
+
+module _ {S : Sheet} {s conditions points methods steps : List ℕ} (x : Indexes S s conditions points methods steps) where
+  -- a field that names a condition
+  field-named : {A : Type 0} (name : A → ℕ) (o : Option A) (y : A) → o ≡ some y → name y < length (S .conditions)
+      → ConditionIn s conditions (name y) (conditionNamed (S .conditions) name o)
+  field-named name o y is l = rw is (x .conditions-in (name y) l)
+
+  pub point-in : (p : ℕ) → p < length (S .points) → PointIn S s conditions points p
+  point-in p l =
+      let is = x .points-tabled .is p l in
+      let n = each-some (PointNamed (length (S .conditions))) (x .names-exist .points-named) p _ is in
+      record {
+        exists = omega (arith, x .points-tabled .few);
+        inside = x .points-tabled .inside p l;
+        past-named = field-named (λ (y : Point). y .past) _ _ is (n .past-exists);
+        own-named = field-named (λ (y : Point). y .own) _ _ is (n .own-exists);
+        due-named = field-named (λ (y : Point). y .due) _ _ is (n .due-exists);
+      }
+
+  module _ (m : ℕ) (l : m < length (S .methods)) where
+    pub method-is : getElem? (S .methods) m ≡ some (methodAt s (getD methods m 0))
+    method-is = x .methods-tabled .is m l
+
+    named : MethodNamed (length (S .conditions)) (length (S .points)) (methodAt s (getD methods m 0))
+    named = each-some (MethodNamed (length (S .conditions)) (length (S .points))) (x .names-exist .methods-named) m _ method-is
+
+    pub method-in : MethodIn S s conditions methods m
+    method-in =
+        record {
+          exists = omega (arith, x .methods-tabled .few);
+          inside = x .methods-tabled .inside m l;
+          pre-named = field-named (λ (y : Method). y .pre) _ _ method-is (named .pre-exists);
+          trace-named = field-named (λ (y : Method). y .trace) _ _ method-is (named .trace-exists);
+          future-named = field-named (λ (y : Method). y .future) _ _ method-is (named .future-exists);
+        }
+
+    -- its body, and that the points of the body exist
+    pub body-is : body S m ≡ methodAt s (getD methods m 0) .body
+    body-is = ap bodyIn method-is
+
+    pub body-named : (b : Option Body) → methodAt s (getD methods m 0) .body ≡ b → BodyNamed (length (S .points)) b
+    body-named b e = subst (BodyNamed (length (S .points))) e (named .body-named)
+
+  module _ (i : ℕ) (l : i < length (S .steps)) where
+    pub step-few : i < stepLimit
+    step-few = omega (arith, x .steps-tabled .few)
+
+    pub step-inside : getD steps i 0 < length s
+    step-inside = x .steps-tabled .inside i l
+
+    pub step-is : getElem? (S .steps) i ≡ some (stepAt s (getD steps i 0))
+    step-is = x .steps-tabled .is i l
+
+    -- its names exist, and its event fits a set
+    pub step-named : (t : Step) → stepAt s (getD steps i 0) ≡ t → StepNamed (length (S .points)) (length (S .methods)) t
+    step-named t e = each-some (StepNamed (length (S .points)) (length (S .methods))) (x .names-exist .steps-named) i t (step-is ∙ ap (λ (t : Step). some t) e)
+
+    pub event-fits : (t : Step) → stepAt s (getD steps i 0) ≡ t → EventBelow 64 t
+    event-fits t e = each-some (EventBelow 64) (x .events-fit) i t (step-is ∙ ap (λ (t : Step). some t) e)

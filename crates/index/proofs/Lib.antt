@@ -1,0 +1,4 @@
+pub mod Indexed
+pub mod Read
+pub mod Trial
+pub mod Verdict

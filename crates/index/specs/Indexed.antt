@@ -1,0 +1,71 @@
+-- An indexed sheet: tables of offsets lead to the conditions, the points, the methods and the steps of a sheet, by their numbers.
+use Prim.Native.Nat.{ℕ, _≤_, _<_}
+use mathlib.Core.Path.{_≡_}
+use mathlib.Core.Option.{some}
+use mathlib.Core.List.{List}
+use lib.ListN.{length, getD, getElem?}
+use Rattle.condition.specs.Condition.{Condition}
+use Rattle.sheet.specs.Each.{Each}
+use Rattle.sheet.specs.Model.{conditionLimit, methodLimit, stepLimit}
+use Rattle.sheet.specs.AtOffset.{pointAt, methodAt, stepAt}
+use Rattle.sheet.specs.Sheet.{Sheet, condition, past, own, due, pre, trace, future}
+use Rattle.sheet.specs.Names.{NamesExist, EventBelow}
+use Rattle.postfix.specs.Parts.{StandsAt}
+use Rattle.index.specs.declared.PointConditions.{PointConditions}
+use Rattle.index.specs.declared.MethodConditions.{MethodConditions}
+
+-- a table of points has so many rows
+abbrev pub pointRows : ℕ
+pointRows = 512
+
+-- what stands in the bytes s at the offsets of a table with so many rows: xs, numbered from 0
+pub record Tabled {A : Type 0} (at : List ℕ → ℕ → A) (s : List ℕ) (rows : ℕ) (table : List ℕ) (xs : List A) : Type 0 where
+  pub few : length xs ≤ rows
+  pub inside : (k : ℕ) → k < length xs → getD table k 0 < length s
+  pub is : (k : ℕ) → k < length xs → getElem? xs k ≡ some (at s (getD table k 0))
+
+-- the condition number c is r, and stands where the table says
+pub record ConditionIn (s conditions : List ℕ) (c : ℕ) (r : Condition) : Type 0 where
+  pub exists : c < conditionLimit
+  pub stands : StandsAt s (getD conditions c 0) r
+
+-- each condition of the sheet S stands where the table says
+abbrev pub ConditionsIn : Sheet → (s conditions : List ℕ) → Type 0
+ConditionsIn S s conditions = (c : ℕ) → c < length (S .conditions) → ConditionIn s conditions c (condition S c)
+
+-- the tables lead to the sheet S in the bytes s; its names exist, its events fit a set, and it has a method
+pub record Indexes (S : Sheet) (s conditions points methods steps : List ℕ) : Type 0 where
+  pub conditions-in : ConditionsIn S s conditions
+  pub points-tabled : Tabled pointAt s pointRows points (S .points)
+  pub methods-tabled : Tabled methodAt s methodLimit methods (S .methods)
+  pub steps-tabled : Tabled stepAt s stepLimit steps (S .steps)
+  pub names-exist : NamesExist S
+  pub events-fit : Each (EventBelow 64) (S .steps)
+  pub a-method : 0 < length (S .methods)
+
+-- the point p of the sheet S: the point where the table says, with its conditions
+pub record PointIn (S : Sheet) (s conditions points : List ℕ) (p : ℕ) : Type 0 where
+  pub exists : p < pointRows
+  pub inside : getD points p 0 < length s
+  pub past-named : ConditionIn s conditions (pointAt s (getD points p 0) .past) (past S p)
+  pub own-named : ConditionIn s conditions (pointAt s (getD points p 0) .own) (own S p)
+  pub due-named : ConditionIn s conditions (pointAt s (getD points p 0) .due) (due S p)
+
+-- the method m of the sheet S, likewise
+pub record MethodIn (S : Sheet) (s conditions methods : List ℕ) (m : ℕ) : Type 0 where
+  pub exists : m < methodLimit
+  pub inside : getD methods m 0 < length s
+  pub pre-named : ConditionIn s conditions (methodAt s (getD methods m 0) .pre) (pre S m)
+  pub trace-named : ConditionIn s conditions (methodAt s (getD methods m 0) .trace) (trace S m)
+  pub future-named : ConditionIn s conditions (methodAt s (getD methods m 0) .future) (future S m)
+
+-- the offsets where the conditions of the point p stand, and those of the method m
+pub record PointIs (s : List ℕ) (S : Sheet) (p : ℕ) (x : PointConditions) : Type 0 where
+  pub past-stands : StandsAt s (x .past) (past S p)
+  pub own-stands : StandsAt s (x .own) (own S p)
+  pub due-stands : StandsAt s (x .due) (due S p)
+
+pub record MethodIs (s : List ℕ) (S : Sheet) (m : ℕ) (x : MethodConditions) : Type 0 where
+  pub pre-stands : StandsAt s (x .pre) (pre S m)
+  pub trace-stands : StandsAt s (x .trace) (trace S m)
+  pub future-stands : StandsAt s (x .future) (future S m)

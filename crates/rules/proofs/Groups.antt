@@ -1,0 +1,126 @@
+-- The rules of a sheet, one subject at a time: each subject by its number, and all of them one after the other.
+use mathlib.Core.Path.{_≡_, refl, sym, ap, ap₂, _∙_, subst}
+use mathlib.Core.Option.{Option, some}
+use mathlib.Core.List.{List, [], _∷_, _++_, append-assoc}
+use Prim.Native.Nat.{ℕ, zero, suc, _+_, _-_, _<_}
+use native.Mathlib.Nat.{not-suc-le-zero, le-of-suc-le-suc}
+use native.Mathlib.Omega.{arith}
+use lib.ListN.{length, length-append, drop, getElem?}
+use lib.Seq.{drop-append-le, drop-append-add}
+use Rattle.sheet.specs.Sheet.{Method, Step, Sheet, bodyIn, body}
+use Rattle.runs.specs.Rules.{Rule, firstRules, methodRules, stepRules, firstsRules, methodsRules, stepsRules, rulesFrom, rules}
+use Rattle.claims.specs.Claims.{NthIs}
+use Rattle.rules.specs.Order.{methodGroups, stepGroups, groupsFrom, groups, together}
+
+module _ {A : Type 0} where
+  pub together-append : (xss yss : List (List A)) → together (xss ++ yss) ≡ together xss ++ together yss
+  unfolding together
+  together-append [] yss = refl
+  together-append (xs ∷ xss) yss = ap (λ (zs : List A). xs ++ zs) (together-append xss yss) ∙ sym (append-assoc xs (together xss) (together yss))
+
+  -- element n is there, and it is the only one
+  pub nth-exists : (xs : List A) (n : ℕ) → n < length xs → (x : A) × NthIs xs n x
+  nth-exists [] n l = absurd (not-suc-le-zero l)
+  nth-exists (x ∷ xs) zero l = (x, refl)
+  nth-exists (x ∷ xs) (suc n) l = nth-exists xs n (le-of-suc-le-suc l)
+
+  pub nth-same : (xs : List A) (n : ℕ) {x y : A} → NthIs xs n x → NthIs xs n y → x ≡ y
+  nth-same xs n e f = cc
+
+  -- of two lists one after the other
+  pub nth-first : (xs ys : List A) (n : ℕ) (x : A) → n < length xs → NthIs xs n x → NthIs (xs ++ ys) n x
+  nth-first xs ys n x l is =
+      drop-append-le n xs ys (omega arith) ∙ ap (λ (zs : List A). zs ++ ys) is ∙ ap (λ (zs : List A). x ∷ zs) (sym (drop-append-le (suc n) xs ys (omega arith)))
+
+  pub nth-second : (xs ys : List A) (n : ℕ) (x : A) → NthIs ys n x → NthIs (xs ++ ys) (length xs + n) x
+  nth-second xs ys n x is =
+      let next : suc (length xs + n) ≡ length xs + suc n = omega arith in
+      drop-append-add xs ys n ∙ is ∙ ap (λ (zs : List A). x ∷ zs) (sym (ap (λ (k : ℕ). drop k (xs ++ ys)) next ∙ drop-append-add xs ys (suc n)))
+
+module _ (S : Sheet) where
+  -- The subject of a number ---------------------------------------------------------------------------------------------
+
+  -- the numbers go from k on, and j is that of element i
+  method-nth : (ms : List Method) (k i j : ℕ) → j ≡ k + i → (m : Method) → getElem? ms i ≡ some m → NthIs (methodGroups S k ms) i (methodRules S j (m .body))
+  unfolding methodGroups
+  method-nth [] k i j n m e = let z : _≡_ {A = ℕ} 0 1 = cc in absurd (omega arith)
+  method-nth (x ∷ ms) k zero j n m e =
+      let same : x ≡ m = cc in
+      let here : k ≡ j = omega arith in
+      ap₂ (λ (j : ℕ) (y : Method). methodRules S j (y .body) ∷ methodGroups S (suc k) ms) here same
+  method-nth (x ∷ ms) k (suc i) j n m e = method-nth ms (suc k) i j (omega arith) m e
+
+  step-nth : (ts : List Step) (k i j : ℕ) → j ≡ k + i → (t : Step) → getElem? ts i ≡ some t → NthIs (stepGroups S k ts) i (stepRules S j t)
+  unfolding stepGroups
+  step-nth [] k i j n t e = let z : _≡_ {A = ℕ} 0 1 = cc in absurd (omega arith)
+  step-nth (x ∷ ts) k zero j n t e =
+      let same : x ≡ t = cc in
+      let here : k ≡ j = omega arith in
+      ap₂ (λ (j : ℕ) (y : Step). stepRules S j y ∷ stepGroups S (suc k) ts) here same
+  step-nth (x ∷ ts) k (suc i) j n t e = step-nth ts (suc k) i j (omega arith) t e
+
+  methods-many : (k : ℕ) (ms : List Method) → length (methodGroups S k ms) ≡ length ms
+  unfolding methodGroups
+  methods-many k [] = refl
+  methods-many k (m ∷ ms) = ap suc (methods-many (suc k) ms)
+
+  steps-many : (k : ℕ) (ts : List Step) → length (stepGroups S k ts) ≡ length ts
+  unfolding stepGroups
+  steps-many k [] = refl
+  steps-many k (t ∷ ts) = ap suc (steps-many (suc k) ts)
+
+  abbrev behindFirst : List (List Rule)
+  behindFirst = methodGroups S 0 (S .methods) ++ stepGroups S 0 (S .steps)
+
+  groups-are : groups S ≡ firstRules S 0 ∷ behindFirst
+  unfolding groups groupsFrom
+  groups-are = refl
+
+  -- the subject behind the first with the number k is the one with the number k + 1
+  next-nth : (k : ℕ) (xs : List Rule) → NthIs behindFirst k xs → NthIs (groups S) (suc k) xs
+  next-nth k xs is = subst (λ (gs : List (List Rule)). NthIs gs (suc k) xs) (sym groups-are) is
+
+  pub groups-many : length (groups S) ≡ suc (length (S .methods) + length (S .steps))
+  groups-many =
+      ap (λ (gs : List (List Rule)). length gs) groups-are
+      ∙ ap suc (length-append (methodGroups S 0 (S .methods)) (stepGroups S 0 (S .steps)) ∙ ap₂ _+_ (methods-many 0 (S .methods)) (steps-many 0 (S .steps)))
+
+  module _ {xs : List Rule} (n : ℕ) (is : NthIs (groups S) n xs) where
+    same : (j : ℕ) (ys : List Rule) → NthIs (groups S) j ys → n ≡ j → xs ≡ ys
+    same j ys here e = nth-same (groups S) j (subst (λ (n : ℕ). NthIs (groups S) n xs) e is) here
+
+    pub first-group : n ≡ 0 → xs ≡ firstRules S 0
+    first-group = same 0 (firstRules S 0) (subst (λ (gs : List (List Rule)). NthIs gs 0 (firstRules S 0)) (sym groups-are) refl)
+
+    pub method-group : (k : ℕ) → n ≡ suc k → (m : Method) → getElem? (S .methods) k ≡ some m → k < length (S .methods) → xs ≡ methodRules S k (body S k)
+    method-group k e m there l =
+        same (suc k) (methodRules S k (m .body))
+        (next-nth k _ (nth-first (methodGroups S 0 (S .methods)) (stepGroups S 0 (S .steps)) k _ (omega (arith, methods-many 0 (S .methods))) (method-nth (S .methods) 0 k k (omega arith) m there)))
+        e
+        ∙ ap (λ (y : Option Method). methodRules S k (bodyIn y)) (sym there)
+
+    pub step-group : (k : ℕ) → n ≡ suc (length (S .methods) + k) → (t : Step) → getElem? (S .steps) k ≡ some t → xs ≡ stepRules S k t
+    step-group k e t there =
+        let before : ℕ = length (methodGroups S 0 (S .methods)) in
+        same (suc (before + k)) (stepRules S k t)
+        (next-nth (before + k) _ (nth-second (methodGroups S 0 (S .methods)) (stepGroups S 0 (S .steps)) k _ (step-nth (S .steps) 0 k k (omega arith) t there)))
+        (omega (arith, methods-many 0 (S .methods)))
+
+  -- All rules -----------------------------------------------------------------------------------------------------------
+
+  methods-together : (k : ℕ) (ms : List Method) → together (methodGroups S k ms) ≡ methodsRules S k ms
+  unfolding together methodGroups methodsRules
+  methods-together k [] = refl
+  methods-together k (m ∷ ms) = ap (λ (xs : List Rule). methodRules S k (m .body) ++ xs) (methods-together (suc k) ms)
+
+  steps-together : (k : ℕ) (ts : List Step) → together (stepGroups S k ts) ≡ stepsRules S k ts
+  unfolding together stepGroups stepsRules
+  steps-together k [] = refl
+  steps-together k (t ∷ ts) = ap (λ (xs : List Rule). stepRules S k t ++ xs) (steps-together (suc k) ts)
+
+  pub rules-together : together (groups S) ≡ rules S
+  unfolding together groups groupsFrom rules rulesFrom firstsRules
+  rules-together =
+      ap (λ (xs : List Rule). firstRules S 0 ++ xs)
+      (together-append (methodGroups S 0 (S .methods)) (stepGroups S 0 (S .steps))
+      ∙ ap₂ (λ (xs ys : List Rule). xs ++ ys) (methods-together 0 (S .methods)) (steps-together 0 (S .steps)))

@@ -1,3 +1,0 @@
-pub mod Trial
-pub mod Indexed
-pub mod Counts
