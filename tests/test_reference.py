@@ -35,6 +35,7 @@ from simulate import Totals, Walker, in_like_of_caller, walk
 
 HERE = Path(__file__).resolve().parent
 CRATES = HERE.parent / "crates"
+STORED = CRATES / "stored_cases"
 A, B = (LEAF, 1), (LEAF, 2)
 NOTHING = (EMPTY,)
 ALL = (STAR, (LEAF, ANY))
@@ -671,7 +672,7 @@ class Programs(unittest.TestCase):
         code, out, error = self.run_module("sheets.assemble", __file__)
         self.assertEqual((code, out), (1, b""))
         self.assertIn("test_reference.py:1: unknown statement", error)
-        path = str(CRATES / "word_cases" / "stdin")
+        path = str(STORED / "data" / "words")
         self.assertEqual(self.run_module("reference.wordtest", path, "0", "1"),
                          (0, b"refused 1 at 65536\n", ""))
 
@@ -779,31 +780,35 @@ class Vectors(unittest.TestCase):
     """The stored vectors are what the reference says."""
 
     def lines(self, name):
-        return (CRATES / name / "stdout").read_text().splitlines()
+        """The stored lines have those of reading first, then those of sheets and of words."""
+        lines = (STORED / "stdout").read_text().splitlines()
+        read, loaded = (len(list(self.cases(name))) for name in ("reading", "sheets"))
+        return {"reading": lines[:read], "sheets": lines[read:read + loaded],
+                "words": lines[read + loaded:]}[name]
 
     def cases(self, name):
-        data, at = (CRATES / name / "stdin").read_bytes(), 0
+        data, at = (STORED / "data" / name).read_bytes(), 0
         while at < len(data):
             size = int.from_bytes(data[at:at + 4], "little")
             yield data[at + 4:at + 4 + size]
             at += 4 + size
 
     def test_reading(self):
-        self.assertEqual([reading_line(data) for data in self.cases("reading_cases")],
-                         self.lines("reading_cases"))
+        self.assertEqual([reading_line(data) for data in self.cases("reading")],
+                         self.lines("reading"))
 
     def test_sheets(self):
-        self.assertEqual([load_line(data) for data in self.cases("sheet_cases")],
-                         self.lines("sheet_cases"))
+        self.assertEqual([load_line(data) for data in self.cases("sheets")],
+                         self.lines("sheets"))
 
     def test_examples(self):
         """Every sheet of examples/ is a stored case, with its line."""
-        stored = dict(zip(self.cases("sheet_cases"), self.lines("sheet_cases")))
+        stored = dict(zip(self.cases("sheets"), self.lines("sheets")))
         for case in listed_examples():
             self.assertEqual(stored.get(case.data), case.line, case.label)
 
     def test_words(self):
-        data, at = (CRATES / "word_cases" / "stdin").read_bytes(), 0
+        data, at = (STORED / "data" / "words").read_bytes(), 0
 
         def number(width):
             nonlocal at
@@ -821,11 +826,11 @@ class Vectors(unittest.TestCase):
             for _ in range(number(4)):
                 condition = number(2)
                 lines.append(word_line_of(sheet, condition, part(number(2))))
-        self.assertEqual(lines, self.lines("word_cases"))
+        self.assertEqual(lines, self.lines("words"))
 
     def test_refusals_agree(self):
         """The loader gives refusals 1 to 9 as reading does."""
-        for data in self.cases("reading_cases"):
+        for data in self.cases("reading"):
             if isinstance(result := read_sheet(data), Refusal):
                 self.assertEqual(verdict(data), result)
 

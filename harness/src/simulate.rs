@@ -6,7 +6,6 @@ use crate::runs::{random_move, Broken, Languages, Run};
 use crate::vectors;
 use std::collections::BTreeMap;
 use std::fs;
-use std::path::Path;
 
 const RUNS: usize = 400;
 const MOVES: usize = 40;
@@ -66,7 +65,7 @@ impl Totals {
 
 /// Runs of the stored sheets that the loader accepts; returns the breaks.
 pub fn simulate(crates: &str, doors: &Doors, seed: u64) -> Result<usize, String> {
-    let path = Path::new(crates).join("sheet_cases").join("stdin");
+    let path = vectors::sheets_file(crates);
     let file = fs::read(&path).map_err(|error| format!("{}: {error}", path.display()))?;
     let mut totals = Totals::default();
     let mut random = Random::new(seed);

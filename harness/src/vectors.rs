@@ -2,7 +2,7 @@
 use crate::answer::Doors;
 use crate::sheets::Test;
 use std::fs;
-use std::path::Path;
+use std::path::{Path, PathBuf};
 
 /// A sheet and the words to try on it.
 pub struct Group {
@@ -70,16 +70,24 @@ fn reading_line(doors: &Doors, sheet: &[u8]) -> String {
     }
 }
 
-/// What the stored cases of each program are.
+/// What is done with the stored cases of a file.
 pub enum Kind {
     Reading,
     Sheets,
     Words,
 }
 
-/// The programs of the gate that run stored cases.
-const PROGRAMS: [(&str, Kind); 3] =
-    [("reading_cases", Kind::Reading), ("sheet_cases", Kind::Sheets), ("word_cases", Kind::Words)];
+/// The program of the gate that runs the stored cases.
+const PROGRAM: &str = "stored_cases";
+
+/// The files that it reads, in the order of the lines that it prints.
+const FILES: [(&str, Kind); 3] =
+    [("reading", Kind::Reading), ("sheets", Kind::Sheets), ("words", Kind::Words)];
+
+/// The file of stored sheets, below the folder of crates.
+pub fn sheets_file(crates: &str) -> PathBuf {
+    Path::new(crates).join(PROGRAM).join("data").join("sheets")
+}
 
 /// The lines of one loader for a file of cases.
 pub fn lines(doors: &Doors, kind: &Kind, file: &[u8]) -> Result<Vec<String>, String> {
@@ -102,34 +110,47 @@ fn word_lines(doors: &Doors, file: &[u8]) -> Result<Vec<String>, String> {
     Ok(found)
 }
 
-/// Runs the stored cases of each program, below the folder of crates, through the loaders; returns the differences.
+/// Runs the stored cases, below the folder of crates, through the loaders; returns the differences.
 pub fn run(crates: &str, all: &[Doors]) -> Result<usize, String> {
+    let program = Path::new(crates).join(PROGRAM);
     let mut differences = 0;
-    for (name, kind) in &PROGRAMS {
-        for doors in all {
-            differences += run_program(&Path::new(crates).join(name), kind, doors)?;
-        }
+    for doors in all {
+        differences += run_files(&program, doors)?;
     }
     Ok(differences)
 }
 
-fn run_program(program: &Path, kind: &Kind, doors: &Doors) -> Result<usize, String> {
-    let name = program.display();
-    let explain = |error: std::io::Error| format!("{name}: {error}");
-    let file = fs::read(program.join("stdin")).map_err(explain)?;
-    let expected = fs::read_to_string(program.join("stdout")).map_err(explain)?;
-    let expected: Vec<&str> = expected.lines().collect();
-    let found = lines(doors, kind, &file).map_err(|error| format!("{name}: {error}"))?;
-    let mut differences = found.len().abs_diff(expected.len());
-    if differences > 0 {
-        println!("{name}: {} cases, {} expected lines", found.len(), expected.len());
+fn explained(path: &Path, error: impl std::fmt::Display) -> String {
+    format!("{}: {error}", path.display())
+}
+
+fn run_files(program: &Path, doors: &Doors) -> Result<usize, String> {
+    let path = program.join("stdout");
+    let expected = fs::read_to_string(&path).map_err(|error| explained(&path, error))?;
+    let mut expected = expected.lines();
+    let mut differences = 0;
+    for (name, kind) in &FILES {
+        let path = program.join("data").join(name);
+        let file = fs::read(&path).map_err(|error| explained(&path, error))?;
+        let found = lines(doors, kind, &file).map_err(|error| explained(&path, error))?;
+        let wrong = compared(name, doors, &found, expected.by_ref().take(found.len()).collect());
+        println!("{name}: {}, {} cases, {wrong} differences", doors.name, found.len());
+        differences += wrong;
     }
+    let more = expected.count();
+    if more > 0 {
+        println!("{}: {more} lines more than cases", path.display());
+    }
+    Ok(differences + more)
+}
+
+fn compared(name: &str, doors: &Doors, found: &[String], expected: Vec<&str>) -> usize {
+    let mut differences = found.len() - expected.len();
     for (case, (found, expected)) in found.iter().zip(&expected).enumerate() {
         if found != expected {
             differences += 1;
             println!("{name} case {case}: {} gives {found}, expected {expected}", doors.name);
         }
     }
-    println!("{name}: {}, {} cases, {differences} differences", doors.name, found.len());
-    Ok(differences)
+    differences
 }

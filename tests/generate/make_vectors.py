@@ -1,9 +1,9 @@
 """Writes the stored vectors: python3 -m generate.make_vectors [FOLDER]
 
-For each of the programs reading_cases, sheet_cases and word_cases, what it
-reads (stdin) and what it must print (stdout), below FOLDER, the repository's
-crates. The files are the same byte for byte each time. A case whose line
-document 01 gives by construction must get that line from the reference.
+What the program stored_cases reads (data/reading, data/sheets, data/words) and
+what it must print (stdout), below FOLDER, its crate. The files are the same
+byte for byte each time. A case whose line document 01 gives by construction
+must get that line from the reference.
 """
 import sys
 import time
@@ -20,7 +20,7 @@ from .special import last_cases, special_cases, wide_sides
 from .true_sheets import large_true_sheets, true_sheets
 from .words import word_groups
 
-FOLDER = Path(__file__).resolve().parent.parent.parent / "crates"
+FOLDER = Path(__file__).resolve().parent.parent.parent / "crates" / "stored_cases"
 
 
 def u32(number):
@@ -28,7 +28,7 @@ def u32(number):
 
 
 def all_reading_cases():
-    """Everything for reading_cases."""
+    """Everything that is read."""
     yield from reading_cases()
     for _, sheet in true_sheets(41, 64, 60):
         counts = " ".join(str(len(part)) for part in sheet)
@@ -42,7 +42,7 @@ def true_cases(sheets):
 
 
 def all_sheet_cases():
-    """Everything for sheet_cases."""
+    """Everything that is loaded."""
     yield from special_cases()
     yield from true_cases(true_sheets(51, 480, 100))
     yield from true_cases(large_true_sheets(52, 24))
@@ -63,8 +63,8 @@ def all_sheet_cases():
     yield from last_cases()
 
 
-def write_cases(folder, name, cases, line_of):
-    """Write the cases and their lines; return the number of cases."""
+def write_cases(path, cases, line_of):
+    """Write the cases; return their lines."""
     parts, lines = [], []
     for case in without_repeats(cases):
         line = line_of(case.data)
@@ -72,18 +72,12 @@ def write_cases(folder, name, cases, line_of):
             raise AssertionError(f"{case.label}: {case.line!r}, found {line!r}")
         parts += [u32(len(case.data)), case.data]
         lines.append(line + "\n")
-    write(folder, name, parts, lines)
-    return len(lines)
+    path.write_bytes(b"".join(parts))
+    return lines
 
 
-def write(folder, name, parts, lines):
-    (folder / name).mkdir(parents=True, exist_ok=True)
-    (folder / name / "stdin").write_bytes(b"".join(parts))
-    (folder / name / "stdout").write_bytes("".join(lines).encode("ascii"))
-
-
-def write_words(folder):
-    """Write the cases of words and their lines; return the number of cases."""
+def write_words(path):
+    """Write the cases of words; return their lines."""
     parts, lines = [], []
     for group in word_groups():
         sheet = read_sheet(group.sheet)
@@ -95,23 +89,24 @@ def write_words(folder):
             parts += [condition.to_bytes(2, "little"),
                       len(word).to_bytes(2, "little"), bytes(word)]
             lines.append(line + "\n")
-    write(folder, "word_cases", parts, lines)
-    return len(lines)
+    path.write_bytes(b"".join(parts))
+    return lines
 
 
 def main(arguments):
     folder = Path(arguments[0]) if arguments else FOLDER
-    start = time.monotonic()
+    (folder / "data").mkdir(parents=True, exist_ok=True)
+    start, lines = time.monotonic(), []
     for name, make in (
-            ("reading_cases",
-             lambda name: write_cases(folder, name, all_reading_cases(), reading_line)),
-            ("sheet_cases",
-             lambda name: write_cases(folder, name, all_sheet_cases(), load_line)),
-            ("word_cases", lambda name: write_words(folder))):
-        count = make(name)
-        size = (folder / name / "stdin").stat().st_size
-        print(f"{name}: {count} cases, {size} bytes, "
+            ("reading", lambda path: write_cases(path, all_reading_cases(), reading_line)),
+            ("sheets", lambda path: write_cases(path, all_sheet_cases(), load_line)),
+            ("words", write_words)):
+        path = folder / "data" / name
+        found = make(path)
+        lines += found
+        print(f"{name}: {len(found)} cases, {path.stat().st_size} bytes, "
               f"{time.monotonic() - start:.1f} s")
+    (folder / "stdout").write_bytes("".join(lines).encode("ascii"))
 
 
 if __name__ == "__main__":

@@ -119,7 +119,7 @@ fn missing_words() {
 /// Sheets that are not accepted have runs that break each part.
 #[test]
 fn breaks_are_found() {
-    let path = format!("{}/../crates/sheet_cases/stdin", env!("CARGO_MANIFEST_DIR"));
+    let path = vectors::sheets_file(concat!(env!("CARGO_MANIFEST_DIR"), "/../crates"));
     let mut totals = Totals::default();
     let mut random = Random::new(3);
     for sheet in vectors::sheets(&fs::read(path).unwrap()).unwrap() {

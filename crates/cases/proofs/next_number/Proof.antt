@@ -38,11 +38,11 @@ enum-told-2 c = search needs
 returns-2 : tie.Need-returns-2
 returns-2 c = search needs
 
-mul-t5 : tie.Need-mul-t5
-mul-t5 c = record { fits = omega (arith, high-bound c) }
+mul-t6 : tie.Need-mul-t6
+mul-t6 c = record { fits = omega (arith, high-bound c) }
 
-add-t6 : tie.Need-add-t6
-add-t6 c = record { fits = omega (arith, low-bound c, high-bound c) }
+add-t7 : tie.Need-add-t7
+add-t7 c = record { fits = omega (arith, low-bound c, high-bound c) }
 
 returns-3 : tie.Need-returns-3
 returns-3 c = omega (arith, low-bound c, high-bound c)
@@ -59,6 +59,6 @@ next-number-spec =
     enum-known-high
     enum-told-2
     returns-2
-    mul-t5
-    add-t6
+    mul-t6
+    add-t7
     returns-3)

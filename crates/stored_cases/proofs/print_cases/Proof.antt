@@ -1,13 +1,16 @@
--- `sheet_cases::main` ends: one case fewer is left at each turn.
+-- `stored_cases::print_cases` ends: one case fewer is left at each turn.
 use borrow.Author.Needs.{needs}
-use Rattle.sheet_cases.proofs.main.Statement.{statement}
-use Rattle.sheet_cases.proofs.main.Tie as tie
+use Rattle.stored_cases.proofs.print_cases.Statement.{statement}
+use Rattle.stored_cases.proofs.print_cases.Tie as tie
 
 abbrev Inv-loop : tie.InvT-loop
-Inv-loop left₀ left = Unit {0}
+Inv-loop kind name file left₀ left = Unit {0}
 
 abbrev μ-loop : tie.MeasureT-loop
-μ-loop left₀ left = left
+μ-loop kind name file left₀ left = left
+
+open-read-requires : tie.Need-open-read-requires Inv-loop μ-loop
+open-read-requires c κs = search needs
 
 loop-holds : tie.Need-loop-holds Inv-loop μ-loop
 loop-holds c = tt
@@ -30,12 +33,13 @@ loop-again c = tt
 returns-2 : tie.Need-returns-2 Inv-loop μ-loop
 returns-2 c = tt
 
-pub main-spec : {M : Type 1} → statement M
-main-spec =
+pub print-cases-spec : {M : Type 1} → statement M
+print-cases-spec =
     tie.close
     (tie.spec
     Inv-loop
     μ-loop
+    open-read-requires
     loop-holds
     next-case-requires
     returns

@@ -1,13 +1,13 @@
--- `word_cases::print_words` ends: one case fewer is left at each turn.
+-- `stored_cases::print_words` ends: one case fewer is left at each turn.
 use borrow.Author.Needs.{needs}
-use Rattle.word_cases.proofs.print_words.Statement.{statement}
-use Rattle.word_cases.proofs.print_words.Tie as tie
+use Rattle.stored_cases.proofs.print_words.Statement.{statement}
+use Rattle.stored_cases.proofs.print_words.Tie as tie
 
 abbrev Inv-loop : tie.InvT-loop
-Inv-loop sheet n left₀ left = Unit {0}
+Inv-loop file sheet n left₀ left = Unit {0}
 
 abbrev μ-loop : tie.MeasureT-loop
-μ-loop sheet n left₀ left = left
+μ-loop file sheet n left₀ left = left
 
 next-number-requires : tie.Need-next-number-requires Inv-loop μ-loop
 next-number-requires c κs = search needs
