@@ -10,7 +10,7 @@ use Rattle.certificate.specs.Certificate.{Certificate}
 use Rattle.sheet.specs.Model.{Model}
 use Rattle.sheet.specs.Kind.{Role, symbol, a-pair, counts, kindOf, sectionOf}
 use Rattle.sheet.specs.Record.{Record, byteAt, recordAt, nextAt}
-use Rattle.sheet.specs.Reading.{Opened, Counted, Reading, startOf, startsOf, openedPast, ownPast, whole, readSheet}
+use Rattle.sheet.specs.Reading.{Opened, Counted, Reading, startOf, startsOf, openedPast, ownPast, pastAt, whole, readSheet}
 use Rattle.sheet.specs.AtOffset.{certificateAt}
 use Rattle.sheet.proofs.Take.{next-lt, Took}
 use Rattle.sheet.proofs.ReadOn.{read-keeps}
@@ -99,13 +99,12 @@ module _ (M : Model) (s : List ℕ) where
   abbrev GoodIn : ℕ → Reading → Type 0
   GoodIn at r = OpenIn s at r × Good s (startOf (r .opened) at) (r .section) (r .own 5)
 
-  good : (at : ℕ) (r t : Reading) → Took M s at r t → GoodIn at r → GoodIn (nextAt s at) t
+  good : (at : ℕ) (r : Reading) → Took M s at r → GoodIn at r → GoodIn (nextAt s at) (pastAt s at r)
   unfolding recordAt
-  good at r t w (now-open, h) = (
-    still-open M s at r t w now-open,
-    subst (λ (u : Reading). Good s (startOf (u .opened) (nextAt s at)) (u .section) (u .own 5)) (sym (w .past))
-        (good-past s at (byteAt s at) _ r now-open (sectionOf (byteAt s at)) (kindOf (byteAt s at) .role) (fits s at)
-        (omega (arith, w .inside, next-lt s at)) (w .in-order) (w .none-open) h),
+  good at r w (now-open, h) = (
+    still-open M s at r w now-open,
+    good-past s at (byteAt s at) _ r now-open (sectionOf (byteAt s at)) (kindOf (byteAt s at) .role) (fits s at)
+        (omega (arith, w .inside, next-lt s at)) (w .in-order) (w .none-open) h,
   )
 
   -- the offset of the first certificate, and that the others follow it

@@ -1,5 +1,5 @@
 -- Records, sheets and readings by evaluation: the table of kinds, the fields of a record of each kind and what they stand for, a sheet, each limit at its
--- last and at one more, the order of sections, refusals of one record in their order, the place of refusal 1, and what was counted before a refusal.
+-- last and at one more, the order of sections, refusals of one record in their order, what was counted before a refusal, and another instrument's limits.
 use mathlib.Core.Path.{_≡_, refl}
 use mathlib.Core.Option.{none, some}
 use mathlib.Core.List.{List, [], _∷_, _++_, map}
@@ -7,11 +7,11 @@ use Prim.Native.Nat.{ℕ, zero, suc}
 use lib.ListN.{getD, replicate}
 use Rattle.condition.specs.Condition.{leaf, empty, join, either, star}
 use Rattle.certificate.specs.Certificate.{pair}
-use Rattle.sheet.specs.Model.{large}
+use Rattle.sheet.specs.Model.{Model, large}
 use Rattle.sheet.specs.Sheet.{event-step, callFrom, pass-step}
 use Rattle.sheet.specs.Kind.{sectionOf, bodyLength}
 use Rattle.sheet.specs.Record.{Record, recordAt}
-use Rattle.sheet.specs.Reading.{nothing, Counted, fresh, startingFrom, startsOf, Outcome, whole, refusal, stateOf, readFrom, readSheet}
+use Rattle.sheet.specs.Reading.{nothing, Counted, Reading, startingFrom, startsOf, Outcome, whole, refusal, stateOf, readFrom, readSheet}
 use Rattle.sheet.specs.Decode.{pointOf, methodOf, stepOf, sheetOf}
 
 -- Kinds -----------------------------------------------------------------------------------------------------------------
@@ -181,9 +181,10 @@ rows =
     -- "the end comes inside a condition or a certificate"
     ∷ after 0 0 0 0 (0x02 ∷ []) (8 ∷ 1 ∷ [])
     ∷ after 1 1 0 0 (method0 ++ (0x0D ∷ 0 ∷ 1 ∷ 0 ∷ 0 ∷ 0 ∷ [])) (8 ∷ 17 ∷ [])
-    -- "kind not 1 to 14"; "an event above 31"
+    -- "kind not 1 to 14"; "an event above 31"; the names of a pass step are points, where no method is yet
     ∷ after 0 0 0 0 (0x0F ∷ []) (2 ∷ 0 ∷ [])
     ∷ after 1 1 1 0 (0x0A ∷ 0 ∷ 0 ∷ 0 ∷ 0 ∷ 32 ∷ []) (7 ∷ 0 ∷ [])
+    ∷ after 1 1 0 0 pass0 (9 ∷ 5 ∷ [])
     -- "at one record the table's order holds": 3 before 4, 4 before 5, 5 before 6, 6 before 7, 7 before 9, and behind each of the last three
     -- the second alone
     ∷ after 1 0 0 0 (point0 ++ (0x01 ∷ [])) (3 ∷ 7 ∷ [])
@@ -200,16 +201,85 @@ rows-are-so : map (λ x. numberAndPlace (readFrom large (startingFrom (x .before
 unfolding readFrom
 rows-are-so = refl
 
--- "65,536 bytes 00: `refused 2 at 0`; 65,537: `refused 1 at 65536`"
-longest-read : readSheet large (replicate 65536 0) ≡ refusal 2 0 fresh
-unfolding readSheet
-longest-read = refl
-
-too-long : readSheet large (replicate 65537 0) ≡ refusal 1 65536 fresh
-unfolding readSheet
-too-long = refl
-
 -- a refusal has what was counted before it: here one condition and one point
 counted-before : starts (readSheet large (0x02 ∷ 0x06 ∷ (point0 ++ point1))) ≡ (0 ∷ []) ∷ (2 ∷ []) ∷ [] ∷ [] ∷ [] ∷ []
 unfolding starts readSheet
 counted-before = refl
+
+-- More readings ---------------------------------------------------------------------------------------------------------
+
+abbrev primitive0 : List ℕ
+primitive0 = 0x08 ∷ 0 ∷ 0 ∷ 0 ∷ 0 ∷ 0 ∷ 0 ∷ []
+
+abbrev moreRows : List Row
+moreRows =
+    -- "kind not 1 to 14": 0 is none
+    after 0 0 0 0 (0x00 ∷ []) (2 ∷ 0 ∷ [])
+    -- "end of condition with other than one": with none, and with two
+    ∷ after 0 0 0 0 (0x06 ∷ []) (5 ∷ 0 ∷ [])
+    ∷ after 0 0 0 0 (0x02 ∷ 0x02 ∷ 0x06 ∷ []) (5 ∷ 2 ∷ [])
+    -- "31 leaves": symbols before and behind them that are no leaves do not count
+    ∷ after 0 0 0 0 (replicate 40 0x02 ++ (times 31 leafOf0 ++ (0x02 ∷ []))) (8 ∷ 196 ∷ [])
+    -- each set and each left place is taken
+    ∷ after 0 0 0 0 (0x01 ∷ 0xFF ∷ 0xFF ∷ 0xFF ∷ 0xFF ∷ []) (8 ∷ 5 ∷ [])
+    ∷ after 1 1 0 0 (method0 ++ (0x0D ∷ 0xFF ∷ 0xFF ∷ 0xFF ∷ 0xFF ∷ 0xFF ∷ 0x0E ∷ [])) []
+    -- a method, and each kind of step, that names what does not exist yet
+    ∷ after 1 1 0 0 (0x09 ∷ 0 ∷ 0 ∷ 0 ∷ 0 ∷ 0 ∷ 0 ∷ 0 ∷ 0 ∷ 1 ∷ 0 ∷ []) (7 ∷ 0 ∷ [])
+    ∷ after 1 1 1 0 (0x0A ∷ 0 ∷ 0 ∷ 1 ∷ 0 ∷ 0 ∷ []) (7 ∷ 0 ∷ [])
+    ∷ after 1 2 1 0 (0x0B ∷ 0 ∷ 0 ∷ 0 ∷ 0 ∷ 1 ∷ 0 ∷ []) (7 ∷ 0 ∷ [])
+    ∷ after 1 1 2 1 (0x0C ∷ 0 ∷ 0 ∷ 1 ∷ 0 ∷ []) (7 ∷ 0 ∷ [])
+    -- "4, 8, 9 and 19 are the guest's own": the first method of a sheet is its own first one
+    ∷ after 1 1 1 0 primitive0 (9 ∷ 0 ∷ [])
+    ∷ after 1 1 0 0 (method0 ++ primitive0) []
+    -- every record is read, also where each has one byte
+    ∷ after 1 1 1 0 (0x0E ∷ 0x0E ∷ 0x0F ∷ []) (2 ∷ 2 ∷ [])
+    ∷ []
+
+more-rows-are-so : map (λ x. numberAndPlace (readFrom large (startingFrom (x .before)) (x .bytes))) moreRows ≡ map (λ x. x .refused) moreRows
+unfolding readFrom
+more-rows-are-so = refl
+
+-- neither certificates nor the pairs of one have a limit: behind 600 of them, one more is read
+abbrev many : Reading
+many = record {
+  section = 5;
+  opened = record { section = 5; start = 0; items = []; symbols = 0; leaves = 0; pairs = replicate 600 (pair 0 1) };
+  before = λ k. replicate 600 (record { last = with 0 []; opened = nothing });
+  own = λ k. [];
+}
+
+no-limit : numberAndPlace (readFrom large many (pairBytes ++ (0x0E ∷ []))) ≡ 9 ∷ 7 ∷ []
+unfolding readFrom
+no-limit = refl
+
+-- an instrument with limits of its own: 20 bytes, one point, two events, kinds up to 12
+abbrev other : Model
+other = record { bytes = 20; points = 1; events = 2; kinds = 12 }
+
+abbrev otherRows : List Row
+otherRows =
+    -- 1 comes before reading, and behind 20 bytes
+    after 1 1 1 0 (replicate 21 0x0F) (1 ∷ 20 ∷ [])
+    ∷ after 1 1 1 0 (replicate 20 0x0F) (2 ∷ 0 ∷ [])
+    -- 2 before 3, at the first kind that is not taken
+    ∷ after 1 1 1 0 (0x0D ∷ []) (2 ∷ 0 ∷ [])
+    ∷ after 1 1 1 0 (0x0C ∷ []) (3 ∷ 0 ∷ [])
+    ∷ after 1 0 0 0 (point0 ++ point0) (6 ∷ 7 ∷ [])
+    ∷ after 1 1 1 0 (pass0 ++ pass0) (9 ∷ 10 ∷ [])
+    ∷ after 1 1 1 0 (0x0A ∷ 0 ∷ 0 ∷ 0 ∷ 0 ∷ 1 ∷ []) (9 ∷ 6 ∷ [])
+    ∷ after 1 1 1 0 (0x0A ∷ 0 ∷ 0 ∷ 0 ∷ 0 ∷ 2 ∷ []) (7 ∷ 0 ∷ [])
+    ∷ []
+
+other-rows-are-so : map (λ x. numberAndPlace (readFrom other (startingFrom (x .before)) (x .bytes))) otherRows ≡ map (λ x. x .refused) otherRows
+unfolding readFrom
+other-rows-are-so = refl
+
+-- refusal 1 leaves what was counted before the sheet
+too-long-behind : readFrom other many (replicate 21 0) ≡ refusal 1 20 many
+unfolding readFrom
+too-long-behind = refl
+
+-- bytes that are refused stand for a sheet with nothing in it, also where conditions and points were read
+refused-is-nothing : sheetOf large (0x02 ∷ 0x06 ∷ (point0 ++ point1)) ≡ record { conditions = []; points = []; methods = []; steps = []; certificates = [] }
+unfolding sheetOf
+refused-is-nothing = refl

@@ -7,6 +7,8 @@ use lib.ListN.{getD}
 use Rattle.sheet.specs.Kind.{Field, a-set, an-event, a-place, a-name, width}
 use Rattle.sheet.specs.Record.{Bytes, byteAt, numberAt, valuesAt}
 use Rattle.sheet.specs.AtOffset.{shortAt, setAt}
+-- checked before the proofs
+use Rattle.sheet.proofs.Examples
 
 module _ (s : List ℕ) where
   pub byte-is : (i : ℕ) → byteAt s i ≡ getD s i 0

@@ -1,24 +1,24 @@
 -- What holds of a sheet that is read whole, whatever the table of kinds says: what counts is the record at its offset, of its section; every name
 -- exists; no limit is passed.
-use mathlib.Core.Path.{_≡_, refl, sym, ap, _∙_, subst}
-use mathlib.Core.Bool.{Bool, true, false, cond, _&&_}
+use mathlib.Core.Path.{_≡_, refl, sym, ap, subst}
+use mathlib.Core.Bool.{Bool, true, false, _&&_}
 use mathlib.Core.List.{List, [], _∷_, _++_}
 use Prim.Native.Nat.{ℕ, zero, suc, _≤_}
 use native.Mathlib.Nat.{lt-of-lt-of-le}
 use native.Mathlib.Omega.{arith}
 use lib.ListN.{length, length-append}
-use lib.Dec.{T, eqb, ltb→lt}
-use borrow.Author.Tests.{leb-false, lt-ltb, eqb-true}
+use lib.Dec.{T, ltb→lt}
+use borrow.Author.Tests.{leb-false, lt-ltb}
 use Rattle.bits.proofs.Tests.{and-out}
 use Rattle.sheet.specs.Model.{Model, conditionLimit, methodLimit, stepLimit}
 use Rattle.sheet.specs.Each.{Each, nil, cons}
-use Rattle.sheet.specs.Kind.{Field, a-set, an-event, a-place, a-name, Role, symbol, a-pair, counts, kindOf, sectionOf}
-use Rattle.sheet.specs.Record.{Record, byteAt, recordAt, nextAt}
-use Rattle.sheet.specs.Reading.{Counted, Reading, fresh, tally, full, overLimit, exists, allExist, ownPast, readingPast, whole, readSheet}
+use Rattle.sheet.specs.Kind.{Field, a-set, an-event, a-place, a-name, Role, counts, kindOf, sectionOf}
+use Rattle.sheet.specs.Record.{byteAt, recordAt, nextAt}
+use Rattle.sheet.specs.Reading.{Counted, Reading, fresh, tally, full, overLimit, exists, allExist, pastAt, whole, readSheet}
 use Rattle.sheet.proofs.Each.{each-map, each-append}
 use Rattle.sheet.proofs.Take.{Took}
 use Rattle.sheet.proofs.ReadOn.{read-keeps}
-use Rattle.sheet.proofs.Own.{each-own}
+use Rattle.sheet.proofs.Own.{counted, own-cases, each-own}
 
 -- What counts is a record -------------------------------------------------------------------------------------------------
 
@@ -27,13 +27,13 @@ pub record Recorded (s : List ℕ) (k : ℕ) (c : Counted) : Type 0 where
   pub is : recordAt s (c .last .at) ≡ c .last
   pub section : sectionOf (c .last .kind) ≡ k
 
-recorded : (M : Model) (s : List ℕ) (at : ℕ) (r t : Reading) → Took M s at r t → Unit {0} → kindOf (byteAt s at) .role ≡ counts
-    → Recorded s (sectionOf (byteAt s at)) (record { last = recordAt s at; opened = r .opened })
+recorded : (M : Model) (s : List ℕ) (at : ℕ) (r : Reading) → Took M s at r → Unit {0} → kindOf (byteAt s at) .role ≡ counts
+    → Recorded s (sectionOf (byteAt s at)) (counted s at r)
 unfolding recordAt
-recorded M s at r t w q e = record { is = refl; section = refl }
+recorded M s at r w q e = record { is = refl; section = refl }
 
 pub all-recorded : (M : Model) (s : List ℕ) (r : Reading) → readSheet M s ≡ whole r → (k : ℕ) → Each (Recorded s k) (r .own k)
-all-recorded M s r h = each-own M s (λ at r. Unit {0}) (Recorded s) (λ at r t w q. tt) (recorded M s) r h tt
+all-recorded M s r h = each-own M s (λ at r. Unit {0}) (Recorded s) (λ at r w q. tt) (recorded M s) r h tt
 
 -- The tally -----------------------------------------------------------------------------------------------------------------
 
@@ -44,19 +44,17 @@ own-tally M s r h k = ap (λ (before : ℕ → List Counted). length (before k +
     Alone : ℕ → Reading → Type 0
     Alone at r = r .before ≡ fresh .before
 
-    alone : (at : ℕ) (r t : Reading) → Took M s at r t → Alone at r → Alone (nextAt s at) t
-    alone at r t w e = ap (λ (u : Reading). u .before) (w .past) ∙ e
+    alone : (at : ℕ) (r : Reading) → Took M s at r → Alone at r → Alone (nextAt s at) (pastAt s at r)
+    alone at r w e = e
+
+-- with one more
+one-longer : (before own : List Counted) (c : Counted) → length (before ++ (own ++ (c ∷ []))) ≡ suc (length (before ++ own))
+one-longer before own c = omega (arith, length-append before own, length-append before (own ++ (c ∷ [])), length-append own (c ∷ []))
 
 -- it grows with each record
-own-grows : (before own : ℕ → List Counted) (c : Counted) (section : ℕ) (role : Role) (k : ℕ)
-    → length (before k ++ own k) ≤ length (before k ++ ownPast own c section role k)
-own-grows before own c section (symbol takes make) k = omega arith
-own-grows before own c section a-pair k = omega arith
-own-grows before own c section counts k = go (eqb k section)
-  where
-    go : (b : Bool) → length (before k ++ own k) ≤ length (before k ++ cond b (own k ++ (c ∷ [])) (own k))
-    go true = omega (arith, length-append (before k) (own k), length-append (before k) (own k ++ (c ∷ [])), length-append (own k) (c ∷ []))
-    go false = omega arith
+grows : (s : List ℕ) (at : ℕ) (r : Reading) (k : ℕ) → tally r k ≤ tally (pastAt s at r) k
+grows s at r k =
+    own-cases (λ own. tally r k ≤ length (r .before k ++ own)) s at r k (omega arith) (λ e same. omega (arith, one-longer (r .before k) (r .own k) (counted s at r)))
 
 -- Names -----------------------------------------------------------------------------------------------------------------------
 
@@ -86,29 +84,17 @@ module _ (M : Model) (s : List ℕ) where
   abbrev NamedIn : ℕ → Reading → Type 0
   NamedIn at r = (k : ℕ) → Each (Named M r) (r .own k)
 
-  own-named : (t : Reading) (c : Counted) (own : ℕ → List Counted) (section : ℕ) (role : Role) → Named M t c → ((k : ℕ) → Each (Named M t) (own k))
-      → (k : ℕ) → Each (Named M t) (ownPast own c section role k)
-  own-named t c own section (symbol takes make) now all k = all k
-  own-named t c own section a-pair now all k = all k
-  own-named t c own section counts now all k = go (eqb k section)
-    where
-      go : (b : Bool) → Each (Named M t) (cond b (own k ++ (c ∷ [])) (own k))
-      go true = each-append (all k) (cons now nil)
-      go false = all k
-
-  named-now : (at : ℕ) (r t : Reading) → Took M s at r t → Named M r (record { last = recordAt s at; opened = r .opened })
+  named-now : (at : ℕ) (r : Reading) → Took M s at r → Named M r (counted s at r)
   unfolding recordAt
-  named-now at r t w = w .names
+  named-now at r w = w .names
 
-  still-named : (at : ℕ) (r t : Reading) → Took M s at r t → NamedIn at r → NamedIn (nextAt s at) t
-  still-named at r t w all =
-      let x = recordAt s at in
-      let k = kindOf (byteAt s at) in
-      let c : Counted = record { last = x; opened = r .opened } in
-      let u = readingPast r x k in
+  still-named : (at : ℕ) (r : Reading) → Took M s at r → NamedIn at r → NamedIn (nextAt s at) (pastAt s at r)
+  still-named at r w all k =
+      let u = pastAt s at r in
       let still : (c : Counted) → Named M r c → Named M u c =
-      λ c. names-still M r u (own-grows (r .before) (r .own) (record { last = x; opened = r .opened }) (k .section) (k .role)) (kindOf (c .last .kind) .fields) (c .last .values) in
-      subst (NamedIn (nextAt s at)) (sym (w .past)) (own-named u c (r .own) (k .section) (k .role) (still c (named-now at r t w)) (λ j. each-map still (all j)))
+      λ c. names-still M r u (grows s at r) (kindOf (c .last .kind) .fields) (c .last .values) in
+      let now = each-map still (all k) in
+      own-cases (Each (Named M u)) s at r k now (λ e same. each-append now (cons (still (counted s at r) (named-now at r w)) nil))
 
   pub all-named : (r : Reading) → readSheet M s ≡ whole r → (k : ℕ) → Each (Named M r) (r .own k)
   all-named r h = read-keeps M s NamedIn still-named r h (λ k. nil) .holds
@@ -144,25 +130,12 @@ module _ (M : Model) (s : List ℕ) where
   abbrev WithinIn : ℕ → Reading → Type 0
   WithinIn at r = (k : ℕ) → Within M k (tally r k)
 
-  own-within : (r : Reading) (x : Record) (c : Counted) (section : ℕ) (role : Role) → overLimit M r x section role ≡ false → ((k : ℕ) → Within M k (tally r k))
-      → (k : ℕ) → Within M k (length (r .before k ++ ownPast (r .own) c section role k))
-  own-within r x c section (symbol takes make) e all k = all k
-  own-within r x c section a-pair e all k = all k
-  own-within r x c section counts e all k = go (eqb k section) refl
-    where
-      longer : length (r .before k ++ (r .own k ++ (c ∷ []))) ≡ suc (tally r k)
-      longer = omega (arith, length-append (r .before k) (r .own k), length-append (r .before k) (r .own k ++ (c ∷ [])), length-append (r .own k) (c ∷ []))
-
-      go : (b : Bool) → eqb k section ≡ b → Within M k (length (r .before k ++ cond b (r .own k ++ (c ∷ [])) (r .own k)))
-      go true is =
-          subst (Within M k) (sym longer)
-          (one-more-fits M k (tally r k) (subst (λ (j : ℕ). full M j (tally r j) ≡ false) (sym (eqb-true k section is)) e))
-      go false is = all k
-
-  still-within : (at : ℕ) (r t : Reading) → Took M s at r t → WithinIn at r → WithinIn (nextAt s at) t
-  still-within at r t w all =
-      subst (WithinIn (nextAt s at)) (sym (w .past))
-      (own-within r (recordAt s at) (record { last = recordAt s at; opened = r .opened }) (sectionOf (byteAt s at)) (kindOf (byteAt s at) .role) (w .room) all)
+  still-within : (at : ℕ) (r : Reading) → Took M s at r → WithinIn at r → WithinIn (nextAt s at) (pastAt s at r)
+  still-within at r w all k =
+      let section = sectionOf (byteAt s at) in
+      own-cases (λ own. Within M k (length (r .before k ++ own))) s at r k (all k) (λ e same.
+      let room : full M section (tally r section) ≡ false = subst (λ (y : Role). overLimit M r (recordAt s at) section y ≡ false) e (w .room) in
+      subst (Within M k) (sym (one-longer (r .before k) (r .own k) _)) (one-more-fits M k (tally r k) (subst (λ (j : ℕ). full M j (tally r j) ≡ false) (sym same) room)))
 
   -- none of 6
   pub none-over : (r : Reading) → readSheet M s ≡ whole r → (k : ℕ) → Within M k (tally r k)

@@ -1,3 +1,4 @@
+pub mod Examples
 pub mod Each
 pub mod Fields
 pub mod Take
@@ -15,5 +16,4 @@ pub mod Named
 pub mod First
 pub mod Narrow
 pub mod Located
-pub mod Examples
 mod Unnamed

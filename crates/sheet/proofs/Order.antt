@@ -1,5 +1,5 @@
--- "at one record the table's order holds": the answer at a record, by the first test that it does not pass.
-use mathlib.Core.Path.{_≡_, ap, _∙_}
+-- "at one record the table's order holds": the refusal of a record, by the first test that it does not pass.
+use mathlib.Core.Path.{_≡_}
 use mathlib.Core.Bool.{Bool, true, false, _&&_, _||_}
 use mathlib.Core.List.{List}
 use Prim.Native.Nat.{ℕ}
@@ -8,8 +8,7 @@ use lib.Dec.{eqb, ltb}
 use Rattle.sheet.specs.Model.{Model}
 use Rattle.sheet.specs.Kind.{Kind, kindOf}
 use Rattle.sheet.specs.Record.{Record, byteAt, recordAt, nextAt}
-use Rattle.sheet.specs.Reading.{Reading, tally, wrongItems, overLimit, allExist, isPrimitive, noneYet, readingPast, whole, refusal, refusedOr, takeAt}
-use Rattle.sheet.proofs.Take.{numberAtRecord, take-is}
+use Rattle.sheet.specs.Reading.{Reading, tally, wrongItems, overLimit, allExist, isPrimitive, refusalOf}
 
 module _ (M : Model) (s : List ℕ) (at : ℕ) (r : Reading) where
   abbrev x : Record
@@ -20,7 +19,7 @@ module _ (M : Model) (s : List ℕ) (at : ℕ) (r : Reading) where
 
   -- the tests, by the number of their refusal
   abbrev pub is-2 : Bool
-  is-2 = eqb (x .kind) 0 || ltb (M .kinds) (x .kind)
+  is-2 = eqb (byteAt s at) 0 || ltb (M .kinds) (byteAt s at)
 
   abbrev pub is-3 : Bool
   is-3 = ltb (length s) (nextAt s at)
@@ -38,37 +37,34 @@ module _ (M : Model) (s : List ℕ) (at : ℕ) (r : Reading) where
   all-named = allExist (M .events) (tally r) (k .fields) (x .values)
 
   abbrev pub is-9 : Bool
-  is-9 = isPrimitive x && noneYet (r .own 3)
+  is-9 = isPrimitive x && eqb (length (r .own 3)) 0
 
-  by-number : (n : ℕ) → numberAtRecord M s at r ≡ n → takeAt M s at r ≡ refusedOr n at r (readingPast r x k)
-  by-number n e = take-is M s at r ∙ ap (λ (m : ℕ). refusedOr m at r (readingPast r x k)) e
-
-  pub two : is-2 ≡ true → takeAt M s at r ≡ refusal 2 at r
-  two e2 = by-number 2 (rw e2)
+  pub two : is-2 ≡ true → refusalOf M s at r ≡ 2
+  two e2 = rw e2
 
   module _ (e2 : is-2 ≡ false) where
-    pub three : is-3 ≡ true → takeAt M s at r ≡ refusal 3 at r
-    three e3 = by-number 3 (rw (e2, e3))
+    pub three : is-3 ≡ true → refusalOf M s at r ≡ 3
+    three e3 = rw (e2, e3)
 
     module _ (e3 : is-3 ≡ false) where
-      pub four : is-4 ≡ true → takeAt M s at r ≡ refusal 4 at r
-      four e4 = by-number 4 (rw (e2, e3, e4))
+      pub four : is-4 ≡ true → refusalOf M s at r ≡ 4
+      four e4 = rw (e2, e3, e4)
 
       module _ (e4 : is-4 ≡ false) where
-        pub five : is-5 ≡ true → takeAt M s at r ≡ refusal 5 at r
-        five e5 = by-number 5 (rw (e2, e3, e4, e5))
+        pub five : is-5 ≡ true → refusalOf M s at r ≡ 5
+        five e5 = rw (e2, e3, e4, e5)
 
         module _ (e5 : is-5 ≡ false) where
-          pub six : is-6 ≡ true → takeAt M s at r ≡ refusal 6 at r
-          six e6 = by-number 6 (rw (e2, e3, e4, e5, e6))
+          pub six : is-6 ≡ true → refusalOf M s at r ≡ 6
+          six e6 = rw (e2, e3, e4, e5, e6)
 
           module _ (e6 : is-6 ≡ false) where
-            pub seven : all-named ≡ false → takeAt M s at r ≡ refusal 7 at r
-            seven e7 = by-number 7 (rw (e2, e3, e4, e5, e6, e7))
+            pub seven : all-named ≡ false → refusalOf M s at r ≡ 7
+            seven e7 = rw (e2, e3, e4, e5, e6, e7)
 
             module _ (e7 : all-named ≡ true) where
-              pub nine : is-9 ≡ true → takeAt M s at r ≡ refusal 9 at r
-              nine e9 = by-number 9 (rw (e2, e3, e4, e5, e6, e7, e9))
+              pub nine : is-9 ≡ true → refusalOf M s at r ≡ 9
+              nine e9 = rw (e2, e3, e4, e5, e6, e7, e9)
 
-              pub takes : is-9 ≡ false → takeAt M s at r ≡ whole (readingPast r x k)
-              takes e9 = by-number 0 (rw (e2, e3, e4, e5, e6, e7, e9))
+              pub takes : is-9 ≡ false → refusalOf M s at r ≡ 0
+              takes e9 = rw (e2, e3, e4, e5, e6, e7, e9)

@@ -10,41 +10,41 @@ use Rattle.sheet.proofs.Each.{each-append}
 use Rattle.sheet.specs.Model.{Model}
 use Rattle.sheet.specs.Kind.{Role, symbol, a-pair, counts, kindOf, sectionOf}
 use Rattle.sheet.specs.Record.{byteAt, recordAt, nextAt}
-use Rattle.sheet.specs.Reading.{Counted, Reading, fresh, oneMore, ownPast, whole, readSheet}
+use Rattle.sheet.specs.Reading.{Counted, Reading, fresh, ownPast, pastAt, whole, readSheet}
 use Rattle.sheet.proofs.Take.{Took}
 use Rattle.sheet.proofs.ReadOn.{read-keeps}
 
+-- what counts at the record at an offset, where it counts
+abbrev pub counted : List ℕ → ℕ → Reading → Counted
+counted s at r = record { last = recordAt s at; opened = r .opened }
+
+-- what was counted in section k past a record: as before, or one more, where the record counts in it
+pub own-cases : (P : List Counted → Type 0) (s : List ℕ) (at : ℕ) (r : Reading) (k : ℕ) → P (r .own k)
+    → (kindOf (byteAt s at) .role ≡ counts → k ≡ sectionOf (byteAt s at) → P (r .own k ++ (counted s at r ∷ []))) → P (pastAt s at r .own k)
+own-cases P s at r k same more = go (kindOf (byteAt s at) .role) more
+  where
+    go : (role : Role) → (role ≡ counts → k ≡ sectionOf (byteAt s at) → P (r .own k ++ (counted s at r ∷ [])))
+        → P (ownPast (r .own) (counted s at r) (sectionOf (byteAt s at)) role k)
+    go (symbol takes make) more = same
+    go a-pair more = same
+    go counts more = by-section (eqb k (sectionOf (byteAt s at))) refl
+      where
+        by-section : (b : Bool) → eqb k (sectionOf (byteAt s at)) ≡ b → P (cond b (r .own k ++ (counted s at r ∷ [])) (r .own k))
+        by-section true e = more refl (eqb-true k (sectionOf (byteAt s at)) e)
+        by-section false e = same
+
 module _ (M : Model) (s : List ℕ) (Q : ℕ → Reading → Type 0) (P : ℕ → Counted → Type 0) where
-  -- what counts at the record at an offset
-  abbrev pub here : ℕ → Reading → Counted
-  here at r = record { last = recordAt s at; opened = r .opened }
-
-  abbrev AllOwn : (ℕ → List Counted) → Type 0
-  AllOwn own = (k : ℕ) → Each (P k) (own k)
-
-  one-more : (section : ℕ) (c : Counted) (own : ℕ → List Counted) → P section c → AllOwn own → AllOwn (oneMore section c own)
-  one-more section c own p all k = go (eqb k section) refl
-    where
-      go : (b : Bool) → eqb k section ≡ b → Each (P k) (cond b (own k ++ (c ∷ [])) (own k))
-      go true e = each-append (all k) (cons (subst (λ (j : ℕ). P j c) (sym (eqb-true k section e)) p) nil)
-      go false e = all k
-
-  own-past : (section : ℕ) (c : Counted) (own : ℕ → List Counted) (role : Role) → (role ≡ counts → P section c) → AllOwn own
-      → AllOwn (ownPast own c section role)
-  own-past section c own (symbol takes make) p all = all
-  own-past section c own a-pair p all = all
-  own-past section c own counts p all = one-more section c own (p refl) all
-
-  module _ (kept : (at : ℕ) (r t : Reading) → Took M s at r t → Q at r → Q (nextAt s at) t)
-      (counted : (at : ℕ) (r t : Reading) → Took M s at r t → Q at r → kindOf (byteAt s at) .role ≡ counts → P (sectionOf (byteAt s at)) (here at r)) where
+  module _ (kept : (at : ℕ) (r : Reading) → Took M s at r → Q at r → Q (nextAt s at) (pastAt s at r))
+      (holds : (at : ℕ) (r : Reading) → Took M s at r → Q at r → kindOf (byteAt s at) .role ≡ counts → P (sectionOf (byteAt s at)) (counted s at r)) where
     abbrev Inv : ℕ → Reading → Type 0
-    Inv at r = Q at r × AllOwn (r .own)
+    Inv at r = Q at r × ((k : ℕ) → Each (P k) (r .own k))
 
-    inv-past : (at : ℕ) (r t : Reading) → Took M s at r t → Inv at r → Inv (nextAt s at) t
-    inv-past at r t w (q, all) = (
-      kept at r t w q,
-      subst (λ (u : Reading). AllOwn (u .own)) (sym (w .past))
-          (own-past (sectionOf (byteAt s at)) (here at r) (r .own) (kindOf (byteAt s at) .role) (counted at r t w q) all),
+    inv-past : (at : ℕ) (r : Reading) → Took M s at r → Inv at r → Inv (nextAt s at) (pastAt s at r)
+    inv-past at r w (q, all) = (
+      kept at r w q,
+      λ k.
+          own-cases (Each (P k)) s at r k (all k)
+          (λ e same. each-append (all k) (cons (subst (λ (j : ℕ). P j (counted s at r)) (sym same) (holds at r w q e)) nil)),
     )
 
     pub each-own : (r : Reading) → readSheet M s ≡ whole r → Q 0 fresh → (k : ℕ) → Each (P k) (r .own k)

@@ -15,7 +15,7 @@ use Rattle.sheet.specs.Model.{Model, symbolLimit, leafLimit}
 use Rattle.sheet.specs.Each.{Each}
 use Rattle.sheet.specs.Kind.{Role, symbol, a-pair, counts, kindOf, sectionOf}
 use Rattle.sheet.specs.Record.{Record, byteAt, recordAt, nextAt, value}
-use Rattle.sheet.specs.Reading.{Opened, nothing, Counted, Reading, startOf, wrongItems, isLeaf, overLimit, item, openedPast, whole, readSheet}
+use Rattle.sheet.specs.Reading.{Opened, nothing, Counted, Reading, startOf, wrongItems, isLeaf, overLimit, item, openedPast, pastAt, whole, readSheet}
 use Rattle.sheet.specs.Decode.{pointOf, methodOf, stepOf}
 use Rattle.sheet.specs.AtOffset.{pointAt, methodAt, stepAt, pairAt, symbolAt, InPostfix, certificateAt}
 use Rattle.sheet.proofs.Each.{each-map}
@@ -172,15 +172,13 @@ module _ (M : Model) (s : List ℕ) (at kind : ℕ) (values : List ℕ) (r : Rea
 -- The whole sheet ---------------------------------------------------------------------------------------------------------------
 
 module _ (M : Model) (s : List ℕ) where
-  module _ (at : ℕ) (r t : Reading) (w : Took M s at r t) (now-open : OpenIn s at r) where
+  module _ (at : ℕ) (r : Reading) (w : Took M s at r) (now-open : OpenIn s at r) where
     abbrev b : ℕ
     b = byteAt s at
 
-    pub still-open : OpenIn s (nextAt s at) t
+    pub still-open : OpenIn s (nextAt s at) (pastAt s at r)
     unfolding recordAt
-    still-open =
-        subst (λ (u : Reading). OpenIn s (nextAt s at) u) (sym (w .past))
-        (past-record M s at b _ r now-open (sectionOf b) (kindOf b .role) (fits s at) (w .in-order) (w .none-open) (w .items) (w .room))
+    still-open = past-record M s at b _ r now-open (sectionOf b) (kindOf b .role) (fits s at) (w .in-order) (w .none-open) (w .items) (w .room)
 
     counted : kindOf b .role ≡ counts → ReadAt s (sectionOf b) (record { last = recordAt s at; opened = r .opened })
     unfolding recordAt

@@ -1,5 +1,5 @@
 -- A record that is taken: none of the refusals 2 to 7 and 9 applies to it.
-use mathlib.Core.Path.{_≡_, refl, sym, ap, _∙_, subst}
+use mathlib.Core.Path.{_≡_, refl, sym, subst}
 use mathlib.Core.Bool.{Bool, true, false, not, _&&_, _||_}
 use mathlib.Core.List.{List}
 use Prim.Native.Nat.{ℕ, zero, suc, _+_, _≤_, _<_}
@@ -10,7 +10,9 @@ use borrow.Author.Tests.{ltb-false, not-false}
 use Rattle.sheet.specs.Model.{Model}
 use Rattle.sheet.specs.Kind.{bodyLength, kindOf, sectionOf}
 use Rattle.sheet.specs.Record.{byteAt, valuesAt, recordAt, nextAt}
-use Rattle.sheet.specs.Reading.{Reading, tally, wrongItems, overLimit, allExist, isPrimitive, noneYet, _when_else_, refusalOf, readingPast, Outcome, whole, refusal, refusedOr, takeAt}
+use Rattle.sheet.specs.Reading.{Reading, tally, wrongItems, overLimit, isPrimitive, allExist, _when_else_, refusalOf}
+-- checked before the proofs
+use Rattle.sheet.proofs.Examples
 
 pub or-false : (a b : Bool) → (a || b) ≡ false → (a ≡ false) × (b ≡ false)
 or-false true b e = absurd (subst T e tt)
@@ -37,8 +39,8 @@ module _ (s : List ℕ) (at : ℕ) where
   unfolding recordAt
   record-is = refl
 
--- the record at an offset is taken in the state r; t is the state past it
-pub record Took (M : Model) (s : List ℕ) (at : ℕ) (r t : Reading) : Type 0 where
+-- the record at an offset is taken in the state r
+pub record Took (M : Model) (s : List ℕ) (at : ℕ) (r : Reading) : Type 0 where
   -- not 2
   pub known : (eqb (byteAt s at) 0 || ltb (M .kinds) (byteAt s at)) ≡ false
   -- not 3
@@ -53,59 +55,26 @@ pub record Took (M : Model) (s : List ℕ) (at : ℕ) (r t : Reading) : Type 0 w
   -- not 7
   pub names : T (allExist (M .events) (tally r) (kindOf (byteAt s at) .fields) (recordAt s at .values))
   -- not 9
-  pub first : (isPrimitive (recordAt s at) && noneYet (r .own 3)) ≡ false
-  pub past : t ≡ readingPast r (recordAt s at) (kindOf (byteAt s at))
+  pub first : (isPrimitive (recordAt s at) && eqb (length (r .own 3)) 0) ≡ false
 
-module _ (M : Model) (s : List ℕ) (at : ℕ) (r : Reading) where
-  -- the number of the refusal of the record at an offset, 0 if it has none
-  abbrev pub numberAtRecord : ℕ
-  numberAtRecord = refusalOf M s r (recordAt s at) (nextAt s at) (kindOf (byteAt s at))
-
-  pub take-is : takeAt M s at r ≡ refusedOr numberAtRecord at r (readingPast r (recordAt s at) (kindOf (byteAt s at)))
-  unfolding takeAt
-  take-is = refl
-
-  kind-is : recordAt s at .kind ≡ byteAt s at
-  unfolding recordAt
-  kind-is = refl
-
-  by-tests : (t : Reading) → numberAtRecord ≡ 0 → t ≡ readingPast r (recordAt s at) (kindOf (byteAt s at)) → Took M s at r t
-  by-tests t e past =
-      let b = byteAt s at in
-      let (two, e) = when-zero 1 (eqb (recordAt s at .kind) 0 || ltb (M .kinds) (recordAt s at .kind)) _ e in
-      let (three, e) = when-zero 2 (ltb (length s) (nextAt s at)) _ e in
-      let (four, e) = when-zero 3 (ltb (sectionOf b) (r .section) || (eqb (r .opened .section) 1 && ltb 1 (sectionOf b))) _ e in
-      let (five, e) = when-zero 4 (wrongItems (sectionOf b) (kindOf b .role) (length (r .opened .items))) _ e in
-      let (six, e) = when-zero 5 (overLimit M r (recordAt s at) (sectionOf b) (kindOf b .role)) _ e in
-      let (seven, e) = when-zero 6 (not (allExist (M .events) (tally r) (kindOf b .fields) (recordAt s at .values))) _ e in
-      let (nine, e) = when-zero 8 (isPrimitive (recordAt s at) && noneYet (r .own 3)) _ e in
-      let (order, condition) = or-false (ltb (sectionOf b) (r .section)) (eqb (r .opened .section) 1 && ltb 1 (sectionOf b)) four in
-      record {
-        known = subst (λ (k : ℕ). (eqb k 0 || ltb (M .kinds) k) ≡ false) kind-is two;
-        inside = ltb-false (length s) (nextAt s at) three;
-        in-order = ltb-false (sectionOf b) (r .section) order;
-        none-open = condition;
-        items = five;
-        room = six;
-        names = subst T (sym (not-false (allExist (M .events) (tally r) (kindOf b .fields) (recordAt s at .values)) seven)) tt;
-        first = nine;
-        past = past;
-      }
-
-abbrev IsWhole : Outcome → Type 0
-IsWhole (whole r) = Unit {0}
-IsWhole (refusal n at r) = ⊥
-
-abbrev readingIn : Reading → Outcome → Reading
-readingIn d (whole r) = r
-readingIn d (refusal n at r) = d
-
--- an outcome that goes on has no refusal
-pub goes-on : (n at : ℕ) (r t t′ : Reading) → refusedOr n at r t ≡ whole t′ → (n ≡ 0) × (t′ ≡ t)
-goes-on zero at r t t′ e = (refl, sym (ap (readingIn r) e))
-goes-on (suc n) at r t t′ e = absurd (subst IsWhole (sym e) tt)
-
-pub took : (M : Model) (s : List ℕ) (at : ℕ) (r t : Reading) → takeAt M s at r ≡ whole t → Took M s at r t
-took M s at r t h =
-    let (none-applies, past) = goes-on (numberAtRecord M s at r) at r _ t (sym (take-is M s at r) ∙ h) in
-    by-tests M s at r t none-applies past
+pub took : (M : Model) (s : List ℕ) (at : ℕ) (r : Reading) → refusalOf M s at r ≡ 0 → Took M s at r
+took M s at r e =
+    let b = byteAt s at in
+    let (two, e) = when-zero 1 (eqb b 0 || ltb (M .kinds) b) _ e in
+    let (three, e) = when-zero 2 (ltb (length s) (nextAt s at)) _ e in
+    let (four, e) = when-zero 3 (ltb (sectionOf b) (r .section) || (eqb (r .opened .section) 1 && ltb 1 (sectionOf b))) _ e in
+    let (five, e) = when-zero 4 (wrongItems (sectionOf b) (kindOf b .role) (length (r .opened .items))) _ e in
+    let (six, e) = when-zero 5 (overLimit M r (recordAt s at) (sectionOf b) (kindOf b .role)) _ e in
+    let (seven, e) = when-zero 6 (not (allExist (M .events) (tally r) (kindOf b .fields) (recordAt s at .values))) _ e in
+    let (nine, e) = when-zero 8 (isPrimitive (recordAt s at) && eqb (length (r .own 3)) 0) _ e in
+    let (order, condition) = or-false (ltb (sectionOf b) (r .section)) (eqb (r .opened .section) 1 && ltb 1 (sectionOf b)) four in
+    record {
+      known = two;
+      inside = ltb-false (length s) (nextAt s at) three;
+      in-order = ltb-false (sectionOf b) (r .section) order;
+      none-open = condition;
+      items = five;
+      room = six;
+      names = subst T (sym (not-false (allExist (M .events) (tally r) (kindOf b .fields) (recordAt s at .values)) seven)) tt;
+      first = nine;
+    }

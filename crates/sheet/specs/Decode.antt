@@ -1,6 +1,5 @@
 -- The sheet that was read: document 01, "Records".
 use Prim.Native.Nat.{ℕ}
-use mathlib.Core.Bool.{cond}
 use mathlib.Core.Option.{none, some}
 use mathlib.Core.List.{List, [], map}
 use lib.Dec.{eqb}
@@ -8,7 +7,7 @@ use Rattle.sheet.specs.Model.{Model}
 use Rattle.sheet.specs.Sheet.{Point, Method, Step, event-step, callFrom, pass-step, Sheet}
 use Rattle.sheet.specs.Kind.{conditions, points, methods, steps, certificates}
 use Rattle.sheet.specs.Record.{Record, value}
-use Rattle.sheet.specs.Reading.{Counted, item, Outcome, whole, refusal, readSheet}
+use Rattle.sheet.specs.Reading.{Counted, isPrimitive, _when_else_, item, Outcome, whole, refusal, readSheet}
 
 -- kind 7: "conditions past, own, due"
 abbrev pub pointOf : Record → Point
@@ -21,15 +20,15 @@ methodOf x =
       pre = value x 0;
       trace = value x 1;
       future = value x 2;
-      body = cond (eqb (x .kind) 8) none (some (record { entry = value x 3; exit = value x 4 }));
+      body = none when isPrimitive x else some (record { entry = value x 3; exit = value x 4 });
     }
 
 -- kind 10: "from, to (2 each), event (1)"; kind 11: "from, to, method"; kind 12: "from, to"
 abbrev pub stepOf : Record → Step
 stepOf x =
-    cond (eqb (x .kind) 10) (event-step (value x 0) (value x 1) (value x 2))
-    (cond (eqb (x .kind) 11) (callFrom (value x 0) (value x 1) (value x 2))
-    (pass-step (value x 0) (value x 1)))
+    event-step (value x 0) (value x 1) (value x 2) when eqb (x .kind) 10
+    else callFrom (value x 0) (value x 1) (value x 2) when eqb (x .kind) 11
+    else pass-step (value x 0) (value x 1)
 
 -- what was counted in each section; a condition is the one item that is left at its end
 abbrev pub sheetRead : (ℕ → List Counted) → Sheet

@@ -7,7 +7,7 @@ use lib.Dec.{eqb, ltb, leb}
 use Rattle.condition.specs.Condition.{Condition, noWord}
 use Rattle.certificate.specs.Certificate.{Certificate, pair}
 use Rattle.sheet.specs.Model.{Model, conditionLimit, symbolLimit, leafLimit, methodLimit, stepLimit}
-use Rattle.sheet.specs.Kind.{conditions, methods, Field, a-set, an-event, a-place, a-name, Role, symbol, a-pair, counts, Kind, kindOf}
+use Rattle.sheet.specs.Kind.{conditions, methods, Field, a-set, an-event, a-place, a-name, Role, symbol, a-pair, counts, kindOf}
 use Rattle.sheet.specs.Record.{Record, byteAt, recordAt, nextAt, value}
 
 -- The state between two records ---------------------------------------------------------------------------------------
@@ -92,25 +92,23 @@ allExist events counted [] vs = true
 allExist events counted (f ∷ fs) [] = true
 allExist events counted (f ∷ fs) (v ∷ vs) = exists events counted f v && allExist events counted fs vs
 
-abbrev pub noneYet : List Counted → Bool
-noneYet [] = true
-noneYet (x ∷ xs) = false
-
--- n where the test passes, and else what follows
+-- x where the test passes, and else what follows
 infixr 10 _when_else_
-abbrev pub _when_else_ : ℕ → Bool → ℕ → ℕ
-n when b else m = cond b n m
+abbrev pub _when_else_ : {A : Type 0} → A → Bool → A → A
+x when b else y = cond b x y
 
--- "at one record the table's order holds": the number of the first refusal that applies, 0 if none does; `end` is the offset after the record
-abbrev pub refusalOf : Model → List ℕ → Reading → Record → ℕ → Kind → ℕ
-refusalOf M s r x end k =
-    2 when eqb (x .kind) 0 || ltb (M .kinds) (x .kind)
-    else 3 when ltb (length s) end
+-- "at one record the table's order holds": the number of the first refusal that applies to the record at an offset, 0 if none does
+abbrev pub refusalOf : Model → List ℕ → ℕ → Reading → ℕ
+refusalOf M s at r =
+    let x = recordAt s at in
+    let k = kindOf (byteAt s at) in
+    2 when eqb (byteAt s at) 0 || ltb (M .kinds) (byteAt s at)
+    else 3 when ltb (length s) (nextAt s at)
     else 4 when ltb (k .section) (r .section) || (eqb (r .opened .section) conditions && ltb conditions (k .section))
     else 5 when wrongItems (k .section) (k .role) (length (r .opened .items))
     else 6 when overLimit M r x (k .section) (k .role)
     else 7 when not (allExist (M .events) (tally r) (k .fields) (x .values))
-    else 9 when isPrimitive x && noneYet (r .own methods)
+    else 9 when isPrimitive x && eqb (length (r .own methods)) 0
     else 0
 
 -- The state past a record that is not refused -------------------------------------------------------------------------
@@ -119,6 +117,7 @@ refusalOf M s r x end k =
 abbrev pub item : Opened → ℕ → Condition
 item o i = getD (o .items) i noWord
 
+-- what is open past a record
 abbrev pub openedPast : Opened → Record → ℕ → Role → Opened
 openedPast o x section (symbol takes make) =
     record {
@@ -133,17 +132,17 @@ openedPast o x section a-pair =
     record { section = section; start = startOf o (x .at); items = []; symbols = 0; leaves = 0; pairs = o .pairs ++ (pair (value x 0) (value x 1) ∷ []) }
 openedPast o x section counts = nothing
 
--- one more of a section
-abbrev pub oneMore : ℕ → Counted → (ℕ → List Counted) → ℕ → List Counted
-oneMore section x own k = cond (eqb k section) (own k ++ (x ∷ [])) (own k)
-
+-- one more of its section, where the record counts
 abbrev pub ownPast : (ℕ → List Counted) → Counted → ℕ → Role → ℕ → List Counted
-ownPast own x section (symbol takes make) = own
-ownPast own x section a-pair = own
-ownPast own x section counts = oneMore section x own
+ownPast own x section (symbol takes make) k = own k
+ownPast own x section a-pair k = own k
+ownPast own x section counts k = cond (eqb k section) (own k ++ (x ∷ [])) (own k)
 
-abbrev pub readingPast : Reading → Record → Kind → Reading
-readingPast r x k =
+-- the state past the record at an offset
+abbrev pub pastAt : List ℕ → ℕ → Reading → Reading
+pastAt s at r =
+    let x = recordAt s at in
+    let k = kindOf (byteAt s at) in
     record {
       section = k .section;
       opened = openedPast (r .opened) x (k .section) (k .role);
@@ -162,44 +161,26 @@ abbrev pub stateOf : Outcome → Reading
 stateOf (whole r) = r
 stateOf (refusal n at r) = r
 
--- the refusal n at a place in the state r, or, where n is 0, the state t
-abbrev pub refusedOr : ℕ → ℕ → Reading → Reading → Outcome
-refusedOr zero at r t = whole t
-refusedOr (suc n) at r t = refusal (suc n) at r
-
--- "The earliest record at fault counts": a refusal ends reading
-abbrev pub andThen : Outcome → (Reading → Outcome) → Outcome
-andThen (whole r) continue = continue r
-andThen (refusal n at r) continue = refusal n at r
-
--- the record at an offset
-unfoldable pub takeAt : Model → List ℕ → ℕ → Reading → Outcome
-unfolding recordAt nextAt
-takeAt M s at r =
-    let x = recordAt s at in
-    let k = kindOf (byteAt s at) in
-    refusedOr (refusalOf M s r x (nextAt s at) k) at r (readingPast r x k)
-
--- the records from an offset on that start before the offset `to`; a record has a byte or more, so as much fuel as there are bytes is enough
-unfoldable pub readOn : Model → List ℕ → ℕ → ℕ → ℕ → Reading → Outcome
-readOn M s to zero at r = whole r
-readOn M s to (suc fuel) at r =
-    let more = andThen (takeAt M s at r) (λ t. readOn M s to fuel (nextAt s at) t) in
-    cond (leb to at) (whole r) more
-
 -- "8, 9 for no method, and 10 follow in that order at the end"; 8: "the end comes inside a condition or a certificate"
-abbrev pub endRefusal : Reading → ℕ
-endRefusal r = 8 when ltb 0 (r .opened .section) else 9 when noneYet (r .own methods) else 0
-
 abbrev pub atEnd : List ℕ → Reading → Outcome
-atEnd s r = refusedOr (endRefusal r) (length s) r r
+atEnd s r =
+    refusal 8 (length s) r when ltb 0 (r .opened .section)
+    else refusal 9 (length s) r when eqb (length (r .own methods)) 0
+    else whole r
+
+-- the records from an offset on: "The earliest record at fault counts"; a record has a byte or more, so as much fuel as there are bytes is enough
+unfoldable pub readOn : Model → List ℕ → ℕ → ℕ → Reading → Outcome
+readOn M s zero at r = atEnd s r
+readOn M s (suc fuel) at r =
+    let n = refusalOf M s at r in
+    let more = readOn M s fuel (nextAt s at) (pastAt s at r) in
+    let rest = more when eqb n 0 else refusal n at r in
+    atEnd s r when leb (length s) at else rest
 
 -- "1, place 65,536"; "Refusal 1 comes before reading."
 unfoldable pub readFrom : Model → Reading → List ℕ → Outcome
-unfolding takeAt readOn
-readFrom M r s =
-    let rest = andThen (readOn M s (length s) (length s) 0 r) (λ t. atEnd s t) in
-    cond (ltb (M .bytes) (length s)) (refusal 1 (M .bytes) r) rest
+unfolding recordAt nextAt readOn
+readFrom M r s = let rest = readOn M s (length s) 0 r in refusal 1 (M .bytes) r when ltb (M .bytes) (length s) else rest
 
 -- the reading of a sheet that stands alone
 unfoldable pub readSheet : Model → List ℕ → Outcome

@@ -49,35 +49,32 @@ pub record Sheet : Type 0 where
 
 -- Conditions by the numbers that name them. A number that names nothing stands for a condition without words; no name of a well formed
 -- sheet is such a number.
-abbrev pub conditionIn : List Condition → ℕ → Condition
-conditionIn cs c = getD cs c noWord
-
 abbrev pub condition : Sheet → ℕ → Condition
-condition S c = conditionIn (S .conditions) c
+condition S c = getD (S .conditions) c noWord
 
-abbrev pub conditionNamed : {A : Type 0} → List Condition → (A → ℕ) → Option A → Condition
-conditionNamed cs name none = noWord
-conditionNamed cs name (some x) = conditionIn cs (name x)
+abbrev pub conditionNamed : {A : Type 0} → Sheet → (A → ℕ) → Option A → Condition
+conditionNamed S name none = noWord
+conditionNamed S name (some x) = condition S (name x)
 
 -- past(p), own(p), due(p) of the point p
 abbrev pub past : Sheet → ℕ → Condition
-past S p = conditionNamed (S .conditions) (λ (x : Point). x .past) (getElem? (S .points) p)
+past S p = conditionNamed S (λ (x : Point). x .past) (getElem? (S .points) p)
 
 abbrev pub own : Sheet → ℕ → Condition
-own S p = conditionNamed (S .conditions) (λ (x : Point). x .own) (getElem? (S .points) p)
+own S p = conditionNamed S (λ (x : Point). x .own) (getElem? (S .points) p)
 
 abbrev pub due : Sheet → ℕ → Condition
-due S p = conditionNamed (S .conditions) (λ (x : Point). x .due) (getElem? (S .points) p)
+due S p = conditionNamed S (λ (x : Point). x .due) (getElem? (S .points) p)
 
 -- pre, trace and future of the method m
 abbrev pub pre : Sheet → ℕ → Condition
-pre S m = conditionNamed (S .conditions) (λ (x : Method). x .pre) (getElem? (S .methods) m)
+pre S m = conditionNamed S (λ (x : Method). x .pre) (getElem? (S .methods) m)
 
 abbrev pub trace : Sheet → ℕ → Condition
-trace S m = conditionNamed (S .conditions) (λ (x : Method). x .trace) (getElem? (S .methods) m)
+trace S m = conditionNamed S (λ (x : Method). x .trace) (getElem? (S .methods) m)
 
 abbrev pub future : Sheet → ℕ → Condition
-future S m = conditionNamed (S .conditions) (λ (x : Method). x .future) (getElem? (S .methods) m)
+future S m = conditionNamed S (λ (x : Method). x .future) (getElem? (S .methods) m)
 
 -- the body of the method m, if it is a method with body
 abbrev pub bodyIn : Option Method → Option Body

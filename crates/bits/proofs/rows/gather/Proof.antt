@@ -23,14 +23,10 @@ cast-p : tie.Need-cast-p Inv-loop μ-loop
 cast-p c = let h = trailing-le 64 (c .before .loop .rest) in omega arith
 
 mul-found : tie.Need-mul-found Inv-loop μ-loop
-mul-found c = let g = c .before .loop in
-    let h = lowest-lt (g .rest) (c .loop-test .taken) (g .inv .small) in
-    search needs
+mul-found c = search (needs, lowest-lt _ (c .loop-test .taken) (c .before .loop .inv .small))
 
 element-copy-out-found : tie.Need-element-copy-out-found Inv-loop μ-loop
-element-copy-out-found c = let g = c .before .loop in
-    let h = lowest-lt (g .rest) (c .loop-test .taken) (g .inv .small) in
-    search needs
+element-copy-out-found c = search (needs, lowest-lt)
 
 sub-rest : tie.Need-sub-rest Inv-loop μ-loop
 sub-rest c = positive _ (c .before .loop-test .taken)

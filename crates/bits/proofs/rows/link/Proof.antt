@@ -20,24 +20,16 @@ cast-p : tie.Need-cast-p Inv-loop μ-loop
 cast-p c = let h = trailing-le 64 (c .before .loop .rest) in omega arith
 
 mul-rows : tie.Need-mul-rows Inv-loop μ-loop
-mul-rows c = let g = c .before .loop in
-    let h = lowest-lt (g .rest) (c .loop-test .taken) (g .inv .small) in
-    search needs
+mul-rows c = search (needs, lowest-lt _ (c .loop-test .taken) (c .before .loop .inv .small))
 
 element-copy-out-rows : tie.Need-element-copy-out-rows Inv-loop μ-loop
-element-copy-out-rows c = let g = c .before .loop in
-    let h = lowest-lt (g .rest) (c .loop-test .taken) (g .inv .small) in
-    search needs
+element-copy-out-rows c = search (needs, lowest-lt)
 
 mul-rows-2 : tie.Need-mul-rows-2 Inv-loop μ-loop
-mul-rows-2 c = let g = c .before .before .loop in
-    let h = lowest-lt (g .rest) (c .before .loop-test .taken) (g .inv .small) in
-    search needs
+mul-rows-2 c = search (needs, lowest-lt _ (c .before .loop-test .taken) (c .before .before .loop .inv .small))
 
 element-write-rows : tie.Need-element-write-rows Inv-loop μ-loop
-element-write-rows c = let g = c .before .before .loop in
-    let h = lowest-lt (g .rest) (c .before .loop-test .taken) (g .inv .small) in
-    search needs
+element-write-rows c = search (needs, lowest-lt)
 
 sub-rest : tie.Need-sub-rest Inv-loop μ-loop
 sub-rest c = positive _ (c .before .loop-test .taken)
