@@ -2,7 +2,7 @@
 use mathlib.Core.Path.{_≡_, refl}
 use mathlib.Core.List.{List, [], _∷_, map}
 use Rattle.condition.specs.Condition.{Condition, leaf, empty, join, either, star, any, event}
-use Rattle.certificate.specs.Certificate.{Certificate, pair, Finding, fine, fault, check}
+use Rattle.certificate.specs.Certificate.{Certificate, pair, Finding, fine, found, fault, check}
 
 record Case : Type 0 where
   left : Condition
@@ -55,3 +55,27 @@ cases =
 answered : map (λ (x : Case). check 32 (x .left) (x .right) (x .certificate)) cases ≡ map (λ (x : Case). x .answer) cases
 unfolding check
 answered = refl
+
+-- More cases --------------------------------------------------------------------------------------------------------------
+
+abbrev moreCases : List Case
+moreCases =
+    -- the first pair has another place
+    case empty empty (pair 1 1 ∷ []) (fault 1 0 0 0)
+    -- clauses 3 and 4 fail at one pair: the empty word is no word of event 2, and the pair after event 2 is missing
+    ∷ case (star (event 2)) (event 2) (pair 0 1 ∷ []) (fault 3 0 0 0)
+    -- clauses 2, 3 and 4 do: the last pair's set has only a place that the right side lacks
+    ∷ case (star (event 2)) (star (event 2)) (pair 0 1 ∷ pair 1 2 ∷ pair 1 4 ∷ []) (fault 2 2 0 0)
+    -- of two followers that hold one event, the lower place
+    ∷ case (either (event 3) (event 3)) (any 32) (pair 0 1 ∷ []) (fault 4 0 3 1)
+    -- the pair that is missing is one of the follower, whatever other pairs have its set
+    ∷ case (event 2) (event 2) (pair 0 1 ∷ pair 0 2 ∷ []) (fault 4 0 2 1)
+    ∷ []
+
+more-answered : map (λ (x : Case). check 32 (x .left) (x .right) (x .certificate)) moreCases ≡ map (λ (x : Case). x .answer) moreCases
+unfolding check
+more-answered = refl
+
+-- "clause, pair, event, place"
+fault-is : fault 4 1 5 2 ≡ found (record { clause = 4; pair = 1; event = 5; place = 2 })
+fault-is = refl

@@ -8,7 +8,7 @@ use mathlib.Core.List.{List, [], _∷_, _++_, map}
 use Rattle.condition.specs.Condition.{Word, empty, join, star, event, any, _⊆_}
 use Rattle.sheet.specs.Each.{nil, cons}
 use Rattle.sheet.specs.Sheet.{Point, Method, event-step, callFrom, pass-step, Sheet}
-use Rattle.runs.specs.Rules.{_isIn_, holdsEmpty, rules, AllMet}
+use Rattle.runs.specs.Rules.{_isIn_, holdsEmpty, _of_says_, exitRules, returnRules, firstsRules, rules, AllMet}
 use Rattle.runs.specs.Runs.{Call, Returned, State, Move, return, by-step, run}
 
 abbrev anywhere : Point
@@ -149,3 +149,36 @@ in-itself w h = h
 pub M-rules : AllMet (rules M)
 unfolding rules
 M-rules = cons refl (cons refl (cons in-itself (cons refl (cons in-itself (cons in-itself nil)))))
+
+-- More of both sheets -----------------------------------------------------------------------------------------------------
+
+-- a word that is given with an event step, with the call of a method with body, or with a pass is not read
+words-unread : run sheet 0
+    (by-step 0 (9 ∷ []) ∷ by-step 1 (9 ∷ []) ∷ by-step 3 (7 ∷ []) ∷ return ∷ by-step 2 (9 ∷ []) ∷ return ∷ []) ≡ at-end
+unfolding run
+words-unread = refl
+
+-- a run that starts at method 1
+starts-at-1 : run sheet 1 [] ≡ midway [] 4 (record { method = 1; step = none; began = []; activation = record { number = 0; callers = [] } } ∷ []) []
+unfolding run
+starts-at-1 = refl
+
+-- rules 1 and 2 of each method at which runs start, in the order of the list
+rules-of-starts : firstsRules told (1 ∷ 0 ∷ [])
+    ≡ (1 of 1 says holdsEmpty (event 9)) ∷ (2 of 1 says holdsEmpty (event 11))
+    ∷ (1 of 0 says holdsEmpty (event 6)) ∷ (2 of 0 says holdsEmpty (event 8))
+    ∷ []
+unfolding firstsRules
+rules-of-starts = refl
+
+-- the rules of an exit and of a return, numbered from 20 on; the return is to point 1, the step's own target is point 0
+rules-of-exit : exitRules told 20 0 1 ≡ (20 of 0 says event 4 isIn event 7) ∷ (21 of 0 says event 8 isIn event 5) ∷ []
+rules-of-exit = refl
+
+rules-of-return : returnRules told 20 3 (record { from = 0; to = 0; method = 1 }) 1
+    ≡ (20 of 3 says join (event 0) (event 10) isIn event 3)
+    ∷ (21 of 3 says join (event 1) (event 10) isIn event 4)
+    ∷ (22 of 3 says event 5 isIn event 11)
+    ∷ (23 of 3 says join (event 10) (event 5) isIn event 2)
+    ∷ []
+rules-of-return = refl

@@ -85,6 +85,7 @@ module _ (S : Sheet) where
       ∷ (17 of i says due S q isIn due S p)
       ∷ []
 
+  -- "1, 2" of each method that runs start at, one method after the other
   unfoldable pub firstsRules : List ℕ → List Rule
   firstsRules [] = []
   firstsRules (m ∷ ms) = firstRules m ++ firstsRules ms

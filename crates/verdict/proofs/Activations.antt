@@ -8,7 +8,7 @@ use Rattle.sheet.specs.Model.{large}
 use Rattle.sheet.proofs.Each.{each-head, each-tail}
 use Rattle.sheet.specs.Sheet.{condition}
 use Rattle.sheet.specs.Decode.{sheetOf}
-use Rattle.runs.specs.Runs.{return, by-step, run}
+use Rattle.runs.specs.Runs.{return, by-step, run, Safe}
 use Rattle.runs.proofs.Alike.{visits, to-first}
 use Rattle.verdict.specs.Verdict.{accepted, verdictOf}
 use Rattle.verdict.specs.Cases.{startOnly}
@@ -89,3 +89,8 @@ unfolding sheet sheetOf run small
 met-in-outermost v h =
     let ms = to-first ++ (by-step 3 [] ∷ return ∷ []) in
     each-head (each-tail (loads large sheet (omega arith) (are-bytes sheet tt) .owing 22 is-accepted ms)) (List·Memᴰ·tail (List·Memᴰ·head refl)) v h
+
+-- And that run, with a step of each kind in the sheet, is safe by the promise.
+safe-in-outermost : Safe (sheetOf large sheet) (run (sheetOf large sheet) 0 (to-first ++ (by-step 3 [] ∷ return ∷ [])))
+unfolding sheet small
+safe-in-outermost = loads large sheet (omega arith) (are-bytes sheet tt) .sound 22 is-accepted (to-first ++ (by-step 3 [] ∷ return ∷ []))

@@ -132,3 +132,23 @@ answers-reply : map answerReply answers
     ≡ none-giving [] ∷ none-giving [] ∷ (14 giving []) ∷ (12 giving []) ∷ (13 giving (104 ∷ [])) ∷ (9 giving (0 ∷ [])) ∷ []
 unfolding answers
 answers-reply = refl
+
+-- More words --------------------------------------------------------------------------------------------------------------
+
+-- a sheet with two conditions, event 0 and event 1, a point and a method
+abbrev two : List ℕ
+two = (0x01 ∷ 0x01 ∷ 0 ∷ 0 ∷ 0 ∷ 0x06 ∷ 0x01 ∷ 0x02 ∷ 0 ∷ 0 ∷ 0 ∷ 0x06 ∷ []) ++ (point0 ++ method0 0)
+
+by-number : map (λ (c : ℕ). wordTest large two c (1 ∷ [])) (0 ∷ 1 ∷ 2 ∷ []) ≡ tested false ∷ tested true ∷ untested 14 none ∷ []
+unfolding wordTest
+by-number = refl
+
+-- a refused sheet, whatever the condition's number and the word
+refused-sheet : wordTest large (take 10 two) 5 (replicate 4097 32) ≡ untested 3 (some 6)
+unfolding wordTest
+refused-sheet = refl
+
+-- on an instrument with two events, 2 is none
+on-two-events : wordTest (record { bytes = 65536; points = 512; events = 2; kinds = 14 }) two 1 (1 ∷ 2 ∷ []) ≡ untested 13 (some 1)
+unfolding wordTest
+on-two-events = refl

@@ -52,7 +52,7 @@ module _ (n : ℕ) (S : Sheet) (below : (c : ℕ) → EventsBelow n (condition S
   abbrev Below : List Rule → Type 0
   Below = Each (λ x. LeftBelow n (x .claim))
 
-  named : {A : Type 0} (name : A → ℕ) (x : Option A) → EventsBelow n (conditionNamed (S .conditions) name x)
+  named : {A : Type 0} (name : A → ℕ) (x : Option A) → EventsBelow n (conditionNamed S name x)
   named name none = pow-pos n
   named name (some x) = below (name x)
 
