@@ -32,7 +32,7 @@ fn short_of(low: u8, high: u8) -> usize
     index(low) + 256 * index(high)
 }
 
-pub fn set_of(a: u8, b: u8, c: u8, d: u8) -> u64
+fn set_of(a: u8, b: u8, c: u8, d: u8) -> u64
     ensures { λ r. ⌜ r ≡ a + 256 * b + 65536 * (c + 256 * d) ⌝ }
 {
     wide(a) + 256 * wide(b) + 65536 * (wide(c) + 256 * wide(d))
@@ -60,13 +60,21 @@ pub fn short_inside(s: &[u8], i: usize) -> usize
     short_of(s[i], s[i + 1])
 }
 
-// The four-byte set at an offset. Where four bytes are there, one test serves them all.
+// The four-byte set at an offset where its bytes are known to be there.
+pub fn set_inside(s: &[u8], i: usize) -> u64
+    requires { ⌜ i + 4 ≤ length (now s) ⌝ }
+    ensures { λ r. ⌜ r ≡ setAt (now (s .entry)) i ⌝ }
+{
+    set_of(s[i], s[i + 1], s[i + 2], s[i + 3])
+}
+
+// The same at any offset. Where four bytes are there, one test serves them all.
 pub fn set_at(s: &[u8], i: usize) -> u64
     ensures { λ r. ⌜ r ≡ setAt (now (s .entry)) i ⌝ }
 {
     if i < s.len() {
         if 4 <= s.len() - i {
-            return set_of(s[i], s[i + 1], s[i + 2], s[i + 3]);
+            return set_inside(s, i);
         }
         set_of(
             s[i],

@@ -1,19 +1,19 @@
 -- What `foundAt` says to a reader of sections: the record that stands at an offset, or that it is refused there.
 use mathlib.Core.Path.{_≡_, refl, sym, ap, _∙_, subst}
-use mathlib.Core.Bool.{Bool, true, false, cond, _&&_, _||_}
+use mathlib.Core.Bool.{Bool, true, false, not, cond, _&&_, _||_}
 use mathlib.Core.Option.{some}
 use mathlib.Core.List.{List}
 use Prim.Native.Nat.{ℕ, zero, suc, _+_, _-_, _≤_, _<_}
 use native.Mathlib.Omega.{arith}
 use lib.ListN.{length, getD}
 use lib.Dec.{T, ltb, leb, eqb}
-use borrow.Author.Tests.{ltb-true, ltb-false, leb-true, leb-false, lt-ltb, le-ltb, ne-eqb, eq-eqb}
+use borrow.Author.Tests.{ltb-true, ltb-false, leb-true, leb-false, lt-ltb, le-ltb, ne-eqb, eq-eqb, not-true, not-false}
 use Rattle.sheet.specs.Model.{Model}
 use Rattle.sheet.specs.Kind.{bodyLength}
 use Rattle.sheet.specs.Record.{byteAt, recordAt, nextAt}
-use Rattle.sheet.specs.Reading.{Reading, refusal, takeAt}
+use Rattle.sheet.specs.Reading.{Reading, refusalOf}
 use Rattle.sheet.proofs.Take.{next-is}
-use Rattle.sheet.proofs.Order.{is-2, two, three}
+use Rattle.sheet.proofs.Order.{two, three}
 use Rattle.fields.proofs.Laws.{byte-past}
 use Rattle.format.specs.declared.Refusal.{Refusal}
 use Rattle.format.specs.declared.Refusal.the-variants.{UnknownKind, BodyPastEnd}
@@ -35,13 +35,13 @@ inside s at h = go (leb (length s) at) refl
     go true e = absurd (omega (arith, byte-past s at (leb-true (length s) at e)))
     go false e = leb-false (length s) at e
 
-pub next-by : (s : List ℕ) (at k : ℕ) → byteAt s at ≡ k → 1 ≤ k → at + 1 + getD bodies (k - 1) 0 ≡ nextAt s at
+next-by : (s : List ℕ) (at k : ℕ) → byteAt s at ≡ k → 1 ≤ k → at + 1 + getD bodies (k - 1) 0 ≡ nextAt s at
 next-by s at zero e h = absurd (omega arith)
 next-by s at (suc j) e h =
     let one : suc j - 1 ≡ j = omega arith in
     ap (λ (i : ℕ). at + 1 + getD bodies i 0) one ∙ ap (λ (n : ℕ). at + 1 + n) (body-is (suc j)) ∙ ap (λ (k : ℕ). at + 1 + bodyLength k) (sym e) ∙ sym (next-is s at)
 
-pub next-le : (s : List ℕ) (at : ℕ) → nextAt s at ≤ at + 11
+next-le : (s : List ℕ) (at : ℕ) → nextAt s at ≤ at + 11
 next-le s at = omega (arith, next-is s at, body-le (byteAt s at))
 
 -- Kinds 1 to `kinds` --------------------------------------------------------------------------------------------------
@@ -78,15 +78,35 @@ module _ (kinds : ℕ) (s : List ℕ) (at : ℕ) where
   unfolding foundAt
   found-is = refl
 
-  pub unknown-kind : isKnown kinds (byteAt s at) ≡ false → foundAt kinds s at ≡ found.NoRecord
-  unknown-kind e = found-is ∙ simp e
+  -- what the code has: the byte of kind, and whether it is known
+  module _ {k : ℕ} {b : Bool} (is : k ≡ byteAt s at) (tested : b ≡ isKnown kinds k) where
+    is-known : {x : Bool} → b ≡ x → isKnown kinds (byteAt s at) ≡ x
+    is-known e = ap (isKnown kinds) (sym is) ∙ sym tested ∙ e
 
-  module _ (known : isKnown kinds (byteAt s at) ≡ true) where
-    pub body-past-end : length s < nextAt s at → foundAt kinds s at ≡ found.NoRecord
-    body-past-end h = found-is ∙ simp (known, lt-ltb (length s) (nextAt s at) h)
+    pub unknown-kind : not b ≡ true → found.NoRecord ≡ foundAt kinds s at
+    unknown-kind e = sym (found-is ∙ simp (is-known (not-true b e)))
 
-    pub whole-record : nextAt s at ≤ length s → foundAt kinds s at ≡ found.Record (byteAt s at) (nextAt s at)
-    whole-record h = found-is ∙ simp (known, le-ltb (length s) (nextAt s at) h)
+    module _ (known : not b ≡ false) where
+      pub kind-bounds : (1 ≤ k) × (k ≤ kinds) × (at < length s)
+      kind-bounds =
+          let (low, high) = known-out kinds k (sym tested ∙ not-false b known) in
+          (low, high, inside s at (omega arith))
+
+      -- .. and the length of its body, from the table
+      module _ {i n : ℕ} (row : i ≡ k) (body : n ≡ getD bodies (i - 1) 0) where
+        next-found : at + 1 + n ≡ nextAt s at
+        next-found = ap (λ (n : ℕ). at + 1 + n) body ∙ next-by s at i (sym is ∙ sym row) (omega (arith, kind-bounds .0))
+
+        pub few-bytes : n ≤ 10
+        few-bytes = omega (arith, next-found, next-le s at)
+
+        pub body-past-end : length s < at + 1 + n → found.NoRecord ≡ foundAt kinds s at
+        body-past-end h = sym (found-is ∙ simp (is-known (not-false b known), lt-ltb (length s) (nextAt s at) (omega (arith, next-found))))
+
+        pub whole-record : at + 1 + n ≤ length s → found.Record k (at + 1 + n) ≡ foundAt kinds s at
+        whole-record h =
+            ap (λ (k : ℕ). found.Record k (at + 1 + n)) is ∙ ap (found.Record (byteAt s at)) next-found
+            ∙ sym (found-is ∙ simp (is-known (not-false b known), le-ltb (length s) (nextAt s at) (omega (arith, next-found))))
 
 -- To a reader of sections ---------------------------------------------------------------------------------------------
 
@@ -102,7 +122,7 @@ module _ (M : Model) (s : List ℕ) (at : ℕ) where
     pub low : 1 ≤ k
     pub high : k ≤ M .kinds
     pub inside : nextAt s at ≤ length s
-    pub not-2 : (eqb (recordAt s at .kind) 0 || ltb (M .kinds) (recordAt s at .kind)) ≡ false
+    pub not-2 : (eqb (byteAt s at) 0 || ltb (M .kinds) (byteAt s at)) ≡ false
 
   -- by the tests that `foundAt` makes
   by-tests : (P : Found → Type 0) → (isKnown (M .kinds) (byteAt s at) ≡ false → P found.NoRecord)
@@ -119,7 +139,7 @@ module _ (M : Model) (s : List ℕ) (at : ℕ) where
         low = known-out (M .kinds) (byteAt s at) a .0;
         high = known-out (M .kinds) (byteAt s at) a .1;
         inside = ltb-false (length s) (nextAt s at) b;
-        not-2 = subst (λ (k : ℕ). (eqb k 0 || ltb (M .kinds) k) ≡ false) (sym (kind-there s at)) (known-not-2 (M .kinds) (byteAt s at) a);
+        not-2 = known-not-2 (M .kinds) (byteAt s at) a;
       })))
       unknown)
 
@@ -136,20 +156,17 @@ module _ (M : Model) (s : List ℕ) (at : ℕ) where
 
   -- the record there is refused in the state r, with the number and the place of y
   abbrev pub Refuses : Reading → Refusal → Type 0
-  Refuses r y = (takeAt M s at r ≡ refusal (numberOf y) at r) × (placeOf y ≡ some at)
+  Refuses r y = (refusalOf M s at r ≡ numberOf y) × (placeOf y ≡ some at)
 
   -- no record stands there
   pub refused : (r : Reading) → foundAt (M .kinds) s at ≡ found.NoRecord → Refuses r (refusalAt (M .kinds) s at)
   refused r e =
       by-tests (λ (f : Found). f ≡ found.NoRecord → Refuses r (refusalAt (M .kinds) s at))
-      (λ a e. subst (Refuses r) (sym (ap why a)) (two M s at r (by-kind true (unknown-2 (M .kinds) (byteAt s at) a)), refl))
+      (λ a e. subst (Refuses r) (sym (ap why a)) (two M s at r (unknown-2 (M .kinds) (byteAt s at) a), refl))
       (λ a b e. subst (Refuses r) (sym (ap why a))
-      (three M s at r (by-kind false (known-not-2 (M .kinds) (byteAt s at) a)) (lt-ltb (length s) (nextAt s at) b), refl))
+      (three M s at r (known-not-2 (M .kinds) (byteAt s at) a) (lt-ltb (length s) (nextAt s at) b), refl))
       (λ w e. let z : _≡_ {A = ℕ} 0 1 = cc in absurd (omega arith))
       e
     where
       why : Bool → Refusal
       why b = cond b (BodyPastEnd at) (UnknownKind at)
-
-      by-kind : (b : Bool) → (eqb (byteAt s at) 0 || ltb (M .kinds) (byteAt s at)) ≡ b → is-2 M s at r ≡ b
-      by-kind b e = subst (λ (k : ℕ). (eqb k 0 || ltb (M .kinds) k) ≡ b) (sym (kind-there s at)) e

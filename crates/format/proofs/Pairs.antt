@@ -2,26 +2,18 @@
 use mathlib.Core.Path.{_≡_, sym, ap}
 use mathlib.Core.Bool.{Bool, false}
 use mathlib.Core.List.{List}
-use Prim.Native.Nat.{ℕ, _+_, _*_, _≤_}
+use Prim.Native.Nat.{ℕ, _+_, _≤_}
 use native.Mathlib.Omega.{arith}
 use lib.Dec.{eqb}
 use lib.ListN.{length}
 use Rattle.certificate.specs.Certificate.{pair}
 use Rattle.sheet.specs.Record.{byteAt}
 use Rattle.sheet.specs.AtOffset.{setAt}
-use Rattle.fields.proofs.Laws.{byte-past, set-past, set-is}
+use Rattle.fields.proofs.Laws.{byte-past, set-past}
 use Rattle.format.specs.Pairs.{pairIs, listedAt}
 use Rattle.format.specs.declared.listing.Listed.{Listed}
 
 module _ (s : List ℕ) (at : ℕ) where
-  -- the set of a pair, by its bytes
-  pub pair-set : setAt s (at + 2) ≡ byteAt s (at + 2) + 256 * byteAt s (at + 3) + 65536 * (byteAt s (at + 4) + 256 * byteAt s (at + 5))
-  pair-set =
-      let three : at + 2 + 1 ≡ at + 3 = omega arith in
-      let four : at + 2 + 2 ≡ at + 4 = omega arith in
-      let five : at + 2 + 3 ≡ at + 5 = omega arith in
-      rw (set-is s (at + 2), three, four, five)
-
   pub listed-by : {there : Bool} {place set : ℕ} → there ≡ eqb (byteAt s at) 13 → place ≡ byteAt s (at + 1) → set ≡ setAt s (at + 2)
       → _≡_ {A = Listed} (record { there = there; pair = record { place = place; set = set } }) (listedAt s at)
   unfolding listedAt

@@ -2,28 +2,19 @@
 use mathlib.Core.Path.{_≡_, refl, ap}
 use mathlib.Core.Bool.{Bool, true, false, not, cond}
 use mathlib.Core.List.{List, [], _∷_}
-use Prim.Native.Nat.{ℕ, zero, suc, _+_, _≤_, _<_}
+use Prim.Native.Nat.{ℕ, suc, _+_, _≤_, _<_}
 use native.Mathlib.Omega.{arith}
 use lib.ListN.{getD}
 use lib.Dec.{eqb, ltb, lit≤}
 use borrow.Author.Tests.{eqb-true, eqb-false, ne-eqb}
-use Rattle.sheet.specs.Kind.{conditions, points, methods, steps, certificates, Field, a-set, a-name, a-place, Role, symbol, a-pair, counts, Kind, a-kind, kinds, kindOf, sectionOf, widths, bodyLength}
+use Rattle.sheet.specs.Kind.{conditions, points, methods, steps, certificates, a-set, a-place, Role, symbol, a-pair, counts, Kind, a-kind, kinds, kindOf, sectionOf, widths, bodyLength}
 use Rattle.sheet.specs.Reading.{allExist}
+use Rattle.sheet.proofs.Kind.{_and_, Numbered, numbered}
 use Rattle.format.specs.Kinds.{lastKind, countsOne, takesItems, primitiveKind}
 
-infixr 20 _and_
-_and_ : {A B : Type 0} → A → B → A × B
-a and b = (a, b)
-
--- P i of the i-th row, for each i, and of no kind past the table
-abbrev Rows : (ℕ → Kind → Type 0) → List Kind → Type 0
-Rows P [] = (i : ℕ) → P i (a-kind 0 counts [])
-Rows P (x ∷ xs) = P 0 x × Rows (λ i. P (suc i)) xs
-
-by-rows : (P : ℕ → Kind → Type 0) (xs : List Kind) → Rows P xs → (i : ℕ) → P i (getD xs i (a-kind 0 counts []))
-by-rows P [] h i = h i
-by-rows P (x ∷ xs) h zero = h .0
-by-rows P (x ∷ xs) h (suc i) = by-rows (λ i. P (suc i)) xs (h .1) i
+-- P k of the row of each kind k
+pub by-rows : (P : ℕ → Kind → Type 0) → Numbered P kinds (a-kind 0 counts []) → (k : ℕ) → P k (kindOf k)
+by-rows P rows = numbered P kinds (a-kind 0 counts []) rows
 
 -- Body lengths and sections -------------------------------------------------------------------------------------------
 
@@ -33,46 +24,29 @@ bodies = 4 ∷ 0 ∷ 0 ∷ 0 ∷ 0 ∷ 0 ∷ 6 ∷ 6 ∷ 10 ∷ 5 ∷ 6 ∷ 4 �
 
 pub body-is : (k : ℕ) → getD (0 ∷ bodies) k 0 ≡ bodyLength k
 body-is =
-    by-rows (λ k x. getD (0 ∷ bodies) k 0 ≡ widths (x .fields)) kinds
+    by-rows (λ k x. getD (0 ∷ bodies) k 0 ≡ widths (x .fields))
     (refl and refl and refl and refl and refl and refl and refl and refl and refl and refl and refl and refl and refl and refl and refl and (λ i. refl))
 
 pub body-le : (k : ℕ) → bodyLength k ≤ 10
 body-le =
-    by-rows (λ k x. widths (x .fields) ≤ 10) kinds
+    by-rows (λ k x. widths (x .fields) ≤ 10)
     (lit≤ tt and lit≤ tt and lit≤ tt and lit≤ tt and lit≤ tt and lit≤ tt and lit≤ tt and lit≤ tt
     and lit≤ tt and lit≤ tt and lit≤ tt and lit≤ tt and lit≤ tt and lit≤ tt and lit≤ tt and (λ i. lit≤ tt))
 
 -- sections by comparisons
 pub section-is : (k : ℕ) → 1 ≤ k → k ≤ lastKind → cond (ltb k 7) conditions (cond (ltb k 8) points (cond (ltb k 10) methods (cond (ltb k 13) steps certificates))) ≡ sectionOf k
 section-is =
-    by-rows (λ k x. 1 ≤ k → k ≤ lastKind → cond (ltb k 7) conditions (cond (ltb k 8) points (cond (ltb k 10) methods (cond (ltb k 13) steps certificates))) ≡ x .section) kinds
+    by-rows (λ k x. 1 ≤ k → k ≤ lastKind → cond (ltb k 7) conditions (cond (ltb k 8) points (cond (ltb k 10) methods (cond (ltb k 13) steps certificates))) ≡ x .section)
     ((λ low high. absurd (omega arith)) and same and same and same and same and same and same and same and same and same and same and same and same and same and same
     and (λ i low high. absurd (omega arith)))
   where
     same : {n : ℕ} {A B : Type 0} → A → B → n ≡ n
     same low high = refl
 
--- the fields of points, methods and steps have their bytes
-pub names-length : (k : ℕ) → points ≤ sectionOf k → sectionOf k ≤ steps → (4 ≤ bodyLength k) × (k < 10 → 6 ≤ bodyLength k)
-names-length =
-    by-rows (λ k x. points ≤ x .section → x .section ≤ steps → (4 ≤ widths (x .fields)) × (k < 10 → 6 ≤ widths (x .fields))) kinds
-    (none and low and low and low and low and low and low and (λ g h. (lit≤ tt, λ l. lit≤ tt)) and (λ g h. (lit≤ tt, λ l. lit≤ tt)) and (λ g h. (lit≤ tt, λ l. lit≤ tt))
-    and (λ g h. (lit≤ tt, λ l. absurd (omega arith))) and (λ g h. (lit≤ tt, λ l. absurd (omega arith))) and (λ g h. (lit≤ tt, λ l. absurd (omega arith)))
-    and high and high and (λ i. none))
-  where
-    none : {A : Type 0} → 2 ≤ 0 → A
-    none g = absurd (omega arith)
-
-    low : {A : Type 0} → 2 ≤ 1 → A
-    low g = absurd (omega arith)
-
-    high : {A B : Type 0} → A → 5 ≤ 4 → B
-    high g h = absurd (omega arith)
-
 -- a record that reading takes is of one of the five sections
 pub section-low : (k : ℕ) → 1 ≤ k → k ≤ lastKind → 1 ≤ sectionOf k
 section-low =
-    by-rows (λ k x. 1 ≤ k → k ≤ lastKind → 1 ≤ x .section) kinds
+    by-rows (λ k x. 1 ≤ k → k ≤ lastKind → 1 ≤ x .section)
     ((λ low high. low) and one and one and one and one and one and one and one and one and one and one and one and one and one and one
     and (λ i low high. absurd (omega arith)))
   where
@@ -81,7 +55,7 @@ section-low =
 
 pub section-high : (k : ℕ) → sectionOf k ≤ 5
 section-high =
-    by-rows (λ k x. x .section ≤ 5) kinds
+    by-rows (λ k x. x .section ≤ 5)
     (lit≤ tt and lit≤ tt and lit≤ tt and lit≤ tt and lit≤ tt and lit≤ tt and lit≤ tt and lit≤ tt
     and lit≤ tt and lit≤ tt and lit≤ tt and lit≤ tt and lit≤ tt and lit≤ tt and lit≤ tt and (λ i. lit≤ tt))
 
@@ -90,7 +64,7 @@ section-high =
 -- kinds 1 to 5 and 13 do not count
 pub low-counts : (k : ℕ) → 1 ≤ k → k < 6 → countsOne (kindOf k .role) ≡ false
 low-counts =
-    by-rows (λ k x. 1 ≤ k → k < 6 → countsOne (x .role) ≡ false) kinds
+    by-rows (λ k x. 1 ≤ k → k < 6 → countsOne (x .role) ≡ false)
     ((λ low high. absurd (omega arith)) and (λ low high. refl) and (λ low high. refl) and (λ low high. refl) and (λ low high. refl) and (λ low high. refl)
     and out 0 and out 1 and out 2 and out 3 and out 4 and out 5 and out 6 and out 7 and out 8 and (λ i low high. absurd (omega arith)))
   where
@@ -99,7 +73,7 @@ low-counts =
 
 all-but-pairs : (k : ℕ) → 6 ≤ k → (k ≡ 13 → ⊥) → countsOne (kindOf k .role) ≡ true
 all-but-pairs =
-    by-rows (λ k x. 6 ≤ k → (k ≡ 13 → ⊥) → countsOne (x .role) ≡ true) kinds
+    by-rows (λ k x. 6 ≤ k → (k ≡ 13 → ⊥) → countsOne (x .role) ≡ true)
     (low 0 (lit≤ tt) and low 1 (lit≤ tt) and low 2 (lit≤ tt) and low 3 (lit≤ tt) and low 4 (lit≤ tt) and low 5 (lit≤ tt) and same and same and same and same and same and same and same
     and (λ h ne. absurd (ne refl)) and same and (λ i. same))
   where
@@ -119,7 +93,7 @@ high-counts k h = go (eqb k 13) refl
 -- no kind but 3, 4 and 5 takes items
 pub none-taken : (k : ℕ) → (k ≡ 3 → ⊥) → (k ≡ 4 → ⊥) → (k ≡ 5 → ⊥) → takesItems (kindOf k .role) ≡ 0
 none-taken =
-    by-rows (λ k x. (k ≡ 3 → ⊥) → (k ≡ 4 → ⊥) → (k ≡ 5 → ⊥) → takesItems (x .role) ≡ 0) kinds
+    by-rows (λ k x. (k ≡ 3 → ⊥) → (k ≡ 4 → ⊥) → (k ≡ 5 → ⊥) → takesItems (x .role) ≡ 0)
     (same and same and same and (λ a b c. absurd (a refl)) and (λ a b c. absurd (b refl)) and (λ a b c. absurd (c refl))
     and same and same and same and same and same and same and same and same and same and (λ i. same))
   where
@@ -134,7 +108,7 @@ Suits section counts = Unit {0}
 
 pub suits : (k : ℕ) → Suits (sectionOf k) (kindOf k .role)
 suits =
-    by-rows (λ k x. Suits (x .section) (x .role)) kinds
+    by-rows (λ k x. Suits (x .section) (x .role))
     (tt and refl and refl and refl and refl and refl and tt and tt and tt and tt and tt and tt and tt and refl and tt and (λ i. tt))
 
 -- a primitive is a method
@@ -146,41 +120,10 @@ not-primitive k ne = ne-eqb k 8 (λ (e : k ≡ 8). ne (ap sectionOf e))
 
 -- Fields --------------------------------------------------------------------------------------------------------------
 
-abbrev pub threeNames : List Field
-threeNames = a-name conditions ∷ a-name conditions ∷ a-name conditions ∷ []
-
--- kinds 7 and 8
-pub three-conditions : (k : ℕ) → points ≤ sectionOf k → k < 9 → kindOf k .fields ≡ threeNames
-three-conditions =
-    by-rows (λ k x. points ≤ x .section → k < 9 → x .fields ≡ threeNames) kinds
-    (none and low and low and low and low and low and low and (λ g h. refl) and (λ g h. refl) and out 0 and out 1 and out 2 and out 3 and out 4 and out 5 and (λ i. none))
-  where
-    none : {A : Type 0} → 2 ≤ 0 → A
-    none g = absurd (omega arith)
-
-    low : {A : Type 0} → 2 ≤ 1 → A
-    low g = absurd (omega arith)
-
-    out : (n : ℕ) {A B : Type 0} → A → 9 + n < 9 → B
-    out n g h = absurd (omega arith)
-
--- no kind after 12
-pub last-step : (k : ℕ) → points ≤ sectionOf k → sectionOf k ≤ steps → k ≤ 12
-last-step =
-    by-rows (λ k x. points ≤ x .section → x .section ≤ steps → k ≤ 12) kinds
-    ((λ g h. lit≤ tt) and (λ g h. lit≤ tt) and (λ g h. lit≤ tt) and (λ g h. lit≤ tt) and (λ g h. lit≤ tt) and (λ g h. lit≤ tt) and (λ g h. lit≤ tt)
-    and (λ g h. lit≤ tt) and (λ g h. lit≤ tt) and (λ g h. lit≤ tt) and (λ g h. lit≤ tt) and (λ g h. lit≤ tt) and (λ g h. lit≤ tt) and high and high and (λ i. none))
-  where
-    none : {A : Type 0} → 2 ≤ 0 → A
-    none g = absurd (omega arith)
-
-    high : {A B : Type 0} → A → 5 ≤ 4 → B
-    high g h = absurd (omega arith)
-
 -- the records of conditions and of certificates name nothing
 pub names-nothing : (events : ℕ) (counted : ℕ → ℕ) (k : ℕ) → (2 ≤ sectionOf k → sectionOf k ≤ 4 → ⊥) → (vs : List ℕ) → allExist events counted (kindOf k .fields) vs ≡ true
 names-nothing events counted =
-    by-rows (λ k x. (2 ≤ x .section → x .section ≤ 4 → ⊥) → (vs : List ℕ) → allExist events counted (x .fields) vs ≡ true) kinds
+    by-rows (λ k x. (2 ≤ x .section → x .section ≤ 4 → ⊥) → (vs : List ℕ) → allExist events counted (x .fields) vs ≡ true)
     (none and (λ h. a-leaf) and none and none and none and none and none and (λ h. absurd (h (lit≤ tt) (lit≤ tt))) and (λ h. absurd (h (lit≤ tt) (lit≤ tt))) and (λ h. absurd (h (lit≤ tt) (lit≤ tt)))
     and (λ h. absurd (h (lit≤ tt) (lit≤ tt))) and (λ h. absurd (h (lit≤ tt) (lit≤ tt))) and (λ h. absurd (h (lit≤ tt) (lit≤ tt)))
     and (λ h. pair-fields) and none and (λ i. none))

@@ -1,7 +1,6 @@
 pub mod Refusal
 pub mod Found
 pub mod Kinds
-pub mod Names
 pub mod Pairs
 pub mod Symbols
 pub mod Values

@@ -1,8 +1,12 @@
 -- The point, the method and the step that a value of the code stands for.
 use mathlib.Core.Path.{_≡_}
 use mathlib.Core.Option.{none, some}
+use mathlib.Core.List.{List}
+use Prim.Native.Nat.{ℕ, _+_}
+use Rattle.sheet.specs.AtOffset.{shortAt}
 use Rattle.sheet.specs.Sheet as sheet
 use Rattle.sheet.specs.Sheet.{event-step, call-step, pass-step}
+use Rattle.format.specs.declared.values.Three.{Three}
 use Rattle.format.specs.declared.values.Point.{Point}
 use Rattle.format.specs.declared.values.Declaration.{Declaration}
 use Rattle.format.specs.declared.values.Body.{Body}
@@ -11,6 +15,12 @@ use Rattle.format.specs.declared.values.Method.the-variants.{Primitive, 
 use Rattle.format.specs.declared.values.CallStep.{CallStep}
 use Rattle.format.specs.declared.values.Step.{Step}
 use Rattle.format.specs.declared.values.Step.the-variants.{Event, Call, Pass}
+
+-- the first three fields of the record at the offset
+pub record ThreeAt (x : Three) (s : List ℕ) (at : ℕ) : Type 0 where
+  pub first-is : x .first ≡ shortAt s (at + 1)
+  pub second-is : x .second ≡ shortAt s (at + 3)
+  pub third-is : x .third ≡ shortAt s (at + 5)
 
 abbrev pub pointValue : Point → sheet.Point
 pointValue x = record { past = x .past; own = x .own; due = x .due }

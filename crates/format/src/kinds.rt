@@ -1,8 +1,8 @@
-// What reading asks of a kind: its section, and what it is to an open condition or certificate.
+// The kinds by name, and what reading asks of a kind: its section, and what it is to an open condition or certificate.
 ghost use mathlib.Core.Path.{_≡_};
 ghost use Prim.Native.Nat.{_≤_};
 ghost use Rattle.sheet.specs.Kind.{kindOf, sectionOf};
-ghost use Rattle.format.specs.Kinds.{lastKind, countsOne, takesItems, leafKind, primitiveKind};
+ghost use Rattle.format.specs.Kinds.{lastKind, countsOne, takesItems, leafKind, primitiveKind, bodyKind, eventKind, callKind};
 
 // The sections in their order, each called by what is counted in it.
 pub const CONDITIONS: u8 = 1;
@@ -14,6 +14,29 @@ pub const METHODS: u8 = 3;
 pub const STEPS: u8 = 4;
 
 pub const CERTIFICATES: u8 = 5;
+
+// The kinds of symbols: a leaf, EMPTY, JOIN, EITHER, STAR.
+pub const LEAF: u8 = 1;
+
+pub const EMPTY: u8 = 2;
+
+pub const JOIN: u8 = 3;
+
+pub const EITHER: u8 = 4;
+
+pub const STAR: u8 = 5;
+
+// The kinds of a primitive, of a method with body, of an event step and of a call step.
+pub const PRIMITIVE: u8 = 8;
+
+pub const WITH_BODY: u8 = 9;
+
+pub const EVENT: u8 = 10;
+
+pub const CALL: u8 = 11;
+
+// The kind of a pair.
+pub const PAIR: u8 = 13;
 
 pub fn section_of(kind: u8) -> u8
     requires { ⌜ (1 ≤ kind) × (kind ≤ lastKind) ⌝ }
@@ -40,7 +63,7 @@ pub fn counts(kind: u8) -> bool
     if kind < 6 {
         return false;
     }
-    kind != 13
+    kind != PAIR
 }
 
 // How many items of a condition a record of the kind takes: JOIN and EITHER two, STAR one.
@@ -48,9 +71,9 @@ pub fn items_taken(kind: u8) -> usize
     ensures { λ r. ⌜ r ≡ takesItems (kindOf kind .role) ⌝ }
 {
     match kind {
-        3 => 2,
-        4 => 2,
-        5 => 1,
+        JOIN => 2,
+        EITHER => 2,
+        STAR => 1,
         _ => 0,
     }
 }
@@ -58,11 +81,29 @@ pub fn items_taken(kind: u8) -> usize
 pub fn is_leaf(kind: u8) -> bool
     ensures { λ r. ⌜ r ≡ leafKind kind ⌝ }
 {
-    kind == 1
+    kind == LEAF
 }
 
 pub fn is_primitive(kind: u8) -> bool
     ensures { λ r. ⌜ r ≡ primitiveKind kind ⌝ }
 {
-    kind == 8
+    kind == PRIMITIVE
+}
+
+pub fn has_body(kind: u8) -> bool
+    ensures { λ r. ⌜ r ≡ bodyKind kind ⌝ }
+{
+    kind == WITH_BODY
+}
+
+pub fn is_event(kind: u8) -> bool
+    ensures { λ r. ⌜ r ≡ eventKind kind ⌝ }
+{
+    kind == EVENT
+}
+
+pub fn is_call(kind: u8) -> bool
+    ensures { λ r. ⌜ r ≡ callKind kind ⌝ }
+{
+    kind == CALL
 }

@@ -8,7 +8,6 @@ use fields::byte_at;
 use fields::index;
 
 pub mod kinds; // kinds.rt: what reading asks of a kind
-pub mod names; // names.rt: whether what a record names exists
 pub mod listing; // listing.rt: the pairs of a certificate
 pub mod symbols; // symbols.rt: the symbols of a condition
 pub mod values; // values.rt: points, methods and steps as values

@@ -2,10 +2,11 @@
 ghost use mathlib.Core.Path.{_≡_};
 ghost use Prim.Native.Nat.{_-_};
 ghost use Rattle.format.specs.Pairs.{listedAt};
+use crate::kinds::PAIR;
 use fields::byte_at;
 use fields::index;
 use fields::set_at;
-use fields::set_of;
+use fields::set_inside;
 
 // The bytes of a pair, and of the end of a certificate.
 pub const PAIR_BYTES: usize = 6;
@@ -37,16 +38,16 @@ pub fn listed_at(s: &[u8], at: usize) -> Listed
 {
     if at < whole_below(s.len()) {
         return Listed {
-            there: s[at] == 13,
+            there: s[at] == PAIR,
             pair: Pair {
                 place: index(s[at + 1]),
-                set: set_of(s[at + 2], s[at + 3], s[at + 4], s[at + 5]),
+                set: set_inside(s, at + 2),
             },
         };
     }
     if at < s.len() {
         return Listed {
-            there: s[at] == 13,
+            there: s[at] == PAIR,
             pair: Pair {
                 place: index(byte_at(s, at + 1)),
                 set: set_at(s, at + 2),

@@ -3,17 +3,13 @@ ghost use mathlib.Core.Path.{_≡_};
 ghost use Prim.Native.Nat.{_<_};
 ghost use lib.ListN.{length};
 ghost use Rattle.sheet.specs.AtOffset.{pointAt, methodAt, stepAt};
-ghost use Rattle.format.specs.Values.{pointValue, Declares, methodValue, stepValue};
+ghost use Rattle.format.specs.Values.{ThreeAt, pointValue, Declares, methodValue, stepValue};
+use crate::kinds::CALL;
+use crate::kinds::EVENT;
+use crate::kinds::PRIMITIVE;
 use fields::byte_at;
 use fields::index;
 use fields::short_at;
-
-// The kinds of a primitive, of an event step and of a call step.
-const PRIMITIVE: u8 = 8;
-
-const EVENT: u8 = 10;
-
-const CALL: u8 = 11;
 
 // A point's conditions, by their numbers.
 pub struct Point {
@@ -60,14 +56,33 @@ pub enum Step {
     },
 }
 
+// The three conditions that a point or a method names first, by their numbers.
+struct Three {
+    first: usize,
+    second: usize,
+    third: usize,
+}
+
+fn three_at(s: &[u8], at: usize) -> Three
+    requires { ⌜ at < length (now s) ⌝ }
+    ensures { λ r. ⌜ ThreeAt r (now (s .entry)) at ⌝ }
+{
+    Three {
+        first: short_at(s, at + 1),
+        second: short_at(s, at + 3),
+        third: short_at(s, at + 5),
+    }
+}
+
 pub fn point_at(s: &[u8], at: usize) -> Point
     requires { ⌜ at < length (now s) ⌝ }
     ensures { λ r. ⌜ pointValue r ≡ pointAt (now (s .entry)) at ⌝ }
 {
+    let named = three_at(s, at);
     Point {
-        past: short_at(s, at + 1),
-        own: short_at(s, at + 3),
-        due: short_at(s, at + 5),
+        past: named.first,
+        own: named.second,
+        due: named.third,
     }
 }
 
@@ -75,10 +90,11 @@ pub fn declaration_at(s: &[u8], at: usize) -> Declaration
     requires { ⌜ at < length (now s) ⌝ }
     ensures { λ r. ⌜ Declares r (methodAt (now (s .entry)) at) ⌝ }
 {
+    let named = three_at(s, at);
     Declaration {
-        pre: short_at(s, at + 1),
-        trace: short_at(s, at + 3),
-        future: short_at(s, at + 5),
+        pre: named.first,
+        trace: named.second,
+        future: named.third,
     }
 }
 

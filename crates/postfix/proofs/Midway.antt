@@ -126,22 +126,6 @@ going-start s from floor base room rows = record {
       };
 }
 
-pub one-leaf : (y : value.Symbol) → leavesIn y ≤ 1
-one-leaf None = omega arith
-one-leaf (Leaf set) = omega arith
-one-leaf Empty = omega arith
-one-leaf Join = omega arith
-one-leaf Either = omega arith
-one-leaf Star = omega arith
-
-pub few-items : (y : value.Symbol) → itemsTaken y ≤ 2
-few-items None = omega arith
-few-items (Leaf set) = omega arith
-few-items Empty = omega arith
-few-items Join = omega arith
-few-items Either = omega arith
-few-items Star = omega arith
-
 pub few-bytes : (y : value.Symbol) → bytesOf y ≤ 5
 few-bytes None = omega arith
 few-bytes (Leaf set) = omega arith
@@ -189,18 +173,16 @@ module _ {floor d m most : ℕ} (low : floor ≤ d) (few : m ≤ most) (high : d
   pub fits-empty : {y : value.Symbol} → y ≡ Empty → ltb d (floor + 48) ≡ fitting y floor d m most
   fits-empty e = rw e (simp (le-leb (floor + 0) d (omega arith), le-leb (m + 0) most (omega arith)) room-is)
 
-  pub fits-leaf : {y : value.Symbol} {x l : ℕ} → y ≡ Leaf x → l ≡ leavesIn y → (leb (m + l) most && ltb d (floor + 48)) ≡ fitting y floor d m most
-  fits-leaf {y} {x} {l} e h =
-      let one : l ≡ 1 = h ∙ ap (λ (y : value.Symbol). leavesIn y) e in
-      rw (e, one) (simp (le-leb (floor + 0) d (omega arith)) (ap (λ (b : Bool). leb (m + 1) most && b) room-is))
+  pub fits-leaf : {y : value.Symbol} {x : ℕ} → y ≡ Leaf x → (leb (m + 1) most && ltb d (floor + 48)) ≡ fitting y floor d m most
+  fits-leaf e = rw e (simp (le-leb (floor + 0) d (omega arith)) (ap (λ (b : Bool). leb (m + 1) most && b) room-is))
 
   -- one that has no leaf
-  pub fits-taking : {y : value.Symbol} {i : ℕ} (z : value.Symbol) → isSymbol z ≡ true → leavesIn z ≡ 0 → 0 < itemsTaken z → y ≡ z → i ≡ itemsTaken y
+  pub fits-taking : {y : value.Symbol} {i : ℕ} (z : value.Symbol) → isSymbol z ≡ true → leavesIn z ≡ 0 → 0 < itemsTaken z → y ≡ z → i ≡ itemsTaken z
       → leb (floor + i) d ≡ fitting y floor d m most
   fits-taking {y} {i} z one leafless takes e h =
       let few′ : m + leavesIn z ≤ most = omega arith in
       let high′ : d + 1 ≤ floor + 48 + itemsTaken z = omega arith in
-      rw (h, e) (simp (one, le-leb (m + leavesIn z) most few′, le-leb (d + 1) (floor + 48 + itemsTaken z) high′, and-true (leb (floor + itemsTaken z) d)))
+      rw (e, h) (simp (one, le-leb (m + leavesIn z) most few′, le-leb (d + 1) (floor + 48 + itemsTaken z) high′, and-true (leb (floor + itemsTaken z) d)))
 
 module _ {s : List ℕ} {from : ℕ} {Entry : List Condition → Type 0} {N : List Bool} {A L F S : List ℕ} {floor base d m at n : ℕ}
     (g : Going s from Entry N A L F S floor base d m at n) {y : value.Symbol} (here : IsSymbolAt s at y) (f : Fit y floor d m (base + 31)) where

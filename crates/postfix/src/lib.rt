@@ -8,10 +8,12 @@ ghost use Rattle.items.specs.Stack.{Roomy, Rows, Turned};
 ghost use Rattle.postfix.specs.Parts.{StandsAt, PartIs, Pushed};
 use bits::bit;
 use bits::both;
+use format::kinds::EITHER;
+use format::kinds::JOIN;
+use format::kinds::STAR;
+use format::kinds::items_taken;
 use format::symbols::Symbol;
 use format::symbols::bytes_of;
-use format::symbols::items_taken;
-use format::symbols::leaves_in;
 use format::symbols::symbol_at;
 use items::either_top;
 use items::join_top;
@@ -97,11 +99,11 @@ fn fits(symbol: Symbol, floor: usize, top: Height, most: usize) -> bool
     let room = depth < floor + 48;
     match symbol {
         Symbol::None => false,
-        Symbol::Leaf(_) => both(leaves + leaves_in(symbol) <= most, room),
+        Symbol::Leaf(_) => both(leaves + 1 <= most, room),
         Symbol::Empty => room,
-        Symbol::Join => floor + items_taken(symbol) <= depth,
-        Symbol::Either => floor + items_taken(symbol) <= depth,
-        Symbol::Star => floor + items_taken(symbol) <= depth,
+        Symbol::Join => floor + items_taken(JOIN) <= depth,
+        Symbol::Either => floor + items_taken(EITHER) <= depth,
+        Symbol::Star => floor + items_taken(STAR) <= depth,
     }
 }
 

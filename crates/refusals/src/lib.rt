@@ -8,6 +8,8 @@ use format::kinds::counts;
 use format::kinds::is_leaf;
 use format::kinds::items_taken;
 
+pub mod names; // names.rt: whether what a record names exists
+
 // What is begun of a condition: its items, its symbols and its leaves so far.
 pub struct Begun {
     pub items: usize,

@@ -1,5 +1,5 @@
 -- `set_at` meets its contract: the four bytes are read at once where they are there, each by itself near the end.
-use mathlib.Core.Path.{sym, _∙_}
+use mathlib.Core.Path.{sym}
 use Rattle.sheet.specs.Record.{byteAt}
 use Rattle.fields.proofs.Laws.{set-past, set-is}
 use borrow.Author.Needs.{needs}
@@ -9,36 +9,14 @@ use Rattle.fields.proofs.set_at.Tie as tie
 sub-if2 : tie.Need-sub-if2
 sub-if2 c = search needs
 
-shared-slice-read-set-of : tie.Need-shared-slice-read-set-of
-shared-slice-read-set-of c = search needs
-
-add-set-of : tie.Need-add-set-of
-add-set-of c = search needs
-
-shared-slice-read-set-of-2 : tie.Need-shared-slice-read-set-of-2
-shared-slice-read-set-of-2 c = search needs
-
-add-set-of-2 : tie.Need-add-set-of-2
-add-set-of-2 c = search needs
-
-shared-slice-read-set-of-3 : tie.Need-shared-slice-read-set-of-3
-shared-slice-read-set-of-3 c = search needs
-
-add-set-of-3 : tie.Need-add-set-of-3
-add-set-of-3 c = search needs
-
-shared-slice-read-set-of-4 : tie.Need-shared-slice-read-set-of-4
-shared-slice-read-set-of-4 c = search needs
-
-set-of-requires : tie.Need-set-of-requires
-set-of-requires c κs = search needs
+set-inside-requires : tie.Need-set-inside-requires
+set-inside-requires c κs = search needs
 
 returns : tie.Need-returns
-unfolding byteAt
-returns c = let a = c .before .before .before .before .before .before .before .before .args in c .set-of .ensures ∙ sym (set-is (a .s .now) (a .i))
+returns c = c .set-inside .ensures
 
-shared-slice-read-set-of-5 : tie.Need-shared-slice-read-set-of-5
-shared-slice-read-set-of-5 c = search needs
+shared-slice-read-set-of : tie.Need-shared-slice-read-set-of
+shared-slice-read-set-of c = search needs
 
 add-byte-at : tie.Need-add-byte-at
 add-byte-at c = search needs
@@ -58,8 +36,8 @@ add-byte-at-3 c = search needs
 byte-at-requires-3 : tie.Need-byte-at-requires-3
 byte-at-requires-3 c κs = search needs
 
-set-of-requires-2 : tie.Need-set-of-requires-2
-set-of-requires-2 c κs = search needs
+set-of-requires : tie.Need-set-of-requires
+set-of-requires c κs = search needs
 
 returns-2 : tie.Need-returns-2
 unfolding byteAt
@@ -73,22 +51,15 @@ set-at-spec =
     tie.close
     (tie.spec
     sub-if2
-    shared-slice-read-set-of
-    add-set-of
-    shared-slice-read-set-of-2
-    add-set-of-2
-    shared-slice-read-set-of-3
-    add-set-of-3
-    shared-slice-read-set-of-4
-    set-of-requires
+    set-inside-requires
     returns
-    shared-slice-read-set-of-5
+    shared-slice-read-set-of
     add-byte-at
     byte-at-requires
     add-byte-at-2
     byte-at-requires-2
     add-byte-at-3
     byte-at-requires-3
-    set-of-requires-2
+    set-of-requires
     returns-2
     returns-3)

@@ -2,7 +2,7 @@
 use mathlib.Core.Path.{refl, _∙_}
 use native.Mathlib.Omega.{arith}
 use Rattle.format.specs.declared.symbols.Symbol.the-variants.{Join, Either, Star}
-use Rattle.postfix.proofs.Midway.{one-leaf, few-items, fits-none, fits-leaf, fits-empty, fits-taking}
+use Rattle.postfix.proofs.Midway.{fits-none, fits-leaf, fits-empty, fits-taking}
 use borrow.Author.Needs.{needs}
 use Rattle.postfix.proofs.fits.Statement.{statement}
 use Rattle.postfix.proofs.fits.Tie as tie
@@ -16,11 +16,8 @@ enum-told c = search needs
 enum-told-2 : tie.Need-enum-told-2
 enum-told-2 c = search needs
 
-leaves-in-requires : tie.Need-leaves-in-requires
-leaves-in-requires c κs = search needs
-
 add-both : tie.Need-add-both
-add-both c = let h = one-leaf (c .before .before .before .args .symbol) in search needs
+add-both c = search needs
 
 both-requires : tie.Need-both-requires
 both-requires c κs = search needs
@@ -35,7 +32,7 @@ items-taken-requires : tie.Need-items-taken-requires
 items-taken-requires c κs = search needs
 
 add-result : tie.Need-add-result
-add-result c = let h = few-items (c .before .before .before .args .symbol) in search needs
+add-result c = search needs
 
 enum-told-5 : tie.Need-enum-told-5
 enum-told-5 c = search needs
@@ -44,7 +41,7 @@ items-taken-requires-2 : tie.Need-items-taken-requires-2
 items-taken-requires-2 c κs = search needs
 
 add-result-2 : tie.Need-add-result-2
-add-result-2 c = let h = few-items (c .before .before .before .args .symbol) in search needs
+add-result-2 c = search needs
 
 enum-told-6 : tie.Need-enum-told-6
 enum-told-6 c = search needs
@@ -53,15 +50,15 @@ items-taken-requires-3 : tie.Need-items-taken-requires-3
 items-taken-requires-3 c κs = search needs
 
 add-result-3 : tie.Need-add-result-3
-add-result-3 c = let h = few-items (c .before .before .before .args .symbol) in search needs
+add-result-3 c = search needs
 
 returns : tie.Need-returns
 returns c = let h = c .before .before .pre in fits-none (h .1) (h .2) (h .4) (c .enum-told .given .1)
 
 returns-2 : tie.Need-returns-2
 returns-2 c =
-    let h = c .before .before .before .before .pre in
-    c .both .ensures ∙ fits-leaf (h .1) (h .2) (h .4) (c .before .before .enum-told2 .given .1) (c .before .leaves-in .ensures)
+    let h = c .before .before .before .pre in
+    c .both .ensures ∙ fits-leaf (h .1) (h .2) (h .4) (c .before .enum-told2 .given .1)
 
 returns-3 : tie.Need-returns-3
 returns-3 c = let h = c .before .before .pre in fits-empty (h .1) (h .2) (h .4) (c .enum-told3 .given .1)
@@ -88,7 +85,6 @@ fits-spec =
     add-room
     enum-told
     enum-told-2
-    leaves-in-requires
     add-both
     both-requires
     enum-told-3

@@ -1,7 +1,7 @@
 -- `listed_at` meets its contract: the bytes are read at once where a whole pair is there, each by itself near the end.
-use mathlib.Core.Path.{refl, sym, _∙_}
+use mathlib.Core.Path.{refl, _∙_}
 use Rattle.sheet.specs.Record.{byteAt}
-use Rattle.format.proofs.Pairs.{pair-set, listed-by, listed-past}
+use Rattle.format.proofs.Pairs.{listed-by, listed-past}
 use borrow.Author.Needs.{needs}
 use Rattle.format.proofs.listing.listed_at.Statement.{statement}
 use Rattle.format.proofs.listing.listed_at.Tie as tie
@@ -21,40 +21,18 @@ shared-slice-read-index c = search needs
 index-requires : tie.Need-index-requires
 index-requires c κs = search needs
 
-add-set-of : tie.Need-add-set-of
-add-set-of c = search needs
+add-set-inside : tie.Need-add-set-inside
+add-set-inside c = search needs
 
-shared-slice-read-set-of : tie.Need-shared-slice-read-set-of
-shared-slice-read-set-of c = search needs
-
-add-set-of-2 : tie.Need-add-set-of-2
-add-set-of-2 c = search needs
-
-shared-slice-read-set-of-2 : tie.Need-shared-slice-read-set-of-2
-shared-slice-read-set-of-2 c = search needs
-
-add-set-of-3 : tie.Need-add-set-of-3
-add-set-of-3 c = search needs
-
-shared-slice-read-set-of-3 : tie.Need-shared-slice-read-set-of-3
-shared-slice-read-set-of-3 c = search needs
-
-add-set-of-4 : tie.Need-add-set-of-4
-add-set-of-4 c = search needs
-
-shared-slice-read-set-of-4 : tie.Need-shared-slice-read-set-of-4
-shared-slice-read-set-of-4 c = search needs
-
-set-of-requires : tie.Need-set-of-requires
-set-of-requires c κs = search needs
+set-inside-requires : tie.Need-set-inside-requires
+set-inside-requires c κs = search needs
 
 returns : tie.Need-returns
 unfolding byteAt
-returns c = let a = c .before .before .before .before .before .before .before .before .before .before .before .args in
-    listed-by (a .s .now) (a .at) refl (c .before .before .before .before .before .index .ensures) (c .set-of .ensures ∙ sym (pair-set (a .s .now) (a .at)))
+returns c = listed-by _ _ refl (c .before .index .ensures) (c .set-inside .ensures)
 
-shared-slice-read-t28 : tie.Need-shared-slice-read-t28
-shared-slice-read-t28 c = search needs
+shared-slice-read-t17 : tie.Need-shared-slice-read-t17
+shared-slice-read-t17 c = search needs
 
 add-byte-at : tie.Need-add-byte-at
 add-byte-at c = search needs
@@ -87,17 +65,10 @@ listed-at-spec =
     add-index
     shared-slice-read-index
     index-requires
-    add-set-of
-    shared-slice-read-set-of
-    add-set-of-2
-    shared-slice-read-set-of-2
-    add-set-of-3
-    shared-slice-read-set-of-3
-    add-set-of-4
-    shared-slice-read-set-of-4
-    set-of-requires
+    add-set-inside
+    set-inside-requires
     returns
-    shared-slice-read-t28
+    shared-slice-read-t17
     add-byte-at
     byte-at-requires
     index-requires-2

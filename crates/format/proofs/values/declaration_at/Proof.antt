@@ -3,36 +3,12 @@ use borrow.Author.Needs.{needs}
 use Rattle.format.proofs.values.declaration_at.Statement.{statement}
 use Rattle.format.proofs.values.declaration_at.Tie as tie
 
-add-short-at : tie.Need-add-short-at
-add-short-at c = search needs
-
-short-at-requires : tie.Need-short-at-requires
-short-at-requires c κs = search needs
-
-add-short-at-2 : tie.Need-add-short-at-2
-add-short-at-2 c = search needs
-
-short-at-requires-2 : tie.Need-short-at-requires-2
-short-at-requires-2 c κs = search needs
-
-add-short-at-3 : tie.Need-add-short-at-3
-add-short-at-3 c = search needs
-
-short-at-requires-3 : tie.Need-short-at-requires-3
-short-at-requires-3 c κs = search needs
+three-at-requires : tie.Need-three-at-requires
+three-at-requires c κs = search needs
 
 returns : tie.Need-returns
 unfolding methodAt
-returns c = record { pre-is = c .before .before .short-at .ensures; trace-is = c .before .short-at2 .ensures; future-is = c .short-at3 .ensures }
+returns c = let h = c .three-at .ensures in record { pre-is = h .first-is; trace-is = h .second-is; future-is = h .third-is }
 
 pub declaration-at-spec : {M : Type 1} → statement M
-declaration-at-spec =
-    tie.close
-    (tie.spec
-    add-short-at
-    short-at-requires
-    add-short-at-2
-    short-at-requires-2
-    add-short-at-3
-    short-at-requires-3
-    returns)
+declaration-at-spec = tie.close (tie.spec three-at-requires returns)

@@ -1,16 +1,23 @@
 // Whether what a record names exists: names point only backward.
 ghost use mathlib.Core.Path.{_≡_};
-ghost use Prim.Native.Nat.{ℕ, _+_, _≤_};
+ghost use Prim.Native.Nat.{_+_, _≤_};
 ghost use lib.ListN.{length};
 ghost use lib.Dec.{ltb};
 ghost use Rattle.sheet.specs.Kind.{kindOf};
 ghost use Rattle.sheet.specs.Record.{recordAt};
 ghost use Rattle.sheet.specs.AtOffset.{shortAt};
 ghost use Rattle.sheet.specs.Reading.{allExist};
-ghost use Rattle.format.specs.Names.{Named, twoBelow, threeBelow};
+ghost use Rattle.tally.specs.Tally.{countOf};
+ghost use Rattle.refusals.specs.Names.{Named, twoBelow, threeBelow};
 use bits::both;
 use fields::index;
 use fields::short_inside;
+use format::kinds::STEPS;
+use format::kinds::has_body;
+use format::kinds::is_call;
+use format::kinds::is_event;
+use format::kinds::section_of;
+use tally::Tally;
 
 // The name at an offset, and two and three one after the other, are of the first n.
 fn below(s: &[u8], i: usize, n: usize) -> bool
@@ -34,33 +41,24 @@ fn three_below(s: &[u8], i: usize, n: usize) -> bool
     both(below(s, i, n), two_below(s, i + 2, n))
 }
 
-// What a point, a method or a step names is of the first so many conditions, points and methods, and its event of the first so many events.
-pub fn names_exist(
-    s: &[u8],
-    at: usize,
-    kind: u8,
-    conditions: usize,
-    points: usize,
-    methods: usize,
-    events: usize,
-) -> bool
+// What a point, a method or a step names is counted in the tally, and its event is of the first `events`.
+pub fn names_exist(s: &[u8], at: usize, kind: u8, tally: Tally, events: usize) -> bool
     requires { ⌜ Named (now s) at kind ⌝ }
-    ensures { λ r. ⌜ ((counted : ℕ → ℕ) → counted 1 ≡ conditions → counted 2 ≡ points → counted 3 ≡ methods
-        → r ≡ allExist events counted (kindOf kind .fields) (recordAt (now (s .entry)) at .values)) ⌝ }
+    ensures { λ r. ⌜ r ≡ allExist events (countOf tally) (kindOf kind .fields) (recordAt (now (s .entry)) at .values) ⌝ }
 {
-    if kind < 10 {
-        let named = three_below(s, at + 1, conditions);
-        if kind < 9 {
-            return named;
+    if section_of(kind) < STEPS {
+        let named = three_below(s, at + 1, tally.conditions);
+        if has_body(kind) {
+            return both(named, two_below(s, at + 7, tally.points));
         }
-        return both(named, two_below(s, at + 7, points));
+        return named;
     }
-    let named = two_below(s, at + 1, points);
-    if kind == 10 {
+    let named = two_below(s, at + 1, tally.points);
+    if is_event(kind) {
         return both(named, index(s[at + 5]) < events);
     }
-    if kind == 11 {
-        return both(named, below(s, at + 5, methods));
+    if is_call(kind) {
+        return both(named, below(s, at + 5, tally.methods));
     }
     named
 }
