@@ -1,9 +1,2 @@
-pub mod Overwritten
-pub mod Comes
-pub mod Counted
-pub mod Tests
-pub mod Alone
-pub mod Opening
-pub mod Ending
 pub mod Whole
 pub mod Limits

@@ -1,23 +1,23 @@
 -- From section to section: each reader's answer is what the next one starts with, and at the end all tables hold what was read.
 use mathlib.Core.Path.{_≡_, refl, sym, ap, _∙_, subst}
-use mathlib.Core.List.{List, [], _∷_, _++_}
+use mathlib.Core.List.{List, [], _++_}
 use Prim.Native.Nat.{ℕ, zero, suc, _≤_, _<_}
 use native.Mathlib.Omega.{arith}
 use lib.ListN.{length}
-use lib.Dec.{eqb, eqb·suc-zero}
+use lib.Dec.{eqb}
 use Rattle.sheet.specs.Model.{Model}
-use Rattle.sheet.specs.Reading.{Counted, Reading, fresh, tally, startsOf, noneYet, Outcome, stateOf, readFrom, readSheet}
+use Rattle.sheet.specs.Reading.{Counted, Reading, fresh, tally, startsOf, Outcome, stateOf, readFrom, readSheet}
 use Rattle.format.specs.declared.Refusal.{Refusal}
 use Rattle.format.specs.declared.Refusal.the-variants.{TooLong}
 use Rattle.tally.specs.declared.Tally.{Tally}
 use Rattle.tally.specs.Tally.{countOf, nothingCounted}
-use Rattle.reader.specs.declared.Section.{Section}
-use Rattle.reader.specs.declared.Section.the-variants.{Done, Refused}
-use Rattle.reader.specs.declared.Read.{Read}
-use Rattle.reader.specs.declared.Read.the-variants as read
-use Rattle.reader.specs.Contract.{Counts, Ends, lastState, Answered, overwritten, TablesFilled, Reads}
-use Rattle.reader.specs.Sections.{Comes, Told, overwrittenFrom, Extended, Filled, Answers, Concluded}
-use Rattle.reader.proofs.Comes.{too-long, begins}
+use Rattle.sections.specs.declared.Section.{Section}
+use Rattle.sections.specs.declared.Section.the-variants.{Done, Refused}
+use Rattle.sections.specs.declared.Read.{Read}
+use Rattle.sections.specs.declared.Read.the-variants as read
+use Rattle.sections.specs.Sections.{Counts, Ends, overwritten, Comes, Told, overwrittenFrom, Extended, Filled, Answers, Concluded}
+use Rattle.sections.proofs.Comes.{too-long, begins}
+use Rattle.reader.specs.Contract.{lastState, Answered, TablesFilled, Reads}
 
 read-is : (M : Model) (s : List ℕ) → readSheet M s ≡ readFrom M fresh s
 unfolding readSheet
@@ -129,15 +129,11 @@ module _ {M : Model} {s : List ℕ} {t₀ : Tally} {a₁ a₂ a₃ a₄ : Sectio
     pub certificates-le : t .certificates ≤ at
     certificates-le = omega (arith, counted 5, ap (λ (xs : List Counted). length xs) no-certificates)
 
-    no-method : noneYet (u .own 3) ≡ eqb (t .methods) 0
-    no-method = go (u .own 3) (counted 3)
-      where
-        go : (xs : List Counted) → t .methods ≡ length xs → noneYet xs ≡ eqb (t .methods) 0
-        go [] n = sym (ap (λ (n : ℕ). eqb n 0) n)
-        go (x ∷ xs) n = sym (ap (λ (n : ℕ). eqb n 0) n ∙ eqb·suc-zero (length xs))
+    no-method : eqb (length (u .own 3)) 0 ≡ eqb (t .methods) 0
+    no-method = ap (λ (n : ℕ). eqb n 0) (sym (counted 3))
 
     -- .. in the certificates, or with them
-    pub concludes : {r : Read} → ((o : Outcome) (u : Reading) → Told M s o 5 (Done at t) u → u .own 5 ≡ [] → noneYet (u .own 3) ≡ eqb (t .methods) 0 → Concluded s o u r)
+    pub concludes : {r : Read} → ((o : Outcome) (u : Reading) → Told M s o 5 (Done at t) u → u .own 5 ≡ [] → eqb (length (u .own 3)) 0 ≡ eqb (t .methods) 0 → Concluded s o u r)
         → Reads M s r c₀ c p₀ p m₀ m e₀ e
     concludes {r} read-on = go r (read-on o u comes-there no-certificates no-method)
       where

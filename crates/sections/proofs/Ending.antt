@@ -1,5 +1,5 @@
 -- The section of certificates, and the end of the sheet.
-use mathlib.Core.Path.{_≡_, refl, sym, ap, _∙_, subst}
+use mathlib.Core.Path.{_≡_, refl, sym, ap, ap₂, _∙_, subst}
 use mathlib.Core.Bool.{Bool, true, false, cond}
 use mathlib.Core.List.{List, [], _∷_, _++_}
 use Prim.Native.Nat.{ℕ, _≤_, _<_}
@@ -10,7 +10,7 @@ use borrow.Author.Tests.{ne-eqb, eq-eqb, ltb-false}
 use Rattle.sheet.specs.Model.{Model}
 use Rattle.sheet.specs.Kind.{Role, symbol, a-pair, counts, kindOf, sectionOf}
 use Rattle.sheet.specs.Record.{byteAt, recordAt}
-use Rattle.sheet.specs.Reading.{Opened, Counted, Reading, tally, startOf, startsOf, wrongItems, full, overLimit, noneYet, openedPast, Outcome, whole, refusedOr, takeAt}
+use Rattle.sheet.specs.Reading.{Opened, Counted, Reading, tally, startOf, startsOf, wrongItems, full, overLimit, refusalOf, openedPast, pastAt, Outcome, whole, refusal}
 use Rattle.sheet.proofs.Order.{is-4, is-5, is-6, takes}
 use Rattle.format.specs.declared.Refusal.{Refusal}
 use Rattle.format.specs.declared.Refusal.the-variants.{WrongSection, Unfinished, NoFirstBody}
@@ -19,14 +19,13 @@ use Rattle.format.proofs.Table.{section-high, Suits, suits, names-nothing}
 use Rattle.format.proofs.Laws.{Stood, Refuses}
 use Rattle.tally.specs.declared.Tally.{Tally}
 use Rattle.tally.specs.Tally.{tallyAfter}
-use Rattle.reader.specs.declared.Section.the-variants.{Done}
-use Rattle.reader.specs.declared.Read.{Read}
-use Rattle.reader.specs.declared.Read.the-variants.{Whole, Refused}
-use Rattle.reader.specs.Contract.{Counts}
-use Rattle.reader.specs.Sections.{Comes, Told, Answers, Concluded}
-use Rattle.reader.proofs.Comes.{ended, refuses, taken-on}
-use Rattle.reader.proofs.Counted.{at-is, pastIt, own-same, counts-same, closed, others, starts, counts-more}
-use Rattle.reader.proofs.Tests.{and-left, section-is, not-3, early, in-order, no-method}
+use Rattle.sections.specs.declared.Section.the-variants.{Done}
+use Rattle.sections.specs.declared.Read.{Read}
+use Rattle.sections.specs.declared.Read.the-variants.{Whole, Refused}
+use Rattle.sections.specs.Sections.{Counts, Comes, Told, Answers, Concluded}
+use Rattle.sections.proofs.Comes.{ended, refuses, taken-on}
+use Rattle.sections.proofs.Counted.{at-is, own-same, counts-same, closed, others, starts, counts-more}
+use Rattle.sections.proofs.Tests.{and-left, section-is, not-3, early, in-order, no-method}
 
 -- what the loop keeps: whether a certificate is open, and that the first one starts where the section does
 pub record Ending (M : Model) (s : List ℕ) (o : Outcome) (r : Reading) (from at : ℕ) (t : Tally) (inside : Bool) : Type 0 where
@@ -36,12 +35,12 @@ pub record Ending (M : Model) (s : List ℕ) (o : Outcome) (r : Reading) (from a
   pub begun : at < length s → state .section < 5 → 5 ≤ sectionOf (byteAt s at)
   pub counts : Counts state t
   pub others : (j : ℕ) → (j ≡ 5 → ⊥) → state .own j ≡ r .own j
-  pub none-yet : noneYet (state .own 3) ≡ eqb (t .methods) 0
+  pub none-yet : eqb (length (state .own 3)) 0 ≡ eqb (t .methods) 0
   pub no-condition : eqb (state .opened .section) 1 ≡ false
   pub is-inside : ltb 0 (state .opened .section) ≡ inside
   pub first : getD (startsOf (state .own 5)) 0 (startOf (state .opened) at) ≡ from
 
-pub begin : {M : Model} {s : List ℕ} {o : Outcome} {r : Reading} {from : ℕ} {t : Tally} → Told M s o 5 (Done from t) r → r .own 5 ≡ [] → noneYet (r .own 3) ≡ eqb (t .methods) 0
+pub begin : {M : Model} {s : List ℕ} {o : Outcome} {r : Reading} {from : ℕ} {t : Tally} → Told M s o 5 (Done from t) r → r .own 5 ≡ [] → eqb (length (r .own 3)) 0 ≡ eqb (t .methods) 0
     → Ending M s o r from from t false
 begin {r = r} {from} (b, counted) none none-yet =
     record {
@@ -102,13 +101,13 @@ module _ {M : Model} {s : List ℕ} {o : Outcome} {r : Reading} {from at : ℕ} 
               ap (λ (k : ℕ). full M k (tally u k)) here,
             )
 
-        taken : takeAt M s at u ≡ whole (pastIt s at u)
+        taken : refusalOf M s at u ≡ 0
         taken =
             takes M s at u (w .not-2) (not-3 w u) not-4 (no-limit .0) (no-limit .1)
             (names-nothing (M .events) (tally u) (byteAt s at) (λ low high. omega (arith, here)) (recordAt s at .values)) (no-method w u (λ e. omega (arith, same)))
 
-        beyond : Comes M s o q (pastIt s at u)
-        beyond = subst (λ (q : ℕ). Comes M s o q (pastIt s at u)) (w .next) (taken-on (h .comes) before (pastIt s at u) taken (w .inside))
+        beyond : Comes M s o q (pastAt s at u)
+        beyond = taken-on (h .comes) before w taken
 
         counts-is : countsOne (kindOf (byteAt s at) .role) ≡ countsOne (kindOf kind .role)
         counts-is = ap (λ (k : ℕ). countsOne (kindOf k .role)) (w .kind)
@@ -117,19 +116,19 @@ module _ {M : Model} {s : List ℕ} {o : Outcome} {r : Reading} {from at : ℕ} 
         past-pair no-end =
             let goes-on = counts-is ∙ no-end in
             let same-own = own-same s at u goes-on in
-            let opened-is : pastIt s at u .opened ≡ openedPast (u .opened) (recordAt s at) 5 a-pair = opened-past goes-on in
+            let opened-is : pastAt s at u .opened ≡ openedPast (u .opened) (recordAt s at) 5 a-pair = opened-past goes-on in
             record {
-              state = pastIt s at u;
+              state = pastAt s at u;
               comes = beyond;
               section = omega (arith, here);
               begun = λ before low. absurd (omega (arith, here));
               counts = counts-same s at u goes-on (h .counts);
               others = λ j ne. ap (λ (own : ℕ → List Counted). own j) same-own ∙ h .others j ne;
-              none-yet = ap (λ (own : ℕ → List Counted). noneYet (own 3)) same-own ∙ h .none-yet;
+              none-yet = ap (λ (own : ℕ → List Counted). eqb (length (own 3)) 0) same-own ∙ h .none-yet;
               no-condition = ap (λ (o : Opened). eqb (o .section) 1) opened-is;
               is-inside = ap (λ (o : Opened). ltb 0 (o .section)) opened-is;
               first =
-                  ap (λ (own : ℕ → List Counted). getD (startsOf (own 5)) 0 (startOf (pastIt s at u .opened) q)) same-own
+                  ap (λ (own : ℕ → List Counted). getD (startsOf (own 5)) 0 (startOf (pastAt s at u .opened) q)) same-own
                   ∙ ap (λ (o : Opened). getD (startsOf (u .own 5)) 0 (startOf o q)) opened-is
                   ∙ ap (λ (i : ℕ). getD (startsOf (u .own 5)) 0 (startOf (u .opened) i)) (at-is s at) ∙ h .first;
             }
@@ -140,7 +139,7 @@ module _ {M : Model} {s : List ℕ} {o : Outcome} {r : Reading} {from at : ℕ} 
             by-role a-pair suit e = ap (λ (k : ℕ). openedPast (u .opened) (recordAt s at) k a-pair) here
             by-role counts suit e = absurd (subst T e tt)
 
-            opened-past : countsOne (kindOf (byteAt s at) .role) ≡ false → pastIt s at u .opened ≡ openedPast (u .opened) (recordAt s at) 5 a-pair
+            opened-past : countsOne (kindOf (byteAt s at) .role) ≡ false → pastAt s at u .opened ≡ openedPast (u .opened) (recordAt s at) 5 a-pair
             opened-past e = by-role (kindOf (byteAt s at) .role) (suits (byteAt s at)) e
 
         pub past-end : {t′ : Tally} → countsOne (kindOf kind .role) ≡ true → t′ ≡ tallyAfter t 5 → Ending M s o r from q t′ false
@@ -148,19 +147,19 @@ module _ {M : Model} {s : List ℕ} {o : Outcome} {r : Reading} {from at : ℕ} 
             let role = by-role (kindOf (byteAt s at) .role) (counts-is ∙ ends-here) in
             let closed-is = closed s at u role 5 here in
             record {
-              state = pastIt s at u;
+              state = pastAt s at u;
               comes = beyond;
               section = omega (arith, here);
               begun = λ before low. absurd (omega (arith, here));
-              counts = subst (Counts (pastIt s at u)) (sym after) (counts-more s at u role 5 here (omega arith) (omega arith) (h .counts));
+              counts = subst (Counts (pastAt s at u)) (sym after) (counts-more s at u role 5 here (omega arith) (omega arith) (h .counts));
               others = λ j ne. others s at u role 5 here j ne ∙ h .others j ne;
               none-yet =
-                  ap noneYet (others s at u role 5 here 3 (λ e. omega arith)) ∙ h .none-yet ∙ ap (λ (t : Tally). eqb (t .methods) 0) (sym after);
+                  ap (λ (xs : List Counted). eqb (length xs) 0) (others s at u role 5 here 3 (λ e. omega arith)) ∙ h .none-yet ∙ ap (λ (t : Tally). eqb (t .methods) 0) (sym after);
               no-condition = ap (λ (o : Opened). eqb (o .section) 1) closed-is;
               is-inside = ap (λ (o : Opened). ltb 0 (o .section)) closed-is;
               first =
-                  ap (λ (os : List ℕ). getD os 0 (startOf (pastIt s at u .opened) q)) (starts s at u role 5 here)
-                  ∙ first-of (startsOf (u .own 5)) (startOf (u .opened) at) (startOf (pastIt s at u .opened) q) ∙ h .first;
+                  ap (λ (os : List ℕ). getD os 0 (startOf (pastAt s at u .opened) q)) (starts s at u role 5 here)
+                  ∙ first-of (startsOf (u .own 5)) (startOf (u .opened) at) (startOf (pastAt s at u .opened) q) ∙ h .first;
             }
           where
             by-role : (y : Role) → countsOne y ≡ true → y ≡ counts
@@ -174,16 +173,16 @@ module _ {M : Model} {s : List ℕ} {o : Outcome} {r : Reading} {from at : ℕ} 
     concluded : (a : Read) → Answers s o a u → Concluded s o r a
     concluded a answers = record { state = u; answers = answers; others = h .others }
 
-    at-end : (b c : Bool) → ltb 0 (u .opened .section) ≡ b → noneYet (u .own 3) ≡ c → o ≡ refusedOr (cond b 8 (cond c 9 0)) (length s) u u
+    at-end : (b c : Bool) → ltb 0 (u .opened .section) ≡ b → eqb (length (u .own 3)) 0 ≡ c → o ≡ cond b (refusal 8 (length s) u) (cond c (refusal 9 (length s) u) (whole u))
     at-end b c e f =
-        ended (h .comes) over ∙ ap (λ (b : Bool). refusedOr (cond b 8 (cond (noneYet (u .own 3)) 9 0)) (length s) u u) e
-        ∙ ap (λ (c : Bool). refusedOr (cond b 8 (cond c 9 0)) (length s) u u) f
+        ended (h .comes) over
+        ∙ ap₂ (λ (b c : Bool). cond b (refusal 8 (length s) u) (cond c (refusal 9 (length s) u) (whole u))) e f
 
     -- 8
     pub unfinished : inside ≡ true → Concluded s o r (Refused (Unfinished (length s)))
     unfinished e =
         concluded (Refused (Unfinished (length s)))
-        (record { place = length s; placed = refl; outcome = at-end true (noneYet (u .own 3)) (h .is-inside ∙ e) refl })
+        (record { place = length s; placed = refl; outcome = at-end true (eqb (length (u .own 3)) 0) (h .is-inside ∙ e) refl })
 
     module _ (out : inside ≡ false) where
       -- 9

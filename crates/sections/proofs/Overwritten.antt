@@ -4,8 +4,7 @@ use mathlib.Core.List.{List, [], _∷_, _++_}
 use Prim.Native.Nat.{ℕ, zero, suc, _+_}
 use native.Mathlib.Omega.{arith}
 use lib.ListN.{length, set}
-use Rattle.reader.specs.Contract.{overwritten}
-use Rattle.reader.specs.Sections.{overwrittenFrom}
+use Rattle.sections.specs.Sections.{overwritten, overwrittenFrom}
 
 pub none-written : (n : ℕ) (table : List ℕ) → overwrittenFrom n [] table ≡ table
 none-written zero table = refl

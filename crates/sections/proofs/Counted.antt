@@ -9,15 +9,14 @@ use lib.Dec.{T, eqb}
 use borrow.Author.Tests.{eq-eqb, ne-eqb, eqb-true, eqb-false}
 use Rattle.sheet.specs.Kind.{Role, symbol, a-pair, counts, kindOf, sectionOf}
 use Rattle.sheet.specs.Record.{byteAt, recordAt}
-use Rattle.sheet.specs.Reading.{nothing, Counted, Reading, tally, startOf, startsOf, openedPast, oneMore, ownPast, readingPast}
+use Rattle.sheet.specs.Reading.{nothing, Counted, Reading, tally, startOf, startsOf, openedPast, ownPast, pastAt}
 use Rattle.sheet.proofs.Certified.{starts-more}
 use Rattle.format.specs.Kinds.{countsOne}
 use Rattle.tally.specs.declared.Tally.{Tally}
 use Rattle.tally.specs.Tally.{countOf, plusIf, tallyAfter}
 use Rattle.tally.proofs.Laws.{count-past}
-use Rattle.reader.specs.Contract.{Counts}
-use Rattle.reader.specs.Sections.{overwrittenFrom, Extended}
-use Rattle.reader.proofs.Overwritten.{stored}
+use Rattle.sections.specs.Sections.{Counts, overwrittenFrom, Extended}
+use Rattle.sections.proofs.Overwritten.{stored}
 
 pub at-is : (s : List ℕ) (at : ℕ) → recordAt s at .at ≡ at
 unfolding recordAt
@@ -28,9 +27,8 @@ starts-length [] = refl
 starts-length (x ∷ xs) = ap suc (starts-length xs)
 
 module _ (s : List ℕ) (at : ℕ) (u : Reading) where
-  -- the state past the record at an offset
-  abbrev pub pastIt : Reading
-  pastIt = readingPast u (recordAt s at) (kindOf (byteAt s at))
+  abbrev pastIt : Reading
+  pastIt = pastAt s at u
 
   abbrev it : Counted
   it = record { last = recordAt s at; opened = u .opened }
@@ -64,9 +62,8 @@ module _ (s : List ℕ) (at : ℕ) (u : Reading) where
     pub closed : pastIt .opened ≡ nothing
     closed = ap (λ (y : Role). openedPast (u .opened) (recordAt s at) (sectionOf (byteAt s at)) y) role
 
-    own-is : pastIt .own ≡ oneMore k it (u .own)
-    own-is =
-        ap (λ (y : Role). ownPast (u .own) it (sectionOf (byteAt s at)) y) role ∙ ap (λ (j : ℕ). oneMore j it (u .own)) same
+    own-is : pastIt .own ≡ ownPast (u .own) it k counts
+    own-is = ap (λ (y : Role). ownPast (u .own) it (sectionOf (byteAt s at)) y) role ∙ ap (λ (j : ℕ). ownPast (u .own) it j counts) same
 
     pub one-more : pastIt .own k ≡ u .own k ++ (it ∷ [])
     one-more = ap (λ (own : ℕ → List Counted). own k) own-is ∙ ap (λ (b : Bool). cond b (u .own k ++ (it ∷ [])) (u .own k)) (eq-eqb k k refl)

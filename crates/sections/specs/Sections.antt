@@ -2,29 +2,43 @@
 -- with the code's values, or has ended. The outcome is o, whatever state reading started in.
 use Prim.Native.Nat.{ℕ, zero, suc, _+_, _≤_, _<_}
 use mathlib.Core.Path.{_≡_}
+use mathlib.Core.Option.{some}
 use mathlib.Core.List.{List, [], _∷_}
 use lib.ListN.{length, getD}
 use lib.Dec.{leb}
 use Rattle.sheet.specs.Model.{Model}
 use Rattle.sheet.specs.Kind.{points, steps, certificates, sectionOf}
 use Rattle.sheet.specs.Record.{byteAt}
-use Rattle.sheet.specs.Reading.{nothing, Reading, startsOf, full, Outcome, whole, andThen, readOn, atEnd}
+use Rattle.sheet.specs.Reading.{nothing, Reading, tally, startsOf, full, Outcome, whole, refusal, readOn}
+use Rattle.format.specs.declared.Refusal.{Refusal}
 use Rattle.format.specs.Kinds.{lastKind}
+use Rattle.format.specs.Refusal.{numberOf, placeOf}
 use Rattle.instrument.specs.declared.Limits.{Limits}
 use Rattle.instrument.specs.Model.{modelWith}
-use Rattle.reader.specs.declared.Section.{Section}
-use Rattle.reader.specs.declared.Section.the-variants.{Done, Refused}
-use Rattle.reader.specs.declared.Read.{Read}
-use Rattle.reader.specs.declared.Read.the-variants.{Whole}
-use Rattle.reader.specs.declared.Read.the-variants as read
-use Rattle.reader.specs.Contract.{Counts, Ends, overwritten}
+use Rattle.tally.specs.declared.Tally.{Tally}
+use Rattle.tally.specs.Tally.{countOf}
+use Rattle.sections.specs.declared.Section.{Section}
+use Rattle.sections.specs.declared.Section.the-variants.{Done, Refused}
+use Rattle.sections.specs.declared.Read.{Read}
+use Rattle.sections.specs.declared.Read.the-variants.{Whole}
+use Rattle.sections.specs.declared.Read.the-variants as read
+
+-- the code's counts are those of the state
+abbrev pub Counts : Reading → Tally → Type 0
+Counts r t = (k : ℕ) → tally r k ≡ countOf t k
+
+-- the outcome is a refusal in the state r, with the number and the place of x
+pub record Ends (o : Outcome) (r : Reading) (x : Refusal) : Type 0 where
+  pub place : ℕ
+  pub placed : placeOf x ≡ some place
+  pub outcome : o ≡ refusal (numberOf x) place r
 
 -- reading has come to the offset `at` in the state r: reading on from there gives the outcome
 pub record Comes (M : Model) (s : List ℕ) (o : Outcome) (at : ℕ) (r : Reading) : Type 0 where
   pub inside : at ≤ length s
   pub fuel : ℕ
   pub enough : length s ≤ fuel + at
-  pub rest : andThen (readOn M s (length s) fuel at r) (λ t. atEnd s t) ≡ o
+  pub rest : readOn M s fuel at r ≡ o
 
 -- .. with nothing open, past no record of a section after k; before the first record of section k, what comes is of no earlier section
 pub record Between (M : Model) (s : List ℕ) (o : Outcome) (k at : ℕ) (r : Reading) : Type 0 where
@@ -38,7 +52,13 @@ abbrev pub Told : Model → List ℕ → Outcome → ℕ → Section → Reading
 Told M s o k (Done at t) r = Between M s o k at r × Counts r t
 Told M s o k (Refused x) r = Ends o r x
 
--- a table with these offsets written over it from an index on
+-- a table with these offsets written over its front
+abbrev pub overwritten : List ℕ → List ℕ → List ℕ
+overwritten [] table = table
+overwritten (o ∷ offsets) [] = []
+overwritten (o ∷ offsets) (x ∷ table) = o ∷ overwritten offsets table
+
+-- .. from an index on
 abbrev pub overwrittenFrom : ℕ → List ℕ → List ℕ → List ℕ
 overwrittenFrom zero offsets table = overwritten offsets table
 overwrittenFrom (suc n) offsets [] = []

@@ -1,16 +1,16 @@
 -- Points, methods and steps: records that stand alone, each counted and its offset stored. One law for the three sections.
 use mathlib.Core.Path.{_≡_, refl, sym, ap, _∙_, subst}
 use mathlib.Core.Bool.{Bool, true, false, _&&_}
-use mathlib.Core.List.{List, [], _∷_, _++_}
-use Prim.Native.Nat.{ℕ, suc, _+_, _≤_, _<_}
+use mathlib.Core.List.{List, [], _++_}
+use Prim.Native.Nat.{ℕ, zero, suc, _+_, _≤_, _<_}
 use native.Mathlib.Omega.{arith}
 use lib.ListN.{length, length-append, set}
-use lib.Dec.{eqb, ltb, leb}
+use lib.Dec.{eqb, eqb·suc-zero, ltb, leb}
 use borrow.Author.Tests.{ne-eqb, eq-eqb}
 use Rattle.sheet.specs.Model.{Model}
 use Rattle.sheet.specs.Kind.{Role, symbol, a-pair, counts, kindOf, sectionOf}
 use Rattle.sheet.specs.Record.{byteAt, recordAt}
-use Rattle.sheet.specs.Reading.{Opened, Counted, Reading, tally, startOf, startsOf, wrongItems, full, overLimit, allExist, noneYet, Outcome}
+use Rattle.sheet.specs.Reading.{Opened, Counted, Reading, tally, startOf, startsOf, wrongItems, full, overLimit, allExist, pastAt, Outcome}
 use Rattle.sheet.proofs.Order.{is-4, is-5, is-6, all-named, is-9, six, seven, nine, takes}
 use Rattle.format.specs.declared.Refusal.{Refusal}
 use Rattle.format.specs.declared.Refusal.the-variants.{WrongSection, OverLimit, UnknownName, NoFirstBody}
@@ -21,18 +21,21 @@ use Rattle.instrument.specs.declared.Limits.{Limits}
 use Rattle.instrument.specs.Model.{modelWith}
 use Rattle.tally.specs.declared.Tally.{Tally}
 use Rattle.tally.specs.Tally.{countOf, tallyAfter}
-use Rattle.reader.specs.declared.Section.{Section}
-use Rattle.reader.specs.declared.Section.the-variants.{Done, Refused}
-use Rattle.reader.specs.Contract.{Counts}
-use Rattle.reader.specs.Sections.{Comes, Between, Told, overwrittenFrom, Extended, Filled, Alone}
-use Rattle.reader.proofs.Comes.{refuses, taken-on}
-use Rattle.reader.proofs.Overwritten.{none-written}
-use Rattle.reader.proofs.Counted.{pastIt, closed, counts-more, grown-more}
-use Rattle.reader.proofs.Tests.{and-left, and-right, section-is, not-3, early, in-order, names-are, primitive-is}
+use Rattle.sections.specs.declared.Section.{Section}
+use Rattle.sections.specs.declared.Section.the-variants.{Done, Refused}
+use Rattle.sections.specs.Sections.{Counts, Between, Told, overwrittenFrom, Extended, Filled, Alone}
+use Rattle.sections.proofs.Comes.{refuses, taken-on}
+use Rattle.sections.proofs.Overwritten.{none-written}
+use Rattle.sections.proofs.Counted.{closed, counts-more, grown-more}
+use Rattle.sections.proofs.Tests.{and-left, and-right, section-is, not-3, early, in-order, names-are, primitive-is}
 
 and-true : (b : Bool) → b ≡ (b && true)
 and-true true = refl
 and-true false = refl
+
+-- the test for a first method that is a primitive, by what its parts are
+pub first-test : {a b n m : ℕ} {p q both : Bool} → both ≡ (eqb n m && p) → p ≡ q → n ≡ a → m ≡ b → (eqb a b && q) ≡ both
+first-test {a} {n = n} {m} {q = q} e x y z = sym (e ∙ ap (λ c. eqb n m && c) x ∙ ap (λ c. eqb c m && q) y ∙ ap (λ c. eqb a c && q) z)
 
 -- the kinds of these sections count, each by itself
 stands-alone : (k : ℕ) → 2 ≤ sectionOf k → sectionOf k ≤ 4 → kindOf k .role ≡ counts
@@ -61,18 +64,19 @@ passes {M} {s} {o} {k} {next} {r = r} {table} is told none =
     record { state = r; told = subst (λ (a : Section). Told M s o next a r) (sym is) (subst (λ (a : Section). Told M s o k a r) is told); grown = begin table none }
 
 -- none of this sheet's was counted, if the count is the one at the beginning
-none-yet : (k : ℕ) (r u : Reading) (t₀ t : Tally) → u .before ≡ r .before → r .own k ≡ [] → Counts r t₀ → Counts u t → noneYet (u .own k) ≡ eqb (countOf t k) (countOf t₀ k)
-none-yet k r u t₀ t same none h₀ h = go (u .own k) refl
+none-yet : (k : ℕ) (r u : Reading) (t₀ t : Tally) → u .before ≡ r .before → r .own k ≡ [] → Counts r t₀ → Counts u t
+    → eqb (length (u .own k)) 0 ≡ eqb (countOf t k) (countOf t₀ k)
+none-yet k r u t₀ t same none h₀ h = go (length (u .own k)) counted
   where
     at-first : countOf t₀ k ≡ length (r .before k)
     at-first = sym (h₀ k) ∙ ap (λ (xs : List Counted). length (r .before k ++ xs)) none ∙ omega (arith, length-append (r .before k) [])
 
-    go : (xs : List Counted) → u .own k ≡ xs → noneYet xs ≡ eqb (countOf t k) (countOf t₀ k)
-    go xs e = split xs (sym (h k) ∙ ap (λ (before : ℕ → List Counted). length (before k ++ u .own k)) same ∙ ap (λ (ys : List Counted). length (r .before k ++ ys)) e)
-      where
-        split : (xs : List Counted) → countOf t k ≡ length (r .before k ++ xs) → noneYet xs ≡ eqb (countOf t k) (countOf t₀ k)
-        split [] n = sym (eq-eqb (countOf t k) (countOf t₀ k) (omega (arith, at-first, length-append (r .before k) [])))
-        split (x ∷ xs) n = sym (ne-eqb (countOf t k) (countOf t₀ k) (λ (e : countOf t k ≡ countOf t₀ k). omega (arith, at-first, length-append (r .before k) (x ∷ xs))))
+    counted : countOf t k ≡ length (r .before k) + length (u .own k)
+    counted = sym (h k) ∙ ap (λ (before : ℕ → List Counted). length (before k ++ u .own k)) same ∙ length-append (r .before k) (u .own k)
+
+    go : (n : ℕ) → countOf t k ≡ length (r .before k) + n → eqb n 0 ≡ eqb (countOf t k) (countOf t₀ k)
+    go zero e = sym (eq-eqb (countOf t k) (countOf t₀ k) (omega (arith, at-first)))
+    go (suc n) e = eqb·suc-zero n ∙ sym (ne-eqb (countOf t k) (countOf t₀ k) (λ (same : countOf t k ≡ countOf t₀ k). omega (arith, at-first)))
 
 module _ {l : Limits} {s : List ℕ} {o : Outcome} {k at limit : ℕ} {t : Tally} {r : Reading} {table₀ table room : List ℕ} (a : Alone l k limit room)
     (h : Filled (modelWith l) s o k (Done at t) k r table₀ table) where
@@ -158,12 +162,12 @@ module _ {l : Limits} {s : List ℕ} {o : Outcome} {k at limit : ℕ} {t : Tally
 
             first-is : is-9 M s at u ≡ (eqb (countOf t k) (countOf t₀ k) && primitiveKind kind)
             first-is =
-                ap (λ (b : Bool). b && noneYet (u .own 3)) (primitive-is w u) ∙ go (primitiveKind kind) refl
+                ap (λ (b : Bool). b && eqb (length (u .own 3)) 0) (primitive-is w u) ∙ go (primitiveKind kind) refl
               where
-                go : (b : Bool) → primitiveKind kind ≡ b → (b && noneYet (u .own 3)) ≡ (eqb (countOf t k) (countOf t₀ k) && b)
+                go : (b : Bool) → primitiveKind kind ≡ b → (b && eqb (length (u .own 3)) 0) ≡ (eqb (countOf t k) (countOf t₀ k) && b)
                 go true e =
                     let three : k ≡ 3 = sym same ∙ primitive-section kind e in
-                    ap (λ (j : ℕ). noneYet (u .own j)) (sym three) ∙ none-yet k r u t₀ t (h .grown .same) none counts₀ (h .told .1)
+                    ap (λ (j : ℕ). eqb (length (u .own j)) 0) (sym three) ∙ none-yet k r u t₀ t (h .grown .same) none counts₀ (h .told .1)
                     ∙ and-true (eqb (countOf t k) (countOf t₀ k))
                 go false e = sym (and-right (eqb (countOf t k) (countOf t₀ k)) false refl)
 
@@ -177,13 +181,13 @@ module _ {l : Limits} {s : List ℕ} {o : Outcome} {k at limit : ℕ} {t : Tally
                 → Filled M s o k (Done q t′) k r table₀ (set table n at)
             again {n} {t′} first n-is after =
                 let taken = takes M s at u (w .not-2) (not-3 w u) not-4 not-5 (limit-is ∙ within) named (first-is ∙ first) in
-                let t-is : Counts (pastIt s at u) t′ = subst (Counts (pastIt s at u)) (sym after) (counts-more s at u role k here (omega (arith, a .low)) (omega (arith, a .high)) (h .told .1)) in
+                let t-is : Counts (pastAt s at u) t′ = subst (Counts (pastAt s at u)) (sym after) (counts-more s at u role k here (omega (arith, a .low)) (omega (arith, a .high)) (h .told .1)) in
                 let here-starts : startOf (u .opened) at ≡ at = ap (λ (o : Opened). startOf o at) (b .closed) in
                 record {
-                  state = pastIt s at u;
+                  state = pastAt s at u;
                   told = (
                     record {
-                      comes = subst (λ (q : ℕ). Comes M s o q (pastIt s at u)) (w .next) (taken-on (b .comes) before (pastIt s at u) taken (w .inside));
+                      comes = taken-on (b .comes) before w taken;
                       section = omega (arith, here);
                       closed = closed s at u role k here;
                       begun = λ inside low. absurd (omega (arith, here));
@@ -191,5 +195,5 @@ module _ {l : Limits} {s : List ℕ} {o : Outcome} {k at limit : ℕ} {t : Tally
                     t-is,
                   );
                   grown =
-                      subst (λ (i : ℕ). Extended k r (pastIt s at u) table₀ (set table n i)) here-starts (grown-more s at u role k here (h .told .1) n-is (h .grown));
+                      subst (λ (i : ℕ). Extended k r (pastAt s at u) table₀ (set table n i)) here-starts (grown-more s at u role k here (h .told .1) n-is (h .grown));
                 }

@@ -7,21 +7,21 @@ use native.Mathlib.Omega.{arith}
 use lib.ListN.{length}
 use lib.Dec.{eqb}
 use borrow.Author.Needs.{needs}
-use Rattle.sheet.specs.Reading.{Reading, Outcome, noneYet}
+use Rattle.sheet.specs.Reading.{Reading, Outcome}
 use Rattle.sheet.proofs.Take.{next-lt}
 use Rattle.format.specs.declared.Refusal.{Refusal}
 use Rattle.format.proofs.Laws.{Stood, stood, Refuses, refused}
 use Rattle.instrument.specs.Model.{modelWith}
 use Rattle.tally.specs.declared.Tally.{Tally}
-use Rattle.reader.specs.declared.Section.the-variants.{Done}
-use Rattle.reader.specs.Sections.{Told}
-use Rattle.reader.proofs.Ending.{Ending, begin, ends, too-early, past-pair, past-end, unfinished, no-methods, all-read}
-use Rattle.reader.proofs.read_certificates.Statement.{statement}
-use Rattle.reader.proofs.read_certificates.Tie as tie
+use Rattle.sections.specs.declared.Section.the-variants.{Done}
+use Rattle.sections.specs.Sections.{Told}
+use Rattle.sections.proofs.Ending.{Ending, begin, ends, too-early, past-pair, past-end, unfinished, no-methods, all-read}
+use Rattle.sections.proofs.read_certificates.Statement.{statement}
+use Rattle.sections.proofs.read_certificates.Tie as tie
 
 abbrev Inv-loop : tie.InvT-loop
 Inv-loop s limits from at₀ tally₀ inside₀ at tally inside = (tally .certificates ≤ at)
-    × ((o : Outcome) (u : Reading) → Told (modelWith limits) s o 5 (Done from tally₀) u → u .own 5 ≡ [] → noneYet (u .own 3) ≡ eqb (tally₀ .methods) 0
+    × ((o : Outcome) (u : Reading) → Told (modelWith limits) s o 5 (Done from tally₀) u → u .own 5 ≡ [] → eqb (length (u .own 3)) 0 ≡ eqb (tally₀ .methods) 0
     → Ending (modelWith limits) s o u from at tally inside)
 
 abbrev μ-loop : tie.MeasureT-loop

@@ -14,11 +14,11 @@ use Rattle.format.proofs.Laws.{Stood, stood, Refuses, refused}
 use Rattle.instrument.specs.Model.{modelWith}
 use Rattle.refusals.specs.Step.{Modest, endsOne}
 use Rattle.refusals.proofs.Laws.{modest-past}
-use Rattle.reader.specs.declared.Section.the-variants.{Done}
-use Rattle.reader.specs.Sections.{Told}
-use Rattle.reader.proofs.Opening.{Opening, begin, all-read, unfinished, ends, later-section, still-open, no-step, past-symbol, past-end}
-use Rattle.reader.proofs.read_conditions.Statement.{statement}
-use Rattle.reader.proofs.read_conditions.Tie as tie
+use Rattle.sections.specs.declared.Section.the-variants.{Done}
+use Rattle.sections.specs.Sections.{Told}
+use Rattle.sections.proofs.Opening.{Opening, begin, all-read, unfinished, ends, later-section, still-open, no-step, past-symbol, past-end}
+use Rattle.sections.proofs.read_conditions.Statement.{statement}
+use Rattle.sections.proofs.read_conditions.Tie as tie
 
 abbrev Inv-loop : tie.InvT-loop
 Inv-loop s limits table₀ at₀ start₀ begun₀ tally₀ table at start begun tally = Modest begun

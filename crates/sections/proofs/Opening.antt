@@ -11,7 +11,7 @@ use Rattle.condition.specs.Condition.{Condition}
 use Rattle.sheet.specs.Model.{Model, conditionLimit, symbolLimit, leafLimit}
 use Rattle.sheet.specs.Kind.{Role, symbol, a-pair, counts, kindOf, sectionOf}
 use Rattle.sheet.specs.Record.{byteAt, recordAt}
-use Rattle.sheet.specs.Reading.{Opened, nothing, Reading, tally, startOf, wrongItems, isLeaf, full, overLimit, noneYet, openedPast, Outcome, whole, refusedOr, takeAt}
+use Rattle.sheet.specs.Reading.{Opened, nothing, Reading, tally, startOf, wrongItems, isLeaf, full, overLimit, refusalOf, openedPast, pastAt, Outcome, whole, refusal}
 use Rattle.sheet.proofs.Order.{is-4, is-5, is-6, all-named, is-9, four, five, six, takes}
 use Rattle.format.specs.declared.Refusal.{Refusal}
 use Rattle.format.specs.declared.Refusal.the-variants.{WrongSection, Unfinished}
@@ -24,13 +24,12 @@ use Rattle.refusals.specs.declared.Stepped.the-variants as stepped
 use Rattle.refusals.specs.Step.{nothingBegun, itemsOfKind, leavesOfKind, symbolStep, endStep, endsOne, conditionStep}
 use Rattle.tally.specs.declared.Tally.{Tally}
 use Rattle.tally.specs.Tally.{countOf, tallyAfter}
-use Rattle.reader.specs.declared.Section.the-variants.{Done, Refused}
-use Rattle.reader.specs.Contract.{Counts}
-use Rattle.reader.specs.Sections.{Comes, Told, Extended, Filled}
-use Rattle.reader.proofs.Comes.{ended, refuses, taken-on}
-use Rattle.reader.proofs.Counted.{at-is, pastIt, counts-same, grown-same, closed, counts-more, grown-more}
-use Rattle.reader.proofs.Tests.{or-right, and-right, section-is, not-3, in-order, no-method}
-use Rattle.reader.proofs.Alone as alone
+use Rattle.sections.specs.declared.Section.the-variants.{Done, Refused}
+use Rattle.sections.specs.Sections.{Counts, Comes, Told, Extended, Filled}
+use Rattle.sections.proofs.Comes.{ended, refuses, taken-on}
+use Rattle.sections.proofs.Counted.{at-is, counts-same, grown-same, closed, counts-more, grown-more}
+use Rattle.sections.proofs.Tests.{or-right, and-right, section-is, not-3, in-order, no-method}
+use Rattle.sections.proofs.Alone as alone
 
 -- what is open is what the code has begun, from the offset `start` on; if nothing is, the next condition would start here
 pub record Matches (o : Opened) (at start : ℕ) (b : Begun) : Type 0 where
@@ -98,7 +97,7 @@ module _ {M : Model} {s : List ℕ} {o : Outcome} {r : Reading} {at start : ℕ}
           placed = refl;
           outcome =
               ended (h .comes) over
-              ∙ ap (λ (b : Bool). refusedOr (cond b 8 (cond (noneYet (u .own 3)) 9 0)) (length s) u u) (ap (ltb 0) (h .matches .opened some));
+              ∙ ap (λ (b : Bool). cond b (refusal 8 (length s) u) (cond (eqb (length (u .own 3)) 0) (refusal 9 (length s) u) (whole u))) (ap (ltb 0) (h .matches .opened some));
         };
         grown = h .grown;
       }
@@ -141,9 +140,9 @@ module _ {M : Model} {s : List ℕ} {o : Outcome} {r : Reading} {at start : ℕ}
 
         -- what the step tells: the record's refusal, or what is open past the record
         abbrev Goes : Begun → Type 0
-        Goes b′ = (takeAt M s at u ≡ whole (pastIt s at u))
+        Goes b′ = (refusalOf M s at u ≡ 0)
             × (endsOne (byteAt s at) ≡ true → (kindOf (byteAt s at) .role ≡ counts) × (b′ ≡ nothingBegun))
-            × (endsOne (byteAt s at) ≡ false → Matches (pastIt s at u .opened) q start b′)
+            × (endsOne (byteAt s at) ≡ false → Matches (pastAt s at u .opened) q start b′)
 
         abbrev Tells : Stepped → Type 0
         Tells (stepped.On b′) = Goes b′
@@ -165,7 +164,7 @@ module _ {M : Model} {s : List ℕ} {o : Outcome} {r : Reading} {at start : ℕ}
               ∙ ap (λ (n : ℕ). leb symbolLimit (b .symbols) || (isLeaf (recordAt s at) && leb leafLimit n)) (h .matches .leaves)
               ∙ ap (λ (k : ℕ). leb symbolLimit (b .symbols) || (leafKind k && leb leafLimit (b .leaves))) (kind-there s at)
 
-          opened-is : pastIt s at u .opened ≡ openedPast (u .opened) (recordAt s at) 1 (symbol takes-n make)
+          opened-is : pastAt s at u .opened ≡ openedPast (u .opened) (recordAt s at) 1 (symbol takes-n make)
           opened-is =
               ap (λ (y : Role). openedPast (u .opened) (recordAt s at) (sectionOf (byteAt s at)) y) role
               ∙ ap (λ (k : ℕ). openedPast (u .opened) (recordAt s at) k (symbol takes-n make)) here
@@ -245,8 +244,8 @@ module _ {M : Model} {s : List ℕ} {o : Outcome} {r : Reading} {at start : ℕ}
             goes : Goes b′
             goes = subst Tells e by-code
 
-            beyond : Comes M s o q (pastIt s at u)
-            beyond = subst (λ (q : ℕ). Comes M s o q (pastIt s at u)) (w .next) (taken-on (h .comes) before (pastIt s at u) (goes .0) (w .inside))
+            beyond : Comes M s o q (pastAt s at u)
+            beyond = taken-on (h .comes) before w (goes .0)
 
             ends-is : endsOne kind ≡ endsOne (byteAt s at)
             ends-is = ap endsOne (sym (w .kind))
@@ -255,7 +254,7 @@ module _ {M : Model} {s : List ℕ} {o : Outcome} {r : Reading} {at start : ℕ}
             past-symbol goes-on =
                 let open-still = sym ends-is ∙ goes-on in
                 record {
-                  state = pastIt s at u;
+                  state = pastAt s at u;
                   comes = beyond;
                   section = omega (arith, here);
                   counts = counts-same s at u open-still (h .counts);
@@ -267,14 +266,14 @@ module _ {M : Model} {s : List ℕ} {o : Outcome} {r : Reading} {at start : ℕ}
             past-end {t′} ends-here after =
                 let (role, none) = goes .1 (sym ends-is ∙ ends-here) in
                 record {
-                  state = pastIt s at u;
+                  state = pastAt s at u;
                   comes = beyond;
                   section = omega (arith, here);
-                  counts = subst (Counts (pastIt s at u)) (sym after) (counts-more s at u role 1 here (omega arith) (omega arith) (h .counts));
+                  counts = subst (Counts (pastAt s at u)) (sym after) (counts-more s at u role 1 here (omega arith) (omega arith) (h .counts));
                   grown =
-                      subst (λ (i : ℕ). Extended 1 r (pastIt s at u) table₀ (set table (countOf t 1) i)) (h .matches .starts)
+                      subst (λ (i : ℕ). Extended 1 r (pastAt s at u) table₀ (set table (countOf t 1) i)) (h .matches .starts)
                       (grown-more s at u role 1 here (h .counts) refl (h .grown));
                   matches =
-                      subst (λ (b : Begun). Matches (pastIt s at u .opened) q q b) (sym none)
+                      subst (λ (b : Begun). Matches (pastAt s at u .opened) q q b) (sym none)
                       (subst (λ (o : Opened). Matches o q q nothingBegun) (sym (closed s at u role 1 here)) (nothing-matches q));
                 }

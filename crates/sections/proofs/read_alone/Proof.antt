@@ -16,12 +16,12 @@ use Rattle.format.specs.Kinds.{primitiveKind}
 use Rattle.format.proofs.Laws.{Stood, stood, Refuses, refused}
 use Rattle.instrument.specs.Model.{modelWith}
 use Rattle.tally.specs.Tally.{countOf}
-use Rattle.reader.specs.declared.Section.{Section}
-use Rattle.reader.specs.declared.Section.the-variants.{Done}
-use Rattle.reader.specs.Sections.{Told, Filled}
-use Rattle.reader.proofs.Alone.{begin, passes, no-more, no-record, too-early, later-section, over-limit, unnamed, primitive-first, again}
-use Rattle.reader.proofs.read_alone.Statement.{statement}
-use Rattle.reader.proofs.read_alone.Tie as tie
+use Rattle.sections.specs.declared.Section.{Section}
+use Rattle.sections.specs.declared.Section.the-variants.{Done}
+use Rattle.sections.specs.Sections.{Told, Filled}
+use Rattle.sections.proofs.Alone.{begin, passes, no-more, no-record, too-early, later-section, over-limit, unnamed, first-test, primitive-first, again}
+use Rattle.sections.proofs.read_alone.Statement.{statement}
+use Rattle.sections.proofs.read_alone.Tie as tie
 
 abbrev Inv-loop : tie.InvT-loop
 Inv-loop s limits section limit table₀ from first at₀ tally₀ table at tally = (length table ≡ length table₀)
@@ -112,8 +112,8 @@ returns-5 : tie.Need-returns-5 Inv-loop μ-loop
 returns-5 c = λ o u told none.
     over-limit (c .before .before .before .before .before .before .before .before .before .before .before .before .before .before .before .before .before .pre) (kept (c .before .before .before .before .before .before .before .before .before) o u told none) (c .before .before .before .before .before .before .before .before .before .loop-test .taken) (standing (c .before .before .before .before .before)) (same (c .before)) (le-leb (c .before .before .before .before .before .before .before .before .before .before .before .before .before .before .before .before .before .args .limit) (countOf (c .before .before .before .before .before .before .before .before .before .before .loop .tally) (c .before .before .before .before .before .before .before .before .before .before .before .before .before .before .before .before .before .args .section)) (omega (arith, c .if3 .taken, c .before .count2 .ensures)))
 
-named-requires : tie.Need-named-requires Inv-loop μ-loop
-named-requires c κs =
+names-exist-requires : tie.Need-names-exist-requires Inv-loop μ-loop
+names-exist-requires c κs =
     let is = same (c .before) in
     let a = c .before .before .before .before .before .before .before .before .before .before .before .before .before .before .before .before .before .pre in
     let w = standing (c .before .before .before .before .before) in
@@ -128,7 +128,7 @@ same-length-5 c = c .before .before .before .before .before .before .before .bef
 
 returns-6 : tie.Need-returns-6 Inv-loop μ-loop
 returns-6 c = λ o u told none.
-    unnamed (c .before .before .before .before .before .before .before .before .before .before .before .before .before .before .before .before .before .before .before .pre) (kept (c .before .before .before .before .before .before .before .before .before .before .before) o u told none) (c .before .before .before .before .before .before .before .before .before .before .before .loop-test .taken) (standing (c .before .before .before .before .before .before .before)) (same (c .before .before .before)) (within (c .before .before)) (sym (c .before .named .ensures) ∙ not-true (c .before .named .result) (c .if4 .taken))
+    unnamed (c .before .before .before .before .before .before .before .before .before .before .before .before .before .before .before .before .before .before .before .pre) (kept (c .before .before .before .before .before .before .before .before .before .before .before) o u told none) (c .before .before .before .before .before .before .before .before .before .before .before .loop-test .taken) (standing (c .before .before .before .before .before .before .before)) (same (c .before .before .before)) (within (c .before .before)) (sym (c .before .names-exist .ensures) ∙ not-true (c .before .names-exist .result) (c .if4 .taken))
 
 is-primitive-requires : tie.Need-is-primitive-requires Inv-loop μ-loop
 is-primitive-requires c κs = search needs
@@ -139,14 +139,16 @@ both-requires c κs = search needs
 -- it is this sheet's first method, and a primitive
 first-primitive : (c : tie.After-both Inv-loop μ-loop)
     → (eqb (countOf (c .before .before .before .before .before .before .before .before .before .before .before .before .before .before .loop .tally) (c .before .before .before .before .before .before .before .before .before .before .before .before .before .before .before .before .before .before .before .before .before .args .section)) (countOf (c .before .before .before .before .before .before .before .before .before .before .before .before .before .before .before .before .before .reached .given .0 .1 .0) (c .before .before .before .before .before .before .before .before .before .before .before .before .before .before .before .before .before .before .before .before .before .args .section)) && primitiveKind (c .before .before .before .before .before .before .before .before .before .before .got .given .0 .0)) ≡ c .both .result
-first-primitive c = cc (c .both .ensures, c .before .is-primitive .ensures, c .before .before .before .before .before .count2 .ensures, c .before .before .before .before .before .before .before .before .before .before .before .before .before .before .before .count .ensures)
+first-primitive c =
+    first-test (c .both .ensures) (c .before .is-primitive .ensures) (c .before .before .before .before .before .count2 .ensures)
+    (c .before .before .before .before .before .before .before .before .before .before .before .before .before .before .before .count .ensures)
 
 same-length-6 : tie.Need-same-length-6 Inv-loop μ-loop
 same-length-6 c = c .before .before .before .before .before .before .before .before .before .before .before .before .before .before .before .loop .inv .0
 
 returns-7 : tie.Need-returns-7 Inv-loop μ-loop
 returns-7 c = λ o u told none.
-    primitive-first (c .before .before .before .before .before .before .before .before .before .before .before .before .before .before .before .before .before .before .before .before .before .before .pre) (kept (c .before .before .before .before .before .before .before .before .before .before .before .before .before .before) o u told none) (c .before .before .before .before .before .before .before .before .before .before .before .before .before .before .loop-test .taken) (standing (c .before .before .before .before .before .before .before .before .before .before)) (same (c .before .before .before .before .before .before)) (within (c .before .before .before .before .before)) (sym (c .before .before .before .before .named .ensures) ∙ not-false (c .before .before .before .before .named .result) (c .before .before .before .if4 .left))
+    primitive-first (c .before .before .before .before .before .before .before .before .before .before .before .before .before .before .before .before .before .before .before .before .before .before .pre) (kept (c .before .before .before .before .before .before .before .before .before .before .before .before .before .before) o u told none) (c .before .before .before .before .before .before .before .before .before .before .before .before .before .before .loop-test .taken) (standing (c .before .before .before .before .before .before .before .before .before .before)) (same (c .before .before .before .before .before .before)) (within (c .before .before .before .before .before)) (sym (c .before .before .before .before .names-exist .ensures) ∙ not-false (c .before .before .before .before .names-exist .result) (c .before .before .before .if4 .left))
     (given (c .before .before .before .before .before .before .before .before .before .before .before .before .before .before .before .before) o u told .1) none (first-primitive (c .before) ∙ c .if5 .taken)
 
 mul-table : tie.Need-mul-table Inv-loop μ-loop
@@ -167,7 +169,7 @@ loop-again : tie.Need-loop-again Inv-loop μ-loop
 loop-again c = (
   length-set (c .before .before .before .before .before .before .before .before .before .before .before .before .before .before .before .before .loop .table) (c .before .before .before .before .before .before .before .count2 .result) (c .before .before .before .before .before .before .before .before .before .before .before .before .before .before .before .before .loop .at) ∙ c .before .before .before .before .before .before .before .before .before .before .before .before .before .before .before .before .loop .inv .0,
   λ o u told none.
-      again (c .before .before .before .before .before .before .before .before .before .before .before .before .before .before .before .before .before .before .before .before .before .before .before .pre) (c .before .before .before .before .before .before .before .before .before .before .before .before .before .before .before .before .loop .inv .1 o u told none) (c .before .before .before .before .before .before .before .before .before .before .before .before .before .before .before .loop-test .taken) (standing (c .before .before .before .before .before .before .before .before .before .before .before)) (same (c .before .before .before .before .before .before .before)) (within (c .before .before .before .before .before .before)) (sym (c .before .before .before .before .before .named .ensures) ∙ not-false (c .before .before .before .before .before .named .result) (c .before .before .before .before .if4 .left))
+      again (c .before .before .before .before .before .before .before .before .before .before .before .before .before .before .before .before .before .before .before .before .before .before .before .pre) (c .before .before .before .before .before .before .before .before .before .before .before .before .before .before .before .before .loop .inv .1 o u told none) (c .before .before .before .before .before .before .before .before .before .before .before .before .before .before .before .loop-test .taken) (standing (c .before .before .before .before .before .before .before .before .before .before .before)) (same (c .before .before .before .before .before .before .before)) (within (c .before .before .before .before .before .before)) (sym (c .before .before .before .before .before .names-exist .ensures) ∙ not-false (c .before .before .before .before .before .names-exist .result) (c .before .before .before .before .if4 .left))
       (told .1) none (first-primitive (c .before .before) ∙ c .before .if5 .left) (c .before .before .before .before .before .before .before .count2 .ensures) (c .past .ensures),
 )
 
@@ -202,7 +204,7 @@ read-alone-spec =
     count-requires-2
     same-length-4
     returns-5
-    named-requires
+    names-exist-requires
     same-length-5
     returns-6
     is-primitive-requires

@@ -10,7 +10,7 @@ use borrow.Author.Tests.{lt-ltb, le-ltb}
 use Rattle.sheet.specs.Model.{Model}
 use Rattle.sheet.specs.Kind.{kindOf, sectionOf}
 use Rattle.sheet.specs.Record.{byteAt, recordAt, nextAt}
-use Rattle.sheet.specs.Reading.{Reading, tally, allExist, isPrimitive, noneYet}
+use Rattle.sheet.specs.Reading.{Reading, tally, allExist, isPrimitive}
 use Rattle.sheet.proofs.Order.{is-3, is-4, all-named, is-9, four}
 use Rattle.format.specs.declared.Refusal.the-variants.{WrongSection}
 use Rattle.format.specs.Kinds.{primitiveKind}
@@ -18,7 +18,7 @@ use Rattle.format.proofs.Table.{not-primitive}
 use Rattle.format.proofs.Laws.{kind-there, Stood, Refuses}
 use Rattle.tally.specs.declared.Tally.{Tally}
 use Rattle.tally.specs.Tally.{countOf}
-use Rattle.reader.specs.Contract.{Counts}
+use Rattle.sections.specs.Sections.{Counts}
 
 pub or-left : (a b : Bool) → a ≡ true → (a || b) ≡ true
 or-left true b e = refl
@@ -74,4 +74,4 @@ module _ {M : Model} {s : List ℕ} {at kind q : ℕ} (w : Stood M s at kind q) 
     -- not 9: no method
     pub no-method : (sectionOf kind ≡ 3 → ⊥) → is-9 M s at u ≡ false
     no-method ne =
-        and-left (isPrimitive (recordAt s at)) (noneYet (u .own 3)) (primitive-is ∙ not-primitive kind ne)
+        and-left (isPrimitive (recordAt s at)) (eqb (length (u .own 3)) 0) (primitive-is ∙ not-primitive kind ne)

@@ -1,0 +1,171 @@
+// The section readers: each goes over the records of its section, counts them, and fills a table with their offsets.
+ghost use mathlib.Core.Path.{_≡_};
+ghost use mathlib.Core.List.{[]};
+ghost use Prim.Native.Nat.{suc, _≤_};
+ghost use lib.ListN.{length};
+ghost use lib.Dec.{eqb};
+ghost use Rattle.sheet.specs.Kind.{conditions, points, methods, certificates};
+ghost use Rattle.sheet.specs.Reading.{Reading, Outcome};
+ghost use Rattle.format.specs.Kinds.{lastKind};
+ghost use Rattle.instrument.specs.Model.{modelWith};
+ghost use Rattle.sections.specs.Sections.{Told, Filled, Alone, Concluded};
+use bits::both;
+use format::Found;
+use format::Refusal;
+use format::kinds::CERTIFICATES;
+use format::kinds::CONDITIONS;
+use format::kinds::counts;
+use format::kinds::is_primitive;
+use format::kinds::section_of;
+use format::record_at;
+use format::refusal_at;
+use instrument::Limits;
+use refusals::Stepped;
+use refusals::condition_step;
+use refusals::names::names_exist;
+use refusals::nothing_begun;
+use tally::Tally;
+use tally::past;
+
+// What a sheet that is read whole has: its tally, and the offset where its first certificate starts (its length, if it has none).
+pub struct Contents {
+    pub tally: Tally,
+    pub certificates: usize,
+}
+
+pub enum Read {
+    Whole(Contents),
+    Refused(Refusal),
+}
+
+// Where a section ends, with the tally there, or the refusal that ends reading.
+pub enum Section {
+    Done { at: usize, tally: Tally },
+    Refused(Refusal),
+}
+
+// The section readers. Each starts where the section before ended, and tells where its own ends, or the refusal that ends reading (`Told`),
+// whatever was counted before the sheet.
+
+// The conditions. One is stored with its start, when its end comes.
+pub fn read_conditions(s: &[u8], limits: Limits, given: Tally, table: &mut [usize; 256]) -> Section
+    requires { ⌜ limits .kinds ≤ lastKind ⌝ }
+    ensures { λ r. ⌜ ((o : Outcome) (u : Reading) → Told (modelWith limits) (now (s .entry)) o 0 (Section.Done 0 given) u → u .own conditions ≡ []
+        → Filled (modelWith limits) (now (s .entry)) o points r conditions u (now (table .entry)) (now (table .exit))) ⌝ }
+{
+    let mut at: usize = 0;
+    let mut start: usize = 0;
+    let mut begun = nothing_begun();
+    let mut tally = given;
+    while at < s.len() {
+        let got = record_at(s, limits.kinds, at);
+        let Found::Record { kind, next } = got else {
+            return Section::Refused(refusal_at(s, limits.kinds, at));
+        };
+        if CONDITIONS < section_of(kind) {
+            if 0 < begun.symbols {
+                return Section::Refused(Refusal::WrongSection(at));
+            }
+            return Section::Done { at, tally };
+        }
+        let n = tally.conditions;
+        match condition_step(begun, kind, n, at) {
+            Stepped::Refused(x) => return Section::Refused(x),
+            Stepped::On(more) => begun = more,
+        }
+        if counts(kind) {
+            table[n] = start;
+            tally = past(tally, CONDITIONS);
+            start = next;
+        }
+        at = next;
+    }
+    if 0 < begun.symbols {
+        return Section::Refused(Refusal::Unfinished(s.len()));
+    }
+    Section::Done { at, tally }
+}
+
+// The points, the methods or the steps, at most `limit` of them. Each record counts by itself.
+pub fn read_alone(
+    s: &[u8],
+    limits: Limits,
+    section: u8,
+    limit: usize,
+    reached: Section,
+    table: &mut [usize],
+) -> Section
+    requires { ⌜ Alone limits section limit (now table) ⌝ }
+    ensures { λ r. ⌜ ((o : Outcome) (u : Reading) → Told (modelWith limits) (now (s .entry)) o section reached u → u .own section ≡ []
+        → Filled (modelWith limits) (now (s .entry)) o (suc section) r section u (now (table .entry)) (now (table .exit))) ⌝ }
+{
+    let Section::Done { at, tally } = reached else {
+        return reached;
+    };
+    let first = Tally::count(tally, section);
+    let mut at = at;
+    let mut tally = tally;
+    while at < s.len() {
+        let got = record_at(s, limits.kinds, at);
+        let Found::Record { kind, next } = got else {
+            return Section::Refused(refusal_at(s, limits.kinds, at));
+        };
+        let here = section_of(kind);
+        if here < section {
+            return Section::Refused(Refusal::WrongSection(at));
+        }
+        if section < here {
+            return Section::Done { at, tally };
+        }
+        let n = Tally::count(tally, section);
+        if limit <= n {
+            return Section::Refused(Refusal::OverLimit(at));
+        }
+        if !names_exist(s, at, kind, tally, limits.events) {
+            return Section::Refused(Refusal::UnknownName(at));
+        }
+        if both(n == first, is_primitive(kind)) {
+            return Section::Refused(Refusal::NoFirstBody(at));
+        }
+        table[n] = at;
+        tally = past(tally, section);
+        at = next;
+    }
+    Section::Done { at, tally }
+}
+
+// The certificates, and the end of the sheet. Certificates have no table.
+pub fn read_certificates(s: &[u8], limits: Limits, from: usize, given: Tally) -> Read
+    requires { ⌜ (limits .kinds ≤ lastKind) × (given .certificates ≤ from) ⌝ }
+    ensures { λ r. ⌜ ((o : Outcome) (u : Reading) → Told (modelWith limits) (now (s .entry)) o certificates (Section.Done from given) u → u .own certificates ≡ []
+        → eqb (length (u .own methods)) 0 ≡ eqb (given .methods) 0 → Concluded (now (s .entry)) o u r) ⌝ }
+{
+    let mut at = from;
+    let mut tally = given;
+    let mut inside = false;
+    while at < s.len() {
+        let got = record_at(s, limits.kinds, at);
+        let Found::Record { kind, next } = got else {
+            return Read::Refused(refusal_at(s, limits.kinds, at));
+        };
+        if section_of(kind) < CERTIFICATES {
+            return Read::Refused(Refusal::WrongSection(at));
+        }
+        let ends = counts(kind);
+        inside = !ends;
+        if ends {
+            tally = past(tally, CERTIFICATES);
+        }
+        at = next;
+    }
+    if inside {
+        return Read::Refused(Refusal::Unfinished(s.len()));
+    }
+    if tally.methods == 0 {
+        return Read::Refused(Refusal::NoFirstBody(s.len()));
+    }
+    Read::Whole(Contents {
+        tally,
+        certificates: from,
+    })
+}
