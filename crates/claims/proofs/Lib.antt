@@ -1,2 +1,1 @@
-pub mod Kth
-pub mod Needed
+pub mod Says

@@ -1,43 +1,8 @@
-// What the rules of a subject claim of the conditions that they name. A subject is a value: no table and no byte of the sheet is read here.
+// What a rule claims of conditions that stand in a sheet: a claim is a value, no byte of the sheet is read here.
 use answers::Rule;
-use index::MethodConditions;
-use index::PointConditions;
 use postfix::Part;
 
 pub mod forms; // forms.rt: the forms of the claims
-pub mod numbered; // numbered.rt: the claims of a subject by their numbers, and how many there are
-
-// A method that runs start at, a method with its body, or a step; a primitive has no rules.
-pub enum Subject {
-    First {
-        method: usize,
-        declared: MethodConditions,
-    },
-    Body {
-        method: usize,
-        declared: MethodConditions,
-        entry: PointConditions,
-        exit: PointConditions,
-    },
-    Event {
-        step: usize,
-        from: PointConditions,
-        to: PointConditions,
-        event: usize,
-    },
-    Call {
-        step: usize,
-        from: PointConditions,
-        to: PointConditions,
-        declared: MethodConditions,
-    },
-    Pass {
-        step: usize,
-        from: PointConditions,
-        to: PointConditions,
-    },
-    None,
-}
 
 // The left of an inclusion: one part, or two one after the other.
 pub enum Left {
@@ -51,14 +16,8 @@ pub enum Claim {
     HoldsEmpty { rule: Rule, part: Part },
 }
 
-// What a subject asks by a number: a claim, or nothing behind the last one.
+// What is asked by the number of a rule: a claim, or nothing behind the last one.
 pub enum Asked {
     Claim(Claim),
     NoMore,
-}
-
-// How many rules there are, and how many certificates they need.
-pub struct Needs {
-    pub rules: usize,
-    pub certificates: usize,
 }

@@ -24,7 +24,7 @@ each-some P all k x is = subst (OrNone P) is (each-get (OrNone P) tt all k)
 module _ {S : Sheet} {s conditions points methods steps : List ℕ} (x : Indexes S s conditions points methods steps) where
   -- a field that names a condition
   field-named : {A : Type 0} (name : A → ℕ) (o : Option A) (y : A) → o ≡ some y → name y < length (S .conditions)
-      → ConditionIn s conditions (name y) (conditionNamed (S .conditions) name o)
+      → ConditionIn s conditions (name y) (conditionNamed S name o)
   field-named name o y is l = rw is (x .conditions-in (name y) l)
 
   pub point-in : (p : ℕ) → p < length (S .points) → PointIn S s conditions points p

@@ -1,4 +1,5 @@
 pub mod Indexed
+pub mod Named
 pub mod Read
 pub mod Trial
 pub mod Verdict

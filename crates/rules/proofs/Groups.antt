@@ -1,22 +1,28 @@
--- The rules of a sheet, one subject at a time: each subject by its number, and all of them one after the other.
+-- The rules of a sheet, one subject at a time: each subject by its number, how many rules it has at most, and all of them one after the other.
 use mathlib.Core.Path.{_≡_, refl, sym, ap, ap₂, _∙_, subst}
-use mathlib.Core.Option.{Option, some}
+use mathlib.Core.Option.{Option, none, some}
 use mathlib.Core.List.{List, [], _∷_, _++_, append-assoc}
-use Prim.Native.Nat.{ℕ, zero, suc, _+_, _-_, _<_}
+use Prim.Native.Nat.{ℕ, zero, suc, _+_, _*_, _≤_, _<_}
 use native.Mathlib.Nat.{not-suc-le-zero, le-of-suc-le-suc}
 use native.Mathlib.Omega.{arith}
 use lib.ListN.{length, length-append, drop, getElem?}
 use lib.Seq.{drop-append-le, drop-append-add}
-use Rattle.sheet.specs.Sheet.{Method, Step, Sheet, bodyIn, body}
+use Rattle.sheet.specs.Each.{Each, nil, cons}
+use Rattle.sheet.specs.Sheet.{Body, Method, Step, event-step, call-step, pass-step, Sheet, bodyIn, body}
+use Rattle.sheet.proofs.Each.{each-append}
 use Rattle.runs.specs.Rules.{Rule, firstRules, methodRules, stepRules, firstsRules, methodsRules, stepsRules, rulesFrom, rules}
 use Rattle.claims.specs.Claims.{NthIs}
-use Rattle.rules.specs.Order.{methodGroups, stepGroups, groupsFrom, groups, together}
+use Rattle.rules.specs.Order.{methodGroups, stepGroups, groupsFrom, groups, mostRules, together}
 
 module _ {A : Type 0} where
   pub together-append : (xss yss : List (List A)) → together (xss ++ yss) ≡ together xss ++ together yss
   unfolding together
   together-append [] yss = refl
   together-append (xs ∷ xss) yss = ap (λ (zs : List A). xs ++ zs) (together-append xss yss) ∙ sym (append-assoc xs (together xss) (together yss))
+
+  pub next-together : (xss : List (List A)) (n : ℕ) (xs : List A) → NthIs xss n xs → together (drop n xss) ≡ xs ++ together (drop (suc n) xss)
+  unfolding together
+  next-together xss n xs is = ap together is
 
   -- element n is there, and it is the only one
   pub nth-exists : (xs : List A) (n : ℕ) → n < length xs → (x : A) × NthIs xs n x
@@ -26,6 +32,13 @@ module _ {A : Type 0} where
 
   pub nth-same : (xs : List A) (n : ℕ) {x y : A} → NthIs xs n x → NthIs xs n y → x ≡ y
   nth-same xs n e f = cc
+
+  -- of elements that have a property each
+  nth-each : (P : A → Type 0) {xs : List A} → Each P xs → (n : ℕ) {x : A} → NthIs xs n x → P x
+  nth-each P nil zero is = let z : _≡_ {A = ℕ} 0 1 = cc in absurd (omega arith)
+  nth-each P nil (suc n) is = let z : _≡_ {A = ℕ} 0 1 = cc in absurd (omega arith)
+  nth-each P (cons {x = y} h t) zero {x} is = let same : y ≡ x = cc in subst P same h
+  nth-each P (cons h t) (suc n) is = nth-each P t n is
 
   -- of two lists one after the other
   pub nth-first : (xs ys : List A) (n : ℕ) (x : A) → n < length xs → NthIs xs n x → NthIs (xs ++ ys) n x
@@ -105,6 +118,44 @@ module _ (S : Sheet) where
         same (suc (before + k)) (stepRules S k t)
         (next-nth (before + k) _ (nth-second (methodGroups S 0 (S .methods)) (stepGroups S 0 (S .steps)) k _ (step-nth (S .steps) 0 k k (omega arith) t there)))
         (omega (arith, methods-many 0 (S .methods)))
+
+  -- No subject has more than mostRules -------------------------------------------------------------------------------
+
+  abbrev Few : List Rule → Type 0
+  Few xs = length xs ≤ mostRules
+
+  method-few : (m : ℕ) (b : Option Body) → Few (methodRules S m b)
+  method-few m none = omega arith
+  method-few m (some b) = omega arith
+
+  step-few : (i : ℕ) (t : Step) → Few (stepRules S i t)
+  step-few i (event-step p q a) = omega arith
+  step-few i (call-step t) = omega arith
+  step-few i (pass-step p q) = omega arith
+
+  methods-few : (k : ℕ) (ms : List Method) → Each Few (methodGroups S k ms)
+  unfolding methodGroups
+  methods-few k [] = nil
+  methods-few k (m ∷ ms) = cons (method-few k (m .body)) (methods-few (suc k) ms)
+
+  steps-few : (k : ℕ) (ts : List Step) → Each Few (stepGroups S k ts)
+  unfolding stepGroups
+  steps-few k [] = nil
+  steps-few k (t ∷ ts) = cons (step-few k t) (steps-few (suc k) ts)
+
+  groups-few : Each Few (groups S)
+  groups-few = subst (Each Few) (sym groups-are) (cons (omega arith) (each-append (methods-few 0 (S .methods)) (steps-few 0 (S .steps))))
+
+  pub group-few : (n : ℕ) {xs : List Rule} → NthIs (groups S) n xs → length xs ≤ mostRules
+  group-few = nth-each Few groups-few
+
+  together-few : {xss : List (List Rule)} → Each Few xss → length (together xss) ≤ mostRules * length xss
+  unfolding together
+  together-few nil = omega arith
+  together-few (cons {x = xs} {xs = xss} h t) = omega (arith, h, length-append xs (together xss), together-few t)
+
+  pub rules-few : length (together (groups S)) ≤ mostRules * length (groups S)
+  rules-few = together-few groups-few
 
   -- All rules -----------------------------------------------------------------------------------------------------------
 

@@ -1,4 +1,4 @@
 pub mod Decoded
 pub mod Groups
-pub mod Summed
+pub mod Told
 pub mod Walking

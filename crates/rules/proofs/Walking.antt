@@ -6,20 +6,18 @@ use native.Mathlib.Numerals.{add-one}
 use native.Mathlib.Omega.{arith}
 use lib.ListN.{length, drop, drop-of-length-le}
 use Rattle.sheet.specs.Sheet.{Sheet}
-use Rattle.runs.specs.Rules.{Rule, rules}
+use Rattle.runs.specs.Rules.{Rule}
 use Rattle.claims.specs.declared.Claim.{Claim}
 use Rattle.claims.specs.declared.Asked.{Asked}
 use Rattle.claims.specs.declared.Asked.the-variants.{Claim as AClaim, NoMore}
-use Rattle.rules.specs.declared.subjects.Counts.{Counts}
-use Rattle.claims.specs.declared.Subject.{Subject}
+use Rattle.rules.specs.declared.order.Counts.{Counts}
 use Rattle.rules.specs.declared.cursor.Cursor.{Cursor}
+use Rattle.rules.specs.declared.subjects.Subject.{Subject}
 use Rattle.claims.specs.Claims.{Says, Asks, NthIs, Kth, rule, none-left}
-use Rattle.claims.specs.Subjects.{SubjectIs, needsOf, mostRules}
-use Rattle.claims.proofs.Needed.{subject-needs, subject-few}
-use Rattle.rules.specs.Order.{groups, together, SheetIn}
+use Rattle.rules.specs.Subjects.{SubjectIs}
+use Rattle.rules.specs.Order.{groups, mostRules, together, SheetIn}
 use Rattle.rules.specs.Cursor.{LeftAt, GoesOn}
-use Rattle.rules.proofs.Groups.{nth-exists, groups-many}
-use Rattle.rules.proofs.Summed.{next-together}
+use Rattle.rules.proofs.Groups.{nth-exists, groups-many, group-few, next-together}
 
 abbrev pub cursorAt : ℕ → Subject → ℕ → Cursor
 cursorAt number subject k = record { number = number; subject = subject; k = k }
@@ -61,24 +59,24 @@ module _ {S : Sheet} {s conditions points methods steps : List ℕ} {n : Counts}
 
 module _ {S : Sheet} {s : List ℕ} where
   -- before the first claim of a subject
-  pub before-subject : {number : ℕ} {subject : Subject} (own : List Rule) → SubjectIs s S subject own → number < length (groups S) → NthIs (groups S) number own
+  pub before-subject : {number : ℕ} {subject : Subject} (own : List Rule) → SubjectIs s S subject own → NthIs (groups S) number own
       → (xs : List Rule) → xs ≡ together (drop number (groups S)) → LeftAt s S (cursorAt number subject 0) xs
-  before-subject {number} own is l nth xs e =
-      record { own = own; subject-is = is; numbered = l; within = omega arith; left-are = e ∙ next-together (groups S) number own nth }
+  before-subject {number} own is nth xs e =
+      record { own = own; subject-is = is; own-is = nth; within = omega arith; left-are = e ∙ next-together (groups S) number own nth }
 
   module _ {number : ℕ} {subject : Subject} {k : ℕ} {xs : List Rule} (h : LeftAt s S (cursorAt number subject k) xs) where
     abbrev behind : List Rule
     behind = together (drop (suc number) (groups S))
 
-    as-needed : needsOf subject .rules ≡ length (h .own)
-    as-needed = subject-needs s S subject (h .own) (h .subject-is) .rules-are
+    few-own : length (h .own) ≤ mostRules
+    few-own = group-few S number (h .own-is)
 
     pub few-asked : k ≤ mostRules
-    few-asked = omega (arith, h .within, as-needed, subject-few subject .few-rules)
+    few-asked = omega (arith, h .within, few-own)
 
     module _ {claim : Claim} (a : Claimed s (h .own) k claim) where
-      pub one-more : k < needsOf subject .rules
-      one-more = omega (arith, a .inside, as-needed)
+      pub one-more : k < mostRules
+      one-more = omega (arith, a .inside, few-own)
 
       pub goes-on : GoesOn s S xs claim (cursorAt number subject (k + 1))
       goes-on =
@@ -88,17 +86,17 @@ module _ {S : Sheet} {s : List ℕ} where
             says = a .says;
             rules-are = h .left-are ∙ ap (λ (ys : List Rule). ys ++ behind) (a .is) ∙ ap (λ (j : ℕ). a .rule-k ∷ (drop j (h .own) ++ behind)) (sym (add-one k));
             others-left =
-                record { own = h .own; subject-is = h .subject-is; numbered = h .numbered; within = omega (arith, a .inside); left-are = refl };
+                record { own = h .own; subject-is = h .subject-is; own-is = h .own-is; within = omega (arith, a .inside); left-are = refl };
           }
 
     module _ (none : drop k (h .own) ≡ []) where
       left-behind : xs ≡ behind
       left-behind = h .left-are ∙ ap (λ (ys : List Rule). ys ++ behind) none
 
-      pub goes-to : {subject′ : Subject} (own : List Rule) → SubjectIs s S subject′ own → number + 1 < length (groups S) → NthIs (groups S) (number + 1) own
+      pub goes-to : {subject′ : Subject} (own : List Rule) → SubjectIs s S subject′ own → NthIs (groups S) (number + 1) own
           → LeftAt s S (cursorAt (number + 1) subject′ 0) xs
-      goes-to own is l nth =
-          before-subject own is l nth xs (left-behind ∙ ap (λ (j : ℕ). together (drop j (groups S))) (sym (add-one number)))
+      goes-to own is nth =
+          before-subject own is nth xs (left-behind ∙ ap (λ (j : ℕ). together (drop j (groups S))) (sym (add-one number)))
 
       pub ends : length (groups S) ≤ suc number → xs ≡ []
       unfolding together

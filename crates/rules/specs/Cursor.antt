@@ -6,19 +6,19 @@ use lib.ListN.{length, drop}
 use Rattle.sheet.specs.Sheet.{Sheet}
 use Rattle.runs.specs.Rules.{Rule}
 use Rattle.claims.specs.declared.Claim.{Claim}
-use Rattle.rules.specs.declared.subjects.Counts.{Counts}
+use Rattle.rules.specs.declared.order.Counts.{Counts}
 use Rattle.rules.specs.declared.cursor.Cursor.{Cursor}
 use Rattle.rules.specs.declared.cursor.Next.{Next}
 use Rattle.rules.specs.declared.cursor.Next.the-variants.{Claim as NextClaim, End}
-use Rattle.claims.specs.Claims.{Says}
-use Rattle.claims.specs.Subjects.{SubjectIs, needsOf, mostRules}
-use Rattle.rules.specs.Order.{groups, together}
+use Rattle.claims.specs.Claims.{NthIs, Says}
+use Rattle.rules.specs.Subjects.{SubjectIs}
+use Rattle.rules.specs.Order.{groups, mostRules, together}
 
 -- xs are the rules whose claims come next: those that are left of the cursor's subject, and those of the subjects behind it
 pub record LeftAt (s : List ℕ) (S : Sheet) (c : Cursor) (xs : List Rule) : Type 0 where
   pub own : List Rule
   pub subject-is : SubjectIs s S (c .subject) own
-  pub numbered : c .number < length (groups S)
+  pub own-is : NthIs (groups S) (c .number) own
   pub within : c .k ≤ length own
   pub left-are : xs ≡ drop (c .k) own ++ together (drop (suc (c .number)) (groups S))
 
@@ -36,7 +36,7 @@ NextIs s S xs End = xs ≡ []
 
 -- at most so many claims come next
 abbrev pub weight : Counts → Cursor → ℕ
-weight n c = mostRules * (n .methods + n .steps - c .number) + (needsOf (c .subject) .rules - c .k)
+weight n c = mostRules * (n .methods + n .steps - c .number) + (mostRules - c .k)
 
 abbrev pub Nearer : Counts → Cursor → Next → Type 0
 Nearer n c (NextClaim claim after) = weight n after < weight n c

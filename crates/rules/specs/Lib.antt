@@ -1,2 +1,3 @@
+pub mod Subjects
 pub mod Order
 pub mod Cursor

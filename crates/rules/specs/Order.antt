@@ -6,7 +6,7 @@ use lib.ListN.{length}
 use Rattle.sheet.specs.Sheet.{Method, Step, Sheet}
 use Rattle.runs.specs.Rules.{Rule, firstRules, methodRules, stepRules}
 use Rattle.index.specs.Indexed.{Indexes}
-use Rattle.rules.specs.declared.subjects.Counts.{Counts}
+use Rattle.rules.specs.declared.order.Counts.{Counts}
 
 module _ (S : Sheet) where
   -- from the number k on
@@ -27,6 +27,10 @@ module _ (S : Sheet) where
   unfoldable pub groups : List (List Rule)
   unfolding groupsFrom
   groups = groupsFrom (0 ∷ [])
+
+-- no subject has more rules
+abbrev pub mostRules : ℕ
+mostRules = 5
 
 -- all elements of the lists, one list after the other
 unfoldable pub together : {A : Type 0} → List (List A) → List A

@@ -5,12 +5,12 @@ ghost use Rattle.runs.specs.Rules as runs;
 ghost use Rattle.runs.specs.Rules.{rules};
 ghost use Rattle.rules.specs.Order.{SheetIn};
 ghost use Rattle.rules.specs.Cursor.{LeftAt, NextIs, Nearer};
-use crate::subjects::Counts;
-use crate::subjects::subject_at;
+use crate::order::Counts;
+use crate::order::subject_at;
+use crate::subjects::Subject;
+use crate::subjects::claim_of;
 use claims::Asked;
 use claims::Claim;
-use claims::Subject;
-use claims::numbered::claim_of;
 
 // A subject with its number, and the number of the next of its claims.
 pub struct Cursor {

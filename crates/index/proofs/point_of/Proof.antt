@@ -1,6 +1,5 @@
-use mathlib.Core.Path.{ap}
 use native.Mathlib.Omega.{arith}
-use Rattle.sheet.specs.Sheet.{Point}
+use Rattle.index.proofs.Named.{point-named}
 use borrow.Author.Needs.{needs}
 use Rattle.index.proofs.point_of.Statement.{statement}
 use Rattle.index.proofs.point_of.Tie as tie
@@ -15,31 +14,27 @@ point-at-requires : tie.Need-point-at-requires
 point-at-requires c κs = search needs
 
 mul-t9 : tie.Need-mul-t9
-mul-t9 c = let e = ap (λ (x : Point). x .past) (c .point-at .ensures) in omega (arith, c .before .before .before .pre .1 .past-named .exists)
+mul-t9 c = let t = point-named (c .before .before .before .pre .1) (c .point-at .result) (c .point-at .ensures) in omega (arith, t .first .exists)
 
 element-copy-out-t12 : tie.Need-element-copy-out-t12
-element-copy-out-t12 c = let e = ap (λ (x : Point). x .past) (c .point-at .ensures) in omega (arith, c .before .before .before .pre .1 .past-named .exists)
+element-copy-out-t12 c = let t = point-named (c .before .before .before .pre .1) (c .point-at .result) (c .point-at .ensures) in omega (arith, t .first .exists)
 
 mul-t15 : tie.Need-mul-t15
-mul-t15 c = let e = ap (λ (x : Point). x .own) (c .before .point-at .ensures) in omega (arith, c .before .before .before .before .pre .1 .own-named .exists)
+mul-t15 c = let t = point-named (c .before .before .before .before .pre .1) (c .before .point-at .result) (c .before .point-at .ensures) in omega (arith, t .second .exists)
 
 element-copy-out-t18 : tie.Need-element-copy-out-t18
-element-copy-out-t18 c = let e = ap (λ (x : Point). x .own) (c .before .point-at .ensures) in omega (arith, c .before .before .before .before .pre .1 .own-named .exists)
+element-copy-out-t18 c = let t = point-named (c .before .before .before .before .pre .1) (c .before .point-at .result) (c .before .point-at .ensures) in omega (arith, t .second .exists)
 
 mul-t19 : tie.Need-mul-t19
-mul-t19 c = let e = ap (λ (x : Point). x .due) (c .before .before .point-at .ensures) in omega (arith, c .before .before .before .before .before .pre .1 .due-named .exists)
+mul-t19 c = let t = point-named (c .before .before .before .before .before .pre .1) (c .before .before .point-at .result) (c .before .before .point-at .ensures) in omega (arith, t .third .exists)
 
 element-copy-out-t22 : tie.Need-element-copy-out-t22
-element-copy-out-t22 c = let e = ap (λ (x : Point). x .due) (c .before .before .point-at .ensures) in omega (arith, c .before .before .before .before .before .pre .1 .due-named .exists)
+element-copy-out-t22 c = let t = point-named (c .before .before .before .before .before .pre .1) (c .before .before .point-at .result) (c .before .before .point-at .ensures) in omega (arith, t .third .exists)
 
 returns : tie.Need-returns
 returns c = λ S x.
-    let e = c .before .before .before .point-at .ensures in
-    record {
-      past-stands = rw (ap (λ (x : Point). x .past) e) (x .past-named .stands);
-      own-stands = rw (ap (λ (x : Point). x .own) e) (x .own-named .stands);
-      due-stands = rw (ap (λ (x : Point). x .due) e) (x .due-named .stands);
-    }
+    let t = point-named x (c .before .before .before .point-at .result) (c .before .before .before .point-at .ensures) in
+    record { past-stands = t .first .stands; own-stands = t .second .stands; due-stands = t .third .stands }
 
 pub point-of-spec : {M : Type 1} → statement M
 point-of-spec =

@@ -3,7 +3,7 @@ use mathlib.Core.Option.{Option}
 use Rattle.condition.specs.Condition.{Condition}
 use Rattle.claims.specs.declared.Left.the-variants.{One, Two}
 use Rattle.claims.specs.Claims.{raisedThen}
-use Rattle.claims.proofs.Kth.{says-in, raised-nothing, raised-word}
+use Rattle.claims.proofs.Says.{says-in, raised-nothing, raised-word}
 use borrow.Author.Needs.{needs}
 use Rattle.claims.proofs.forms.backward.Statement.{statement}
 use Rattle.claims.proofs.forms.backward.Tie as tie

@@ -1,7 +1,7 @@
 use mathlib.Core.Path.{refl, ap}
 use Rattle.claims.specs.declared.Left.the-variants.{One, Two}
 use Rattle.claims.specs.Claims.{thenRaised}
-use Rattle.claims.proofs.Kth.{says-in, raised-nothing, raised-word}
+use Rattle.claims.proofs.Says.{says-in, raised-nothing, raised-word}
 use borrow.Author.Needs.{needs}
 use Rattle.claims.proofs.forms.forward.Statement.{statement}
 use Rattle.claims.proofs.forms.forward.Tie as tie

@@ -5,7 +5,6 @@ use Rattle.sheet.specs.Sheet.{Sheet}
 use Rattle.runs.specs.Rules.{Rule}
 use Rattle.rules.specs.Order.{SheetIn}
 use Rattle.rules.specs.Cursor.{LeftAt, weight}
-use Rattle.claims.proofs.Needed.{subject-few}
 use Rattle.rules.proofs.Walking.{cursorAt, few-subjects, subjects-many, a-subject, claimed, all-claimed, few-asked, one-more, goes-on, goes-to, ends}
 use borrow.Author.Needs.{needs}
 use Rattle.rules.proofs.cursor.next_claim.Statement.{statement}
@@ -55,22 +54,21 @@ returns-2 c = (
 )
 
 add-number : tie.Need-add-number Inv-loop μ-loop
-add-number c = search needs
+add-number c = let (S, x, left) = c .before .before .before .before .before .before .before .pre in omega (arith, few-subjects x, c .if1 .left)
 
 subject-at-requires : tie.Need-subject-at-requires Inv-loop μ-loop
-subject-at-requires c κs = search needs
+subject-at-requires c κs = let (S, x, left) = c .before .before .before .before .before .before .before .pre in ((S, x), omega (arith, c .if1 .left))
 
 loop-less : tie.Need-loop-less Inv-loop μ-loop
-loop-less c = search needs
+loop-less c = omega (arith, c .before .if1 .left)
 
 loop-again : tie.Need-loop-again Inv-loop μ-loop
 loop-again c = let inv = c .before .before .before .before .before .loop .inv in (
-  omega (arith, inv .0, subject-few (c .subject-at .result) .few-rules, c .before .if1 .left),
+  omega (arith, inv .0, c .before .if1 .left),
   λ S xs x h.
       let left = inv .1 S xs x h in
       let (own, nth) = a-subject x (c .before .before .before .before .before .loop .number + 1) (omega (arith, c .before .if1 .left)) in
-      goes-to left (all-claimed (c .before .before .before .before .claim-of .ensures _ S (left .own) (left .subject-is)) (c .before .before .enum-told .given .1)) own (c .subject-at .ensures S own x nth)
-      (omega (arith, subjects-many x, c .before .if1 .left)) nth,
+      goes-to left (all-claimed (c .before .before .before .before .claim-of .ensures _ S (left .own) (left .subject-is)) (c .before .before .enum-told .given .1)) own (c .subject-at .ensures S own x nth) nth,
 )
 
 pub next-claim-spec : {M : Type 1} → statement M

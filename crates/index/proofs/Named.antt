@@ -1,0 +1,37 @@
+-- The three conditions that a point or a method names, by their numbers as they were read.
+use mathlib.Core.Path.{_≡_, sym, ap, subst}
+use mathlib.Core.List.{List}
+use Prim.Native.Nat.{ℕ}
+use lib.ListN.{getD}
+use Rattle.condition.specs.Condition.{Condition}
+use Rattle.sheet.specs.Sheet as sheet
+use Rattle.sheet.specs.Sheet.{Sheet, past, own, due, pre, trace, future}
+use Rattle.sheet.specs.AtOffset.{pointAt, methodAt}
+use Rattle.format.specs.declared.values.Point.{Point}
+use Rattle.format.specs.declared.values.Declaration.{Declaration}
+use Rattle.format.specs.Values.{pointValue, Declares}
+use Rattle.index.specs.Indexed.{ConditionIn, PointIn, MethodIn}
+
+-- the numbers a, b and c are those of the conditions x, y and z
+pub record Named (s conditions : List ℕ) (a b c : ℕ) (x y z : Condition) : Type 0 where
+  pub first : ConditionIn s conditions a x
+  pub second : ConditionIn s conditions b y
+  pub third : ConditionIn s conditions c z
+
+module _ {s conditions : List ℕ} where
+  in-table : {c c′ : ℕ} {r : Condition} → c ≡ c′ → ConditionIn s conditions c′ r → ConditionIn s conditions c r
+  in-table {r = r} e h = subst (λ (c : ℕ). ConditionIn s conditions c r) (sym e) h
+
+  named-as : {a b c a′ b′ c′ : ℕ} {x y z : Condition} → a ≡ a′ → b ≡ b′ → c ≡ c′
+      → ConditionIn s conditions a′ x → ConditionIn s conditions b′ y → ConditionIn s conditions c′ z → Named s conditions a b c x y z
+  named-as e f g h i j = record { first = in-table e h; second = in-table f i; third = in-table g j }
+
+  pub point-named : {S : Sheet} {points : List ℕ} {p : ℕ} → PointIn S s conditions points p → (v : Point) → pointValue v ≡ pointAt s (getD points p 0)
+      → Named s conditions (v .past) (v .own) (v .due) (past S p) (own S p) (due S p)
+  point-named x v e =
+      named-as (ap (λ (y : sheet.Point). y .past) e) (ap (λ (y : sheet.Point). y .own) e) (ap (λ (y : sheet.Point). y .due) e)
+      (x .past-named) (x .own-named) (x .due-named)
+
+  pub method-named : {S : Sheet} {methods : List ℕ} {m : ℕ} → MethodIn S s conditions methods m → (v : Declaration) → Declares v (methodAt s (getD methods m 0))
+      → Named s conditions (v .pre) (v .trace) (v .future) (pre S m) (trace S m) (future S m)
+  method-named x v e = named-as (e .pre-is) (e .trace-is) (e .future-is) (x .pre-named) (x .trace-named) (x .future-named)

@@ -1,0 +1,105 @@
+// How many rules a sheet has, and how many certificates they need: those of each subject, by its kind alone, summed.
+ghost use mathlib.Core.List.{List};
+ghost use Prim.Native.Nat.{ℕ, _+_, _≤_};
+ghost use Rattle.sheet.specs.Sheet.{Sheet};
+ghost use Rattle.runs.specs.Rules as runs;
+ghost use Rattle.runs.specs.Rules.{methodRules, stepRules, rules};
+ghost use Rattle.format.specs.Values.{methodValue, stepValue};
+ghost use Rattle.claims.specs.Claims.{NthIs};
+ghost use Rattle.rules.specs.Order.{SheetIn, groups};
+ghost use Rattle.needs.specs.Needs.{Needed};
+use format::values::Method;
+use format::values::Step;
+use format::values::method_at;
+use format::values::step_at;
+use rules::order::Counts;
+
+// How many rules there are, and how many certificates they need.
+pub struct Needs {
+    pub rules: usize,
+    pub certificates: usize,
+}
+
+// A method with body has rules 3 to 6, and 4 is the one without a certificate.
+fn method_needs(method: Method) -> Needs
+    ensures { λ r. ⌜ ((S : Sheet) (m : ℕ) → Needed (methodRules S m (methodValue method .body)) r) ⌝ }
+{
+    match method {
+        Method::Primitive(_) => Needs {
+            rules: 0,
+            certificates: 0,
+        },
+        Method::WithBody(_, _) => Needs {
+            rules: 4,
+            certificates: 3,
+        },
+    }
+}
+
+// An event step has rules 7 to 9, a call 10 to 14, a pass step 15 to 17, each with a certificate.
+fn step_needs(step: Step) -> Needs
+    ensures { λ r. ⌜ ((S : Sheet) (i : ℕ) → Needed (stepRules S i (stepValue step)) r) ⌝ }
+{
+    match step {
+        Step::Event { .. } => Needs {
+            rules: 3,
+            certificates: 3,
+        },
+        Step::Call(_) => Needs {
+            rules: 5,
+            certificates: 5,
+        },
+        Step::Pass { .. } => Needs {
+            rules: 3,
+            certificates: 3,
+        },
+    }
+}
+
+// The needs of a subject, by the number that it has in the order of testing. The first has rules 1 and 2, which have no certificate.
+fn needs_at(
+    s: &[u8],
+    methods: &[usize; 64],
+    steps: &[usize; 512],
+    counts: Counts,
+    number: usize,
+) -> Needs
+    requires { ⌜ ((S : Sheet) × (conditions : List ℕ) × (points : List ℕ) × SheetIn S (now s) conditions points (now methods) (now steps) counts) ⌝ }
+    requires { ⌜ number ≤ counts .methods + counts .steps ⌝ }
+    ensures { λ r. ⌜ ((S : Sheet) (conditions points : List ℕ) (xs : List runs.Rule) → SheetIn S (now (s .entry)) conditions points (now (methods .entry)) (now (steps .entry)) counts →
+        NthIs (groups S) number xs → Needed xs r) ⌝ }
+{
+    if number == 0 {
+        return Needs {
+            rules: 2,
+            certificates: 0,
+        };
+    }
+    let k = number - 1;
+    let listed = counts.methods;
+    if k < listed {
+        return method_needs(method_at(s, methods[k]));
+    }
+    step_needs(step_at(s, steps[k - listed]))
+}
+
+// The needs of all subjects.
+pub fn sheet_needs(s: &[u8], methods: &[usize; 64], steps: &[usize; 512], counts: Counts) -> Needs
+    requires { ⌜ ((S : Sheet) × (conditions : List ℕ) × (points : List ℕ) × SheetIn S (now s) conditions points (now methods) (now steps) counts) ⌝ }
+    ensures { λ r. ⌜ ((S : Sheet) (conditions points : List ℕ) → SheetIn S (now (s .entry)) conditions points (now (methods .entry)) (now (steps .entry)) counts → Needed (rules S) r) ⌝ }
+{
+    let last = counts.methods + counts.steps;
+    let mut rules: usize = 0;
+    let mut certificates: usize = 0;
+    let mut number: usize = 0;
+    while number <= last {
+        let needs = needs_at(s, methods, steps, counts, number);
+        rules += needs.rules;
+        certificates += needs.certificates;
+        number += 1;
+    }
+    Needs {
+        rules,
+        certificates,
+    }
+}

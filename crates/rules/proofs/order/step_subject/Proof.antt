@@ -1,0 +1,102 @@
+use Rattle.index.proofs.Indexed.{point-in, method-in, step-inside}
+use Rattle.rules.proofs.Decoded.{step-rules, named, fits}
+use borrow.Author.Needs.{needs}
+use Rattle.rules.proofs.order.step_subject.Statement.{statement}
+use Rattle.rules.proofs.order.step_subject.Tie as tie
+
+mul-step-at : tie.Need-mul-step-at
+mul-step-at c = search needs
+
+element-copy-out-step-at : tie.Need-element-copy-out-step-at
+element-copy-out-step-at c = search needs
+
+step-at-requires : tie.Need-step-at-requires
+step-at-requires c κs = let (S, x, l) = c .before .before .pre in step-inside x _ l
+
+enum-known-step : tie.Need-enum-known-step
+enum-known-step c = search needs
+
+point-of-requires : tie.Need-point-of-requires
+point-of-requires c κs = let (S, x, l) = c .before .before .before .before .before .before .pre in (S, point-in x _ (named x l (c .before .step .given .1) (c .before .before .before .step-at .ensures) .0))
+
+point-of-requires-2 : tie.Need-point-of-requires-2
+point-of-requires-2 c κs = let (S, x, l) = c .before .before .before .before .before .before .before .pre in (S, point-in x _ (named x l (c .before .before .step .given .1) (c .before .before .before .before .step-at .ensures) .1))
+
+enum-known-step-2 : tie.Need-enum-known-step-2
+enum-known-step-2 c = search needs
+
+point-of-requires-3 : tie.Need-point-of-requires-3
+point-of-requires-3 c κs = let (S, x, l) = c .before .before .before .before .before .before .pre in (S, point-in x _ (named x l (c .before .step2 .given .1) (c .before .before .before .step-at .ensures) .0))
+
+point-of-requires-4 : tie.Need-point-of-requires-4
+point-of-requires-4 c κs = let (S, x, l) = c .before .before .before .before .before .before .before .pre in (S, point-in x _ (named x l (c .before .before .step2 .given .1) (c .before .before .before .before .step-at .ensures) .1))
+
+method-of-requires : tie.Need-method-of-requires
+method-of-requires c κs = let (S, x, l) = c .before .before .before .before .before .before .before .before .pre in (S, method-in x _ (named x l (c .before .before .before .step2 .given .1) (c .before .before .before .before .before .step-at .ensures) .2))
+
+enum-known-step-3 : tie.Need-enum-known-step-3
+enum-known-step-3 c = search needs
+
+point-of-requires-5 : tie.Need-point-of-requires-5
+point-of-requires-5 c κs = let (S, x, l) = c .before .before .before .before .before .before .pre in (S, point-in x _ (named x l (c .before .step3 .given .1) (c .before .before .before .step-at .ensures) .0))
+
+point-of-requires-6 : tie.Need-point-of-requires-6
+point-of-requires-6 c κs = let (S, x, l) = c .before .before .before .before .before .before .before .pre in (S, point-in x _ (named x l (c .before .before .step3 .given .1) (c .before .before .before .before .step-at .ensures) .1))
+
+returns : tie.Need-returns
+returns c = λ S x l.
+    let is = c .before .before .before .step .given .1 in
+    let read = c .before .before .before .before .before .step-at .ensures in
+    record {
+      from = _;
+      to = _;
+      from-is = c .before .point-of .ensures S (point-in x _ (named x l is read .0));
+      to-is = c .point-of2 .ensures S (point-in x _ (named x l is read .1));
+      fits = fits x l is read;
+      rules-are = step-rules x l is read;
+    }
+
+returns-2 : tie.Need-returns-2
+returns-2 c = λ S x l.
+    let is = c .before .before .before .before .step2 .given .1 in
+    let read = c .before .before .before .before .before .before .step-at .ensures in
+    record {
+      call = _;
+      from-is = c .before .before .point-of3 .ensures S (point-in x _ (named x l is read .0));
+      to-is = c .before .point-of4 .ensures S (point-in x _ (named x l is read .1));
+      declared-is = c .method-of .ensures S (method-in x _ (named x l is read .2));
+      rules-are = step-rules x l is read;
+    }
+
+returns-3 : tie.Need-returns-3
+returns-3 c = λ S x l.
+    let is = c .before .before .before .step3 .given .1 in
+    let read = c .before .before .before .before .before .step-at .ensures in
+    record {
+      from = _;
+      to = _;
+      from-is = c .before .point-of5 .ensures S (point-in x _ (named x l is read .0));
+      to-is = c .point-of6 .ensures S (point-in x _ (named x l is read .1));
+      rules-are = step-rules x l is read;
+    }
+
+pub step-subject-spec : {M : Type 1} → statement M
+step-subject-spec =
+    tie.close
+    (tie.spec
+    mul-step-at
+    element-copy-out-step-at
+    step-at-requires
+    enum-known-step
+    point-of-requires
+    point-of-requires-2
+    enum-known-step-2
+    point-of-requires-3
+    point-of-requires-4
+    method-of-requires
+    enum-known-step-3
+    point-of-requires-5
+    point-of-requires-6
+    returns
+    returns-2
+    returns-3)
