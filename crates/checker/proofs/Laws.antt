@@ -1,65 +1,29 @@
--- What the test of a rule comes to, and rules tested one after the other.
+-- Rules tested one after the other.
 use mathlib.Core.Path.{_≡_, sym, ap, _∙_, subst}
 use mathlib.Core.Bool.{Bool}
 use mathlib.Core.List.{List, [], _∷_}
 use Prim.Native.Nat.{ℕ, _<_}
 use lib.ListN.{length}
-use Rattle.bits.specs.Bits.{has}
-use Rattle.condition.specs.Condition.{Condition}
-use Rattle.condition.specs.Places.{nullable, ends}
-use Rattle.certificate.specs.Certificate.{Finding, fault, unless}
 use Rattle.sheet.specs.Sheet.{Sheet}
-use Rattle.sheet.specs.AtOffset.{certificateAt}
 use Rattle.runs.specs.Rules as runs
 use Rattle.runs.specs.Rules.{rules}
-use Rattle.verdict.specs.Verdict.{testOf}
 use Rattle.faults.specs.declared.Fault.{Fault}
-use Rattle.places.specs.declared.Side.{Side}
-use Rattle.postfix.specs.declared.Part.{Part}
 use Rattle.items.specs.Stack.{Roomy, Rows}
-use Rattle.postfix.specs.Parts.{PartIs}
-use Rattle.places.specs.Tables.{Tables}
 use Rattle.answers.specs.declared.Rule.{Rule}
-use Rattle.index.specs.Trial.{Trial, passed, afterCertificate, afterTest, tryRules}
-use Rattle.index.proofs.Trial.{onward, no-rules, trial-one, trial-append}
-use Rattle.claims.specs.declared.Left.{Left}
-use Rattle.claims.specs.declared.Left.the-variants.{One, Two}
+use Rattle.index.specs.Trial.{Trial, tryRules}
+use Rattle.index.proofs.Trial.{onward, no-rules, trial-append}
 use Rattle.claims.specs.declared.Claim.{Claim}
-use Rattle.claims.specs.declared.Claim.the-variants.{Inclusion, HoldsEmpty}
-use Rattle.claims.specs.Claims.{JoinIs, LeftIs, Says, SaysInclusion, SaysEmpty}
-use Rattle.rules.specs.declared.subjects.Counts.{Counts}
+use Rattle.claims.specs.Claims.{Says}
+use Rattle.rules.specs.declared.order.Counts.{Counts}
 use Rattle.rules.specs.declared.cursor.Cursor.{Cursor}
 use Rattle.rules.specs.declared.cursor.Next.{Next}
 use Rattle.rules.specs.declared.cursor.Next.the-variants.{Claim as NextClaim, End}
 use Rattle.rules.specs.Cursor.{LeftAt, GoesOn, NextIs, weight, Nearer}
-use Rattle.checker.specs.declared.Tested.{Tested}
-use Rattle.checker.specs.declared.Tested.the-variants.{Passed, Failed}
-use Rattle.checker.specs.declared.Question.{Question}
-use Rattle.checker.specs.declared.Question.the-variants as question
-use Rattle.checker.specs.Tested.{trialOf, Tries, AsksInclusion, AsksEmpty, QuestionIs}
+use Rattle.trial.specs.declared.Tested.{Tested}
+use Rattle.trial.specs.declared.Tested.the-variants.{Passed, Failed}
+use Rattle.trial.specs.Tested.{trialOf, Tries}
 
--- Values told apart -----------------------------------------------------------------------------------------------------
-
-module _ (s : List ℕ) (r : Condition) {left : Left} where
-  pub left-one : {part : Part} → left ≡ One part → LeftIs s left r → PartIs s part r
-  left-one e h = subst (λ (x : Left). LeftIs s x r) e h
-
-  pub left-two : {first second : Part} → left ≡ Two first second → LeftIs s left r → JoinIs s first second r
-  left-two e h = subst (λ (x : Left). LeftIs s x r) e h
-
-module _ (s : List ℕ) (x : runs.Rule) {claim : Claim} {r : Rule} where
-  pub says-inclusion : {left : Left} {right : Part} → claim ≡ Inclusion r left right → Says s claim x → SaysInclusion s r left right x
-  says-inclusion e h = subst (λ (c : Claim). Says s c x) e h
-
-  pub says-empty : {part : Part} → claim ≡ HoldsEmpty r part → Says s claim x → SaysEmpty s r part x
-  says-empty e h = subst (λ (c : Claim). Says s c x) e h
-
-module _ (F S F′ S′ : List ℕ) (x : runs.Rule) {q : Question} {r : Rule} where
-  pub asks-inclusion : {left right : Side} → q ≡ question.Inclusion r left right → QuestionIs F S F′ S′ q x → AsksInclusion F S F′ S′ r left right x
-  asks-inclusion e h = subst (λ (q : Question). QuestionIs F S F′ S′ q x) e h
-
-  pub asks-empty : {side : Side} → q ≡ question.HoldsEmpty r side → QuestionIs F S F′ S′ q x → AsksEmpty F S r side x
-  asks-empty e h = subst (λ (q : Question). QuestionIs F S F′ S′ q x) e h
+-- What comes next, by its variants --------------------------------------------------------------------------------------
 
 module _ (s : List ℕ) (S : Sheet) (xs : List runs.Rule) {n : Next} where
   pub next-claim : {claim : Claim} {after : Cursor} → n ≡ NextClaim claim after → NextIs s S xs n → GoesOn s S xs claim after
@@ -70,23 +34,6 @@ module _ (s : List ℕ) (S : Sheet) (xs : List runs.Rule) {n : Next} where
 
 pub next-nearer : (k : Counts) (c : Cursor) {n : Next} {claim : Claim} {after : Cursor} → n ≡ NextClaim claim after → Nearer k c n → weight k after < weight k c
 next-nearer k c e h = subst (Nearer k c) e h
-
--- One rule --------------------------------------------------------------------------------------------------------------
-
--- the trial of one rule, by what its test finds
-pub trial-finds : (events : ℕ) (s : List ℕ) (x : runs.Rule) (from : ℕ) (f : Finding) → f ≡ testOf events (x .claim) (certificateAt s from)
-    → afterTest x f (passed (afterCertificate s (x .claim) from)) ≡ tryRules events s (x ∷ []) from
-trial-finds events s x from f e = ap (λ (f : Finding). afterTest x f (passed (afterCertificate s (x .claim) from))) e ∙ sym (trial-one events s x from)
-
--- the empty word, by place 0
-pub ends-empty : (a : Condition) (side : Side) (follow sets : List ℕ) → Tables a side follow sets → (b : Bool) → has (side .ends) 0 ≡ b
-    → unless b (fault 5 0 0 0) ≡ unless (nullable a) (fault 5 0 0 0)
-unfolding ends
-ends-empty a side follow sets t b e = ap (λ (b : Bool). unless b (fault 5 0 0 0)) (sym e ∙ t .ends-is 0)
-
--- the answer for a rule, by what the rule is
-pub tries-as : {events : ℕ} {s : List ℕ} {x y : runs.Rule} {from : ℕ} {answer : Tested} → x ≡ y → Tries events s (y ∷ []) from answer → Tries events s (x ∷ []) from answer
-tries-as {events} {s} {from = from} {answer} e h = subst (λ (r : runs.Rule). Tries events s (r ∷ []) from answer) (sym e) h
 
 -- Rules one after the other ---------------------------------------------------------------------------------------------
 

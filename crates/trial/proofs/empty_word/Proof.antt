@@ -1,10 +1,10 @@
 use mathlib.Core.Path.{sym, _∙_}
 use mathlib.Core.Bool.{true, false}
 use Rattle.certificate.specs.Certificate.{fine}
-use Rattle.checker.proofs.Laws.{trial-finds, ends-empty}
+use Rattle.trial.proofs.Laws.{trial-finds, ends-empty}
 use borrow.Author.Needs.{needs}
-use Rattle.checker.proofs.empty_word.Statement.{statement}
-use Rattle.checker.proofs.empty_word.Tie as tie
+use Rattle.trial.proofs.empty_word.Statement.{statement}
+use Rattle.trial.proofs.empty_word.Tie as tie
 
 member-requires : tie.Need-member-requires
 member-requires c κs = search needs

@@ -1,7 +1,7 @@
-use Rattle.checker.proofs.Laws.{says-inclusion, says-empty}
+use Rattle.sides.proofs.Laws.{says-inclusion, says-empty}
 use borrow.Author.Needs.{needs}
-use Rattle.checker.proofs.sides_of.Statement.{statement}
-use Rattle.checker.proofs.sides_of.Tie as tie
+use Rattle.sides.proofs.sides_of.Statement.{statement}
+use Rattle.sides.proofs.sides_of.Tie as tie
 
 enum-known-claim : tie.Need-enum-known-claim
 enum-known-claim c = search needs

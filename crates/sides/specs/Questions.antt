@@ -1,29 +1,16 @@
--- What an answer of the checker stands for, and what a question asks.
+-- What a question asks.
 use Prim.Native.Nat.{ℕ}
 use mathlib.Core.Path.{_≡_}
 use mathlib.Core.List.{List}
 use Rattle.condition.specs.Condition.{Condition}
 use Rattle.runs.specs.Rules as runs
 use Rattle.runs.specs.Rules.{_isIn_, holdsEmpty}
-use Rattle.faults.specs.Fault.{faultOf}
 use Rattle.places.specs.Tables.{Tables}
 use Rattle.places.specs.declared.Side.{Side}
-use Rattle.answers.specs.Answers.{ruleNumber, ruleSubject}
 use Rattle.answers.specs.declared.Rule.{Rule}
-use Rattle.index.specs.Trial.{Trial, passed, failed, tryRules}
 use Rattle.claims.specs.Claims.{_says_}
-use Rattle.checker.specs.declared.Tested.{Tested}
-use Rattle.checker.specs.declared.Tested.the-variants.{Passed, Failed}
-use Rattle.checker.specs.declared.Question.{Question}
-use Rattle.checker.specs.declared.Question.the-variants.{Inclusion, HoldsEmpty}
-
-abbrev pub trialOf : Tested → Trial
-trialOf (Passed at) = passed at
-trialOf (Failed r f) = failed (ruleNumber r) (ruleSubject r) (faultOf f)
-
--- the answer is what testing the rules over so many events, with the certificates from an offset on, comes to
-pub record Tries (events : ℕ) (s : List ℕ) (xs : List runs.Rule) (from : ℕ) (answer : Tested) : Type 0 where
-  pub comes-to : trialOf answer ≡ tryRules events s xs from
+use Rattle.sides.specs.declared.Question.{Question}
+use Rattle.sides.specs.declared.Question.the-variants.{Inclusion, HoldsEmpty}
 
 -- a question about the rule x, of the conditions whose places are in the tables: the left ones, and for an inclusion the right ones
 pub record AsksInclusion (F S F′ S′ : List ℕ) (r : Rule) (left right : Side) (x : runs.Rule) : Type 0 where

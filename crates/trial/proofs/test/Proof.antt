@@ -8,10 +8,10 @@ use Rattle.sheet.specs.AtOffset.{certificateAt}
 use Rattle.index.specs.Trial.{passed}
 use Rattle.clauses.specs.Clauses.{checkedFinding, Spans}
 use Rattle.pairs.proofs.Laws.{certificate-part}
-use Rattle.checker.proofs.Laws.{asks-inclusion, asks-empty, trial-finds, tries-as}
+use Rattle.trial.proofs.Laws.{asks-inclusion, asks-empty, trial-finds, tries-as}
 use borrow.Author.Needs.{needs}
-use Rattle.checker.proofs.test.Statement.{statement}
-use Rattle.checker.proofs.test.Tie as tie
+use Rattle.trial.proofs.test.Statement.{statement}
+use Rattle.trial.proofs.test.Tie as tie
 
 enum-known-question : tie.Need-enum-known-question
 enum-known-question c = search needs

@@ -1,7 +1,7 @@
-use Rattle.checker.proofs.Laws.{left-one, left-two}
+use Rattle.sides.proofs.Laws.{left-one, left-two}
 use borrow.Author.Needs.{needs}
-use Rattle.checker.proofs.left_side.Statement.{statement}
-use Rattle.checker.proofs.left_side.Tie as tie
+use Rattle.sides.proofs.left_side.Statement.{statement}
+use Rattle.sides.proofs.left_side.Tie as tie
 
 enum-known-left : tie.Need-enum-known-left
 enum-known-left c = search needs

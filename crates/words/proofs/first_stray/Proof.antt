@@ -3,8 +3,8 @@ use native.Mathlib.Omega.{arith}
 use borrow.Author.Count.{below-more}
 use borrow.Author.Needs.{needs}
 use lib.ListN.{length, getD}
-use Rattle.loader.proofs.first_stray.Statement.{statement}
-use Rattle.loader.proofs.first_stray.Tie as tie
+use Rattle.words.proofs.first_stray.Statement.{statement}
+use Rattle.words.proofs.first_stray.Tie as tie
 
 abbrev Inv-loop : tie.InvT-loop
 Inv-loop word events i₀ i = (i ≤ length word) × ((k : ℕ) → k < i → getD word k 0 < events)
