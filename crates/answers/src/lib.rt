@@ -28,6 +28,9 @@ pub enum Rule {
     PassDue(usize),
 }
 
+// A rule by two numbers, its own and that of its method or step.
+pub struct RuleNumbers(pub usize, pub usize);
+
 // What the loader returns: the count of an accepted sheet, a refusal, or the first fault of a well formed sheet.
 pub enum Verdict {
     Accepted(usize),
@@ -51,54 +54,29 @@ pub enum Place {
 // The rules about a method; the others are about a step.
 const RULES_OF_METHODS: [usize; 6] = [1, 2, 3, 4, 5, 6];
 
-// A rule's number, which has at most two digits.
-pub fn rule_number(r: Rule) -> usize
-    ensures { λ n. ⌜ n ≡ ruleNumber r ⌝ }
-    ensures { λ n. ⌜ n < 100 ⌝ }
+// A rule by its number, which has at most two digits, and that of its method or step.
+pub fn rule_numbers(r: Rule) -> RuleNumbers
+    ensures { λ n. ⌜ n ≡ (ruleNumber r, ruleSubject r) ⌝ }
+    ensures { λ n. ⌜ n .0 < 100 ⌝ }
 {
     match r {
-        Rule::FirstPre(_) => 1,
-        Rule::FirstFuture(_) => 2,
-        Rule::EntryPast(_) => 3,
-        Rule::EntryOwn(_) => 4,
-        Rule::ExitOwn(_) => 5,
-        Rule::ExitDue(_) => 6,
-        Rule::EventPast(_) => 7,
-        Rule::EventOwn(_) => 8,
-        Rule::EventDue(_) => 9,
-        Rule::CallPre(_) => 10,
-        Rule::CallPast(_) => 11,
-        Rule::CallOwn(_) => 12,
-        Rule::CallFuture(_) => 13,
-        Rule::CallDue(_) => 14,
-        Rule::PassPast(_) => 15,
-        Rule::PassOwn(_) => 16,
-        Rule::PassDue(_) => 17,
-    }
-}
-
-// The number of a rule's method or step.
-pub fn rule_subject(r: Rule) -> usize
-    ensures { λ k. ⌜ k ≡ ruleSubject r ⌝ }
-{
-    match r {
-        Rule::FirstPre(k)
-        | Rule::FirstFuture(k)
-        | Rule::EntryPast(k)
-        | Rule::EntryOwn(k)
-        | Rule::ExitOwn(k)
-        | Rule::ExitDue(k)
-        | Rule::EventPast(k)
-        | Rule::EventOwn(k)
-        | Rule::EventDue(k)
-        | Rule::CallPre(k)
-        | Rule::CallPast(k)
-        | Rule::CallOwn(k)
-        | Rule::CallFuture(k)
-        | Rule::CallDue(k)
-        | Rule::PassPast(k)
-        | Rule::PassOwn(k)
-        | Rule::PassDue(k) => k,
+        Rule::FirstPre(k) => RuleNumbers(1, k),
+        Rule::FirstFuture(k) => RuleNumbers(2, k),
+        Rule::EntryPast(k) => RuleNumbers(3, k),
+        Rule::EntryOwn(k) => RuleNumbers(4, k),
+        Rule::ExitOwn(k) => RuleNumbers(5, k),
+        Rule::ExitDue(k) => RuleNumbers(6, k),
+        Rule::EventPast(k) => RuleNumbers(7, k),
+        Rule::EventOwn(k) => RuleNumbers(8, k),
+        Rule::EventDue(k) => RuleNumbers(9, k),
+        Rule::CallPre(k) => RuleNumbers(10, k),
+        Rule::CallPast(k) => RuleNumbers(11, k),
+        Rule::CallOwn(k) => RuleNumbers(12, k),
+        Rule::CallFuture(k) => RuleNumbers(13, k),
+        Rule::CallDue(k) => RuleNumbers(14, k),
+        Rule::PassPast(k) => RuleNumbers(15, k),
+        Rule::PassOwn(k) => RuleNumbers(16, k),
+        Rule::PassDue(k) => RuleNumbers(17, k),
     }
 }
 

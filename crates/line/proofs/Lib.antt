@@ -1,3 +1,2 @@
-pub mod Decimal
-pub mod Put
 pub mod Lines
+pub mod Whole

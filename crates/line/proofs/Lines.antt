@@ -2,14 +2,14 @@
 use mathlib.Core.Path.{_≡_, refl, ap}
 use mathlib.Core.Bool.{true, false}
 use mathlib.Core.Option.{Option, none, some}
-use mathlib.Core.List.{List, _++_, append-nil}
+use mathlib.Core.List.{List, _++_, append-assoc, append-nil}
 use Prim.Native.Nat.{ℕ}
 use Rattle.certificate.specs.Certificate.{Fault}
 use Rattle.verdict.specs.Verdict.{accepted, refused, unproved}
 use Rattle.verdict.specs.WordTest.{tested, untested}
 use Rattle.verdict.specs.Line.{ascii, decimal, subjectName, refusedLine, line, answerLine}
-use Rattle.line.specs.Put.{Put}
-use Rattle.line.proofs.Put.{and-then}
+use Rattle.text.specs.Put.{Put}
+use Rattle.text.proofs.Put.{then}
 
 pub accepted-line : (n : ℕ) → line (accepted n) ≡ ascii "accepted " ++ decimal n
 unfolding line
@@ -30,6 +30,10 @@ no-line = refl
 pub untested-line : (n : ℕ) (at : Option ℕ) → answerLine (untested n at) ≡ refusedLine n at
 unfolding answerLine
 untested-line n at = refl
+
+-- a label x with its number y, and what follows them
+and-then : {a b c z : List ℕ} {i j k : ℕ} (x y : List ℕ) → Put a i (x ++ y) b j → Put b j z c k → Put a i (x ++ (y ++ z)) c k
+and-then x y p q = rw append-assoc at (then p q)
 
 -- a refusal's line, with a place and without
 module _ {o o₁ : List ℕ} {a n m : ℕ} {at : Option ℕ} (number : n ≡ m) (first : Put o 0 (ascii "refused " ++ decimal n) o₁ a) where

@@ -8,68 +8,27 @@ ghost use Rattle.verdict.specs.Line.{ascii, decimal, subjectName, refusedLine, 
 ghost use Rattle.faults.specs.Fault.{faultOf};
 ghost use Rattle.format.specs.Refusal.{numberOf, placeOf};
 ghost use Rattle.answers.specs.Answers.{ruleNumber, ruleSubject, reportOf, answerOf};
-ghost use Rattle.line.specs.Put.{Put, Written, LineIn};
+ghost use Rattle.text.specs.Put.{Put};
+ghost use Rattle.line.specs.Line.{Written, LineIn};
 use answers::Place;
 use answers::Rule;
+use answers::RuleNumbers;
 use answers::Verdict;
 use answers::WordAnswer;
 use answers::of_method;
 use answers::refusal_number;
 use answers::refusal_place;
-use answers::rule_number;
-use answers::rule_subject;
+use answers::rule_numbers;
 use faults::Fault;
 use format::Refusal;
+use text::put_number;
+use text::put_text;
+use text::put_value;
 
 // A line: the first bytes of a buffer, as many as `size` says.
 pub struct Line {
     pub bytes: [u8; 160],
     pub size: usize,
-}
-
-// A digit in ASCII.
-fn digit(n: usize) -> u8
-    requires { ⌜ n < 10 ⌝ }
-    ensures { λ r. ⌜ r ≡ 48 + n ⌝ }
-{
-    48 + (n as u8)
-}
-
-// A text at a place of the buffer. Each function that puts something returns the place behind it.
-fn put_text(text: &[u8], out: &mut [u8; 160], at: usize) -> usize
-    requires { ⌜ at + length (now text) ≤ 160 ⌝ }
-    ensures { λ r. ⌜ Put (now (out .entry)) at (now (text .entry)) (now (out .exit)) r ⌝ }
-{
-    let mut i = 0;
-    while i < text.len() {
-        out[at + i] = text[i];
-        i += 1;
-    }
-    at + i
-}
-
-// A number in decimal: its last digit goes behind the digits of its tenth.
-fn put_number(n: usize, out: &mut [u8; 160], at: usize) -> usize
-    requires { ⌜ at + length (decimal n) ≤ 160 ⌝ }
-    ensures { λ r. ⌜ Put (now (out .entry)) at (decimal n) (now (out .exit)) r ⌝ }
-{
-    if n < 10 {
-        out[at] = digit(n);
-        return at + 1;
-    }
-    let last = put_number(n / 10, out, at);
-    out[last] = digit(n % 10);
-    last + 1
-}
-
-// A label and a number, which has at most 20 digits.
-fn put_value(label: &[u8], n: usize, out: &mut [u8; 160], at: usize) -> usize
-    requires { ⌜ at + length (now label) + 20 ≤ 160 ⌝ }
-    ensures { λ r. ⌜ Put (now (out .entry)) at (now (label .entry) ++ decimal n) (now (out .exit)) r ⌝ }
-    ensures { λ r. ⌜ r ≤ at + length (now (label .entry)) + 20 ⌝ }
-{
-    let next = put_text(label, out, at);
-    put_number(n, out, next)
 }
 
 // A rule's method or step.
@@ -113,8 +72,7 @@ fn put_unproved(rule: Rule, fault: Fault, out: &mut [u8; 160]) -> usize
     ensures { λ r. ⌜ Put (now (out .entry)) 0 (line (unproved (ruleNumber rule) (ruleSubject rule) (faultOf fault))) (now (out .exit)) r ⌝ }
     ensures { λ r. ⌜ r ≤ 152 ⌝ }
 {
-    let number = rule_number(rule);
-    let subject = rule_subject(rule);
+    let RuleNumbers(number, subject) = rule_numbers(rule);
     let a = put_rule(number, out);
     let b = put_subject(number, subject, out, a);
     let c = put_value(b" clause ", fault.clause, out, b);

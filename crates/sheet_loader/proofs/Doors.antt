@@ -6,10 +6,12 @@ use Rattle.sheet.specs.Model.{large}
 use Rattle.verdict.specs.Verdict.{Report}
 use Rattle.verdict.specs.WordTest.{Answer}
 use Rattle.verdict.specs.Promise.{Loads, TestsWord}
-use Rattle.reader.specs.declared.Read.{Read}
+use Rattle.sections.specs.declared.Read.{Read}
 use Rattle.reader.specs.Contract.{Answered}
-use Rattle.sheet_loader.specs.Numbers.{reportNumbers, answerNumbers, LoadsInto, TestsWordInto, ReadsInto}
-use Rattle.sheet_loader.specs.Code.{Stores, numbersRead}
+use Rattle.numbers.specs.Numbers.{reportNumbers, answerNumbers}
+use Rattle.numbers.specs.Stores.{Stores}
+use Rattle.sheet_loader.specs.Doors.{LoadsInto, TestsWordInto, ReadsInto}
+use Rattle.sheet_loader.specs.Reading.{numbersRead}
 use Rattle.sheet_loader.proofs.Reading.{read-numbers}
 
 -- numbers that are equal are stored alike

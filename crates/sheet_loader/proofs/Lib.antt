@@ -1,3 +1,3 @@
 pub mod Doors
 pub mod Reading
-pub mod Storing
+mod Status

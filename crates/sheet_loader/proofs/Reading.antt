@@ -5,11 +5,11 @@ use Prim.Native.Nat.{ℕ}
 use Rattle.sheet.specs.Model.{Model}
 use Rattle.sheet.specs.Kind.{conditions, points, methods, steps, certificates}
 use Rattle.sheet.specs.Reading.{readSheet}
-use Rattle.reader.specs.declared.Read.{Read}
-use Rattle.reader.specs.declared.Read.the-variants.{Whole, Refused}
+use Rattle.sections.specs.declared.Read.{Read}
+use Rattle.sections.specs.declared.Read.the-variants.{Whole, Refused}
 use Rattle.reader.specs.Contract.{Answered}
-use Rattle.sheet_loader.specs.Numbers.{readNumbers}
-use Rattle.sheet_loader.specs.Code.{numbersRead}
+use Rattle.numbers.specs.Numbers.{readNumbers}
+use Rattle.sheet_loader.specs.Reading.{numbersRead}
 
 pub read-numbers : (M : Model) (s : List ℕ) (r : Read) → Answered M s r → numbersRead r ≡ readNumbers (readSheet M s)
 read-numbers M s (Whole c) a = rw (a .outcome, a .tally conditions, a .tally points, a .tally methods, a .tally steps, a .tally certificates) refl

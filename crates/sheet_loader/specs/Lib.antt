@@ -1,2 +1,2 @@
-pub mod Code
-pub mod Numbers
+pub mod Doors
+pub mod Reading

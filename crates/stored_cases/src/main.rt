@@ -9,12 +9,12 @@ use input::first;
 use instrument::Instrument;
 use libc::STDOUT_FILENO;
 use loader::load;
-use loader::word_test;
 use printing::print_answer;
 use printing::print_verdict;
-use reader::Read;
 use reader::read_sheet;
+use sections::Read;
 use tally::Tally;
+use words::word_test;
 
 // What is done with the sheets of a file.
 enum Kind {

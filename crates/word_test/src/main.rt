@@ -1,19 +1,19 @@
 // Tests a word in a condition of a sheet and prints one line. The arguments are the sheet's file, the condition's number and the events. What
 // is wrong with them, and what cannot be read or written, is said on standard error.
-use arguments::Argument;
-use arguments::Events;
 use arguments::cannot_write;
 use arguments::is_argument;
-use arguments::number_at;
-use arguments::read_events;
 use arguments::read_named;
 use arguments::wrong_argument;
+use decimal::Argument;
+use decimal::Events;
+use decimal::number_at;
+use decimal::read_events;
 use input::Input;
 use input::first;
 use libc::STDERR_FILENO;
 use libc::STDOUT_FILENO;
-use loader::word_test;
 use printing::print_answer;
+use words::word_test;
 
 fn wrong(i: usize, expected: &[u8]) {
     wrong_argument(b"word_test", i, expected);

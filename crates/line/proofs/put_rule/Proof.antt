@@ -2,8 +2,8 @@
 use native.Mathlib.Omega.{arith}
 use borrow.Author.Needs.{needs}
 use Rattle.verdict.specs.Line.{ascii}
-use Rattle.line.proofs.Decimal.{two-digits}
-use Rattle.line.proofs.Put.{then}
+use Rattle.text.proofs.Decimal.{two-digits}
+use Rattle.text.proofs.Put.{then}
 use Rattle.line.proofs.put_rule.Statement.{statement}
 use Rattle.line.proofs.put_rule.Tie as tie
 

@@ -1,15 +1,14 @@
 -- `line::put_unproved` meets its contract: six pieces, one behind the other.
+use mathlib.Core.Path.{ap}
 use borrow.Author.Needs.{needs}
 use Rattle.verdict.specs.Line.{ascii}
+use Rattle.answers.specs.declared.RuleNumbers.{RuleNumbers}
 use Rattle.line.proofs.Lines.{unproved-pieces}
 use Rattle.line.proofs.put_unproved.Statement.{statement}
 use Rattle.line.proofs.put_unproved.Tie as tie
 
-rule-number-requires : tie.Need-rule-number-requires
-rule-number-requires c κs = search needs
-
-rule-subject-requires : tie.Need-rule-subject-requires
-rule-subject-requires c κs = search needs
+rule-numbers-requires : tie.Need-rule-numbers-requires
+rule-numbers-requires c κs = search needs
 
 put-rule-requires : tie.Need-put-rule-requires
 put-rule-requires c κs = search needs
@@ -49,10 +48,10 @@ returns c =
     let clause = pair .before .before .before in
     let subject = clause .before .before .before in
     let rule = subject .before .before in
-    let start = rule .before .before in (
+    let numbers = rule .before .before .rule-numbers .ensures .0 in (
       unproved-pieces _
-          (start .before .rule-number .ensures .0)
-          (start .rule-subject .ensures)
+          (ap (λ (n : RuleNumbers). n .0) numbers)
+          (ap (λ (n : RuleNumbers). n .1) numbers)
           (rule .put-rule .ensures .0)
           (subject .put-subject .ensures .0)
           (clause .put-value .ensures .0)
@@ -66,8 +65,7 @@ pub put-unproved-spec : {M : Type 1} → statement M
 put-unproved-spec =
     tie.close
     (tie.spec
-    rule-number-requires
-    rule-subject-requires
+    rule-numbers-requires
     put-rule-requires
     put-subject-requires
     slice-aggregate-put-value

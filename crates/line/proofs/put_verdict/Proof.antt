@@ -3,7 +3,7 @@ use native.Mathlib.Omega.{arith}
 use borrow.Author.Needs.{needs}
 use Rattle.verdict.specs.Line.{ascii}
 use Rattle.line.proofs.Lines.{accepted-line, refused-line}
-use Rattle.line.proofs.Put.{begins}
+use Rattle.line.proofs.Whole.{begins}
 use Rattle.line.proofs.put_verdict.Statement.{statement}
 use Rattle.line.proofs.put_verdict.Tie as tie
 
