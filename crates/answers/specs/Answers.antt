@@ -15,6 +15,7 @@ use Rattle.answers.specs.declared.Verdict.the-variants.{Accepted, Refuse
 use Rattle.answers.specs.declared.WordAnswer.{WordAnswer}
 use Rattle.answers.specs.declared.WordAnswer.the-variants.{Yes, No, Refused as RefusedWord}
 
+-- the number of a rule, 1 to 17
 abbrev pub ruleNumber : Rule → ℕ
 ruleNumber (FirstPre k) = 1
 ruleNumber (FirstFuture k) = 2
@@ -54,10 +55,12 @@ ruleSubject (PassPast k) = k
 ruleSubject (PassOwn k) = k
 ruleSubject (PassDue k) = k
 
+-- a place, if there is one
 abbrev pub placeIn : Place → Option ℕ
 placeIn (At k) = some k
 placeIn Nowhere = none
 
+-- the report, and the word test's answer, that a value of the code stands for
 abbrev pub reportOf : Verdict → Report
 reportOf (Accepted n) = accepted n
 reportOf (RefusedSheet x) = refused (numberOf x) (placeOf x)

@@ -15,9 +15,11 @@ pub record Pair : Type 0 where
   pub place : ℕ
   pub set : ℕ
 
+-- from its place and its set
 abbrev pub pair : ℕ → ℕ → Pair
 pair l s = record { place = l; set = s }
 
+-- a certificate: its pairs, in the order in which they stand
 abbrev pub Certificate : Type 0
 Certificate = List Pair
 
@@ -39,6 +41,7 @@ pub data Finding : Type 0 where
   fine : Finding
   found : Fault → Finding
 
+-- a fault that is found, from its four values
 abbrev pub fault : ℕ → ℕ → ℕ → ℕ → Finding
 fault c i e l = found (record { clause = c; pair = i; event = e; place = l })
 

@@ -4,6 +4,7 @@ use mathlib.Core.Option.{Option, none, some}
 use Rattle.format.specs.declared.Refusal.{Refusal}
 use Rattle.format.specs.declared.Refusal.the-variants.{TooLong, UnknownKind, BodyPastEnd, WrongSection, WrongItems, OverLimit, UnknownName, Unfinished, NoFirstBody, CertificateCount, WordTooLong, StrayEvent, NoSuchCondition}
 
+-- the number, 1 to 10 and 12 to 14
 abbrev pub numberOf : Refusal → ℕ
 numberOf (TooLong at) = 1
 numberOf (UnknownKind at) = 2

@@ -22,6 +22,7 @@ pub record ThreeAt (x : Three) (s : List ℕ) (at : ℕ) : Type 0 where
   pub second-is : x .second ≡ shortAt s (at + 3)
   pub third-is : x .third ≡ shortAt s (at + 5)
 
+-- a point, a body, a method, a call and a step, each by the value of the code
 abbrev pub pointValue : Point → sheet.Point
 pointValue x = record { past = x .past; own = x .own; due = x .due }
 

@@ -1,16 +1,14 @@
 -- Answers as numbers, for callers in C and Rust: what the doors return and what they write into a lent slice.
 use Prim.Native.Nat.{ℕ, zero, suc, _-_, _^_}
-use mathlib.Core.Path.{_≡_}
 use mathlib.Core.Bool.{true, false, cond}
 use mathlib.Core.Option.{Option, none, some}
 use mathlib.Core.List.{List, [], _∷_, _++_}
 use lib.ListN.{length, drop}
 use lib.Dec.{leb}
-use Rattle.sheet.specs.Model.{large}
 use Rattle.sheet.specs.Kind.{conditions, points, methods, steps, certificates}
-use Rattle.sheet.specs.Reading.{tally, Outcome, whole, refusal, readSheet}
-use Rattle.verdict.specs.Verdict.{Report, accepted, refused, unproved, verdictOf}
-use Rattle.verdict.specs.WordTest.{Answer, tested, untested, wordTest}
+use Rattle.sheet.specs.Reading.{tally, Outcome, whole, refusal}
+use Rattle.verdict.specs.Verdict.{Report, accepted, refused, unproved}
+use Rattle.verdict.specs.WordTest.{Answer, tested, untested}
 use Rattle.verdict.specs.Reply.{Reply, replyOf, answerReply}
 
 -- Status ----------------------------------------------------------------------------------------------------------------

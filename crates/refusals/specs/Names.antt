@@ -16,6 +16,7 @@ pub record Named (s : List ℕ) (at kind : ℕ) : Type 0 where
   pub high : sectionOf kind ≤ steps
   pub inside : nextAt s at ≤ length s
 
+-- two and three names in a row, from an offset on, are below n
 abbrev pub twoBelow : List ℕ → ℕ → ℕ → Bool
 twoBelow s i n = ltb (shortAt s i) n && ltb (shortAt s (i + 2)) n
 

@@ -30,6 +30,7 @@ pub record GoesOn (s : List ℕ) (S : Sheet) (xs : List Rule) (claim : Claim) (a
   pub rules-are : xs ≡ first ∷ others
   pub others-left : LeftAt s S after others
 
+-- what comes next of the rules xs: the first one's claim, or the end where there is none
 abbrev pub NextIs : List ℕ → Sheet → List Rule → Next → Type 0
 NextIs s S xs (NextClaim claim after) = GoesOn s S xs claim after
 NextIs s S xs End = xs ≡ []
@@ -38,6 +39,7 @@ NextIs s S xs End = xs ≡ []
 abbrev pub weight : Counts → Cursor → ℕ
 weight n c = mostRules * (n .methods + n .steps - c .number) + (mostRules - c .k)
 
+-- each claim leaves fewer to come
 abbrev pub Nearer : Counts → Cursor → Next → Type 0
 Nearer n c (NextClaim claim after) = weight n after < weight n c
 Nearer n c End = Unit {0}

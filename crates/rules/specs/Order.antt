@@ -14,6 +14,7 @@ module _ (S : Sheet) where
   methodGroups k [] = []
   methodGroups k (m ∷ ms) = methodRules S k (m .body) ∷ methodGroups (suc k) ms
 
+  -- the same of steps
   unfoldable pub stepGroups : ℕ → List Step → List (List Rule)
   stepGroups k [] = []
   stepGroups k (t ∷ ts) = stepRules S k t ∷ stepGroups (suc k) ts

@@ -12,10 +12,12 @@ use Rattle.index.specs.Indexed.{PointIs, MethodIs}
 use Rattle.rules.specs.declared.subjects.Subject.{Subject}
 use Rattle.rules.specs.declared.subjects.Subject.the-variants.{First, Body, Event, Call, Pass, None}
 
+-- the method m, at which runs start, declares the conditions d, and xs are its rules 1 and 2
 pub record FirstIs (s : List ℕ) (S : Sheet) (m : ℕ) (d : MethodConditions) (xs : List Rule) : Type 0 where
   pub declared-is : MethodIs s S m d
   pub rules-are : xs ≡ firstRules S m
 
+-- the method m with body, by what it declares and by its entry and exit points, and its rules 3 to 6
 pub record BodyIs (s : List ℕ) (S : Sheet) (m : ℕ) (d : MethodConditions) (entry exit : PointConditions) (xs : List Rule) : Type 0 where
   pub inner : sheet.Body
   pub declared-is : MethodIs s S m d
@@ -23,6 +25,7 @@ pub record BodyIs (s : List ℕ) (S : Sheet) (m : ℕ) (d : MethodConditions) (e
   pub exit-is : PointIs s S (inner .exit) exit
   pub rules-are : xs ≡ methodRules S m (some inner)
 
+-- the event step i, by the points that it leads from and to and its event, and its rules 7 to 9
 pub record EventIs (s : List ℕ) (S : Sheet) (i : ℕ) (p q : PointConditions) (a : ℕ) (xs : List Rule) : Type 0 where
   pub from : ℕ
   pub to : ℕ
@@ -31,6 +34,7 @@ pub record EventIs (s : List ℕ) (S : Sheet) (i : ℕ) (p q : PointConditions) 
   pub fits : a < 64
   pub rules-are : xs ≡ stepRules S i (event-step from to a)
 
+-- the call step i, by its points and by what the called method declares, and its rules 10 to 14
 pub record CallIs (s : List ℕ) (S : Sheet) (i : ℕ) (p q : PointConditions) (d : MethodConditions) (xs : List Rule) : Type 0 where
   pub call : CallStep
   pub from-is : PointIs s S (call .from) p
@@ -38,6 +42,7 @@ pub record CallIs (s : List ℕ) (S : Sheet) (i : ℕ) (p q : PointConditions) (
   pub declared-is : MethodIs s S (call .method) d
   pub rules-are : xs ≡ stepRules S i (call-step call)
 
+-- the pass step i, by its points, and its rules 15 to 17
 pub record PassIs (s : List ℕ) (S : Sheet) (i : ℕ) (p q : PointConditions) (xs : List Rule) : Type 0 where
   pub from : ℕ
   pub to : ℕ

@@ -1,6 +1,6 @@
 -- From what is promised of activations alone: a call's number is no other call's, and the history at its beginning is one of the run.
 use mathlib.Core.Path.{_≡_, ap, subst}
-use mathlib.Core.List.{List, [], _∷_, map, List·Memᴰ, List·Memᴰ·eq-of-singleton, List·Nodup, nodup-cons}
+use mathlib.Core.List.{List, _∷_, map, List·Memᴰ, List·Memᴰ·eq-of-singleton, List·Nodup, nodup-cons}
 use Prim.Native.Nat.{ℕ}
 use Rattle.sheet.proofs.Each.{each-member}
 use Rattle.sheet.specs.Sheet.{Sheet}

@@ -16,6 +16,7 @@ pub data Claim : Type 0 where
   _isIn_ : Condition → Condition → Claim
   holdsEmpty : Condition → Claim
 
+-- what a claim says of the languages
 abbrev pub Met : Claim → Type 0
 Met (a isIn b) = a ⊆ b
 Met (holdsEmpty a) = Holds a []
@@ -26,6 +27,7 @@ pub record Rule : Type 0 where
   pub subject : ℕ
   pub claim : Claim
 
+-- a rule from its number, its subject and its claim
 infix 20 _of_says_
 abbrev pub _of_says_ : ℕ → ℕ → Claim → Rule
 n of k says c = record { number = n; subject = k; claim = c }
@@ -34,6 +36,7 @@ n of k says c = record { number = n; subject = k; claim = c }
 abbrev pub rulesOfMethods : List ℕ
 rulesOfMethods = 1 ∷ 2 ∷ 3 ∷ 4 ∷ 5 ∷ 6 ∷ []
 
+-- whether a number is one of a list, and a rule's number one of these
 abbrev pub isAmong : List ℕ → ℕ → Bool
 isAmong [] n = false
 isAmong (k ∷ ks) n = eqb n k || isAmong ks n
@@ -115,6 +118,7 @@ AllMet = Each (λ x. Met (x .claim))
 
 -- The count: "2 + 4b + 3e + 5c + 3p for b methods with body, e event, c call and p pass steps" ---------------------------
 
+-- b, of one method
 abbrev pub bodiesIn : Option Body → ℕ
 bodiesIn none = 0
 bodiesIn (some b) = 1
@@ -122,6 +126,7 @@ bodiesIn (some b) = 1
 abbrev pub bodyCount : Method → ℕ
 bodyCount m = bodiesIn (m .body)
 
+-- e, c and p, of one step
 abbrev pub eventCount : Step → ℕ
 eventCount (event-step p q a) = 1
 eventCount (call-step t) = 0
@@ -137,10 +142,12 @@ passCount (event-step p q a) = 0
 passCount (call-step t) = 0
 passCount (pass-step p q) = 1
 
+-- the sum over a list
 unfoldable pub total : {A : Type 0} → (A → ℕ) → List A → ℕ
 total f [] = 0
 total f (x ∷ xs) = f x + total f xs
 
+-- where runs start at the methods of a list: two rules for each
 unfoldable pub countFrom : List ℕ → Sheet → ℕ
 unfolding total
 countFrom starts S =
@@ -150,6 +157,7 @@ countFrom starts S =
     + 5 * total callCount (S .steps)
     + 3 * total passCount (S .steps)
 
+-- where they start at method 0
 unfoldable pub count : Sheet → ℕ
 unfolding countFrom
 count S = countFrom (0 ∷ []) S

@@ -151,6 +151,7 @@ makeStep S s i w (event-step p q a) = raise (a ∷ []) q s
 makeStep S s i w (call-step t) = makeCall S s (newCall s i t) w (t .to) (body S (t .method))
 makeStep S s i w (pass-step p q) = raise [] q s
 
+-- the points that a step leads from and to
 abbrev pub fromOf : Step → ℕ
 fromOf (event-step p q a) = p
 fromOf (call-step t) = t .from
@@ -175,6 +176,7 @@ abbrev pub targetOr : ℕ → Option Step → ℕ
 targetOr here none = here
 targetOr here (some t) = toOf t
 
+-- no call is open
 abbrev pub noneOpen : List Call → Bool
 noneOpen [] = true
 noneOpen (c ∷ cs) = false
@@ -196,11 +198,13 @@ abbrev pub exitsAt : Option Body → ℕ → Bool
 exitsAt none p = false
 exitsAt (some b) p = eqb p (b .exit)
 
+-- a return from the innermost open call, if there is one and control is there
 abbrev pub tryReturn : Sheet → State → List Call → State
 tryReturn S s [] = s
 tryReturn S s (c ∷ callers) =
     cond (exitsAt (body S (c .method)) (s .point)) (close s c callers (targetOr (s .point) (madeBy S (c .step)))) s
 
+-- a move before the end
 abbrev pub tryMove : Sheet → State → Move → State
 tryMove S s return = tryReturn S s (s .open-calls)
 tryMove S s (by-step i w) = tryStep S s i w (getElem? (S .steps) i)

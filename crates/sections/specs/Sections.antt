@@ -76,11 +76,12 @@ pub record Filled (M : Model) (s : List ℕ) (o : Outcome) (next : ℕ) (a : Sec
   pub told : Told M s o next a state
   pub grown : Extended k r state before after
 
--- what the reader of certificates, which began in the state r, tells: the outcome, and that only certificates were counted
+-- the answer is the outcome of reading, which ends in the state u
 abbrev pub Answers : List ℕ → Outcome → Read → Reading → Type 0
 Answers s o (Whole c) u = (o ≡ whole u) × Counts u (c .tally) × (c .certificates ≡ getD (startsOf (u .own certificates)) 0 (length s))
 Answers s o (read.Refused x) u = Ends o u x
 
+-- what the reader of certificates, which began in the state r, tells: the outcome, and that only certificates were counted
 pub record Concluded (s : List ℕ) (o : Outcome) (r : Reading) (a : Read) : Type 0 where
   pub state : Reading
   pub answers : Answers s o a state

@@ -46,6 +46,7 @@ abbrev pub sheetIn : Outcome → Sheet
 sheetIn (whole r) = sheetRead (r .own)
 sheetIn (refusal n at r) = sheetRead (λ k. [])
 
+-- on an instrument, from the bytes
 unfoldable pub sheetOf : Model → List ℕ → Sheet
 unfolding readSheet
 sheetOf M s = sheetIn (readSheet M s)

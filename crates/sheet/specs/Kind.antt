@@ -25,6 +25,7 @@ pub data Field : Type 0 where
   a-set an-event a-place : Field
   a-name : (of : ℕ) → Field
 
+-- how many bytes a field has
 abbrev pub width : Field → ℕ
 width a-set = 4
 width an-event = 1
@@ -38,11 +39,13 @@ pub data Role : Type 0 where
   -- a pair of a certificate; and one of its section, whole or at its end: "A condition counts at its end record"
   a-pair counts : Role
 
+-- a kind of record: its section, what it is to what is open, and the fields of its body in order
 pub record Kind : Type 0 where
   pub section : ℕ
   pub role : Role
   pub fields : List Field
 
+-- a row of the table
 abbrev pub a-kind : ℕ → Role → List Field → Kind
 a-kind section role fields = record { section = section; role = role; fields = fields }
 
@@ -71,9 +74,11 @@ kinds =
     ∷ a-kind certificates counts []
     ∷ []
 
+-- the row of a kind; a kind that the table lacks has that of kind 0
 abbrev pub kindOf : ℕ → Kind
 kindOf k = getD kinds k (a-kind 0 counts [])
 
+-- the section of a kind: "kinds 1-6, 7, 8-9, 10-12, 13-14"
 abbrev pub sectionOf : ℕ → ℕ
 sectionOf k = kindOf k .section
 
@@ -82,5 +87,6 @@ abbrev pub widths : List Field → ℕ
 widths [] = 0
 widths (f ∷ fs) = width f + widths fs
 
+-- "Body lengths by kind, 1 to 14"
 abbrev pub bodyLength : ℕ → ℕ
 bodyLength k = widths (kindOf k .fields)

@@ -22,6 +22,7 @@ pub record Opened : Type 0 where
   pub leaves : ℕ
   pub pairs : Certificate
 
+-- before the first record of a condition or of a certificate, and outside them
 abbrev pub nothing : Opened
 nothing = record { section = 0; start = 0; items = []; symbols = 0; leaves = 0; pairs = [] }
 
@@ -41,6 +42,7 @@ pub record Reading : Type 0 where
 abbrev pub startingFrom : (ℕ → List Counted) → Reading
 startingFrom library = record { section = 0; opened = nothing; before = library; own = λ k. [] }
 
+-- where nothing was counted before the sheet
 abbrev pub fresh : Reading
 fresh = startingFrom (λ k. [])
 
@@ -87,6 +89,7 @@ exists events counted an-event v = ltb v events
 exists events counted a-place v = true
 exists events counted (a-name of) v = ltb v (counted of)
 
+-- of all fields of a record, in order
 abbrev pub allExist : ℕ → (ℕ → ℕ) → List Field → List ℕ → Bool
 allExist events counted [] vs = true
 allExist events counted (f ∷ fs) [] = true
@@ -157,6 +160,7 @@ pub data Outcome : Type 0 where
   whole : Reading → Outcome
   refusal : (number at : ℕ) → Reading → Outcome
 
+-- the state that reading ends in, either way
 abbrev pub stateOf : Outcome → Reading
 stateOf (whole r) = r
 stateOf (refusal n at r) = r

@@ -40,6 +40,7 @@ pub data Step : Type 0 where
 abbrev pub callFrom : (from to method : ℕ) → Step
 callFrom p q m = call-step (record { from = p; to = q; method = m })
 
+-- a sheet: what its records stand for, by section
 pub record Sheet : Type 0 where
   pub conditions : List Condition
   pub points : List Point
@@ -52,6 +53,7 @@ pub record Sheet : Type 0 where
 abbrev pub condition : Sheet → ℕ → Condition
 condition S c = getD (S .conditions) c noWord
 
+-- the condition that a point or a method names, if there is such a point or method
 abbrev pub conditionNamed : {A : Type 0} → Sheet → (A → ℕ) → Option A → Condition
 conditionNamed S name none = noWord
 conditionNamed S name (some x) = condition S (name x)

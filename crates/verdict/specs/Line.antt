@@ -47,6 +47,7 @@ abbrev pub unprovedTexts : ℕ → List (List ℕ)
 unprovedTexts rule =
     ascii "unproved rule " ∷ subjectName rule ∷ ascii " clause " ∷ ascii " pair " ∷ ascii " event " ∷ ascii " place " ∷ []
 
+-- the line of a report
 unfoldable pub line : Report → List ℕ
 unfolding ascii decimal
 line (accepted n) = labelled (ascii "accepted " ∷ []) (replyOf (accepted n) .values)

@@ -13,6 +13,7 @@ use Rattle.sheet.specs.Reading.{Outcome, whole, refusal, readSheet}
 use Rattle.sheet.specs.Decode.{sheetRead}
 use Rattle.runs.specs.Rules.{Claim, _isIn_, holdsEmpty, Rule, rules, total, count}
 
+-- what the loader returns: the rows of document 01's table
 pub data Report : Type 0 where
   -- "accepted, count"
   accepted : (count : ℕ) → Report
@@ -33,6 +34,7 @@ abbrev pub needed : Claim → ℕ
 needed (a isIn b) = 1
 needed (holdsEmpty a) = 0
 
+-- and how many a list of rules needs
 unfoldable pub certificatesNeeded : List Rule → ℕ
 unfolding total
 certificatesNeeded xs = total (λ x. needed (x .claim)) xs
@@ -71,6 +73,7 @@ judged M s S =
     let first = firstFault (M .events) (rules S) (S .certificates) (accepted (count S)) in
     cond (eqb (length (S .certificates)) (certificatesNeeded (rules S))) first (refused 10 (some (length s)))
 
+-- 1 to 9 end reading; a sheet that is read whole is judged
 unfoldable pub verdictAfter : Model → List ℕ → Outcome → Report
 unfolding judged
 verdictAfter M s (refusal n at r) = refused n (some at)

@@ -12,6 +12,7 @@ use Rattle.sheet.specs.Sheet.{condition}
 use Rattle.sheet.specs.Reading.{Outcome, whole, refusal, readSheet}
 use Rattle.sheet.specs.Decode.{sheetRead}
 
+-- what the word test returns
 pub data Answer : Type 0 where
   -- yes or no
   tested : Bool → Answer
