@@ -21,7 +21,7 @@ use Rattle.format.specs.declared.Found.{Found}
 use Rattle.format.specs.declared.Found.the-variants as found
 use Rattle.format.specs.Refusal.{numberOf, placeOf}
 use Rattle.format.specs.Found.{isKnown, foundAt, refusalAt}
-use Rattle.format.proofs.Table.{bodies, body-is, body-le}
+use Rattle.format.proofs.Table.{bodies, body-is}
 
 pub cond-by : {A : Type 0} (P : A → Type 0) (b : Bool) {x y : A} → (b ≡ true → P x) → (b ≡ false → P y) → P (cond b x y)
 cond-by P true f g = f refl
@@ -35,14 +35,12 @@ inside s at h = go (leb (length s) at) refl
     go true e = absurd (omega (arith, byte-past s at (leb-true (length s) at e)))
     go false e = leb-false (length s) at e
 
-next-by : (s : List ℕ) (at k : ℕ) → byteAt s at ≡ k → 1 ≤ k → at + 1 + getD bodies (k - 1) 0 ≡ nextAt s at
-next-by s at zero e h = absurd (omega arith)
-next-by s at (suc j) e h =
+-- the body's length by the code's table
+pub by-table : {k i n : ℕ} → i ≡ k → n ≡ getD bodies (i - 1) 0 → 1 ≤ k → n ≡ bodyLength k
+by-table {i = zero} row body low = absurd (omega arith)
+by-table {i = suc j} row body low =
     let one : suc j - 1 ≡ j = omega arith in
-    ap (λ (i : ℕ). at + 1 + getD bodies i 0) one ∙ ap (λ (n : ℕ). at + 1 + n) (body-is (suc j)) ∙ ap (λ (k : ℕ). at + 1 + bodyLength k) (sym e) ∙ sym (next-is s at)
-
-next-le : (s : List ℕ) (at : ℕ) → nextAt s at ≤ at + 11
-next-le s at = omega (arith, next-is s at, body-le (byteAt s at))
+    body ∙ ap (λ (i : ℕ). getD bodies i 0) one ∙ body-is (suc j) ∙ ap bodyLength row
 
 -- Kinds 1 to `kinds` --------------------------------------------------------------------------------------------------
 
@@ -92,20 +90,17 @@ module _ (kinds : ℕ) (s : List ℕ) (at : ℕ) where
           let (low, high) = known-out kinds k (sym tested ∙ not-false b known) in
           (low, high, inside s at (omega arith))
 
-      -- .. and the length of its body, from the table
-      module _ {i n : ℕ} (row : i ≡ k) (body : n ≡ getD bodies (i - 1) 0) where
-        next-found : at + 1 + n ≡ nextAt s at
-        next-found = ap (λ (n : ℕ). at + 1 + n) body ∙ next-by s at i (sym is ∙ sym row) (omega (arith, kind-bounds .0))
+      -- .. and the offset after the record
+      module _ {q : ℕ} (after : q ≡ at + 1 + bodyLength k) where
+        next-found : q ≡ nextAt s at
+        next-found = after ∙ ap (λ (k : ℕ). at + 1 + bodyLength k) is ∙ sym (next-is s at)
 
-        pub few-bytes : n ≤ 10
-        few-bytes = omega (arith, next-found, next-le s at)
-
-        pub body-past-end : length s < at + 1 + n → found.NoRecord ≡ foundAt kinds s at
+        pub body-past-end : length s < q → found.NoRecord ≡ foundAt kinds s at
         body-past-end h = sym (found-is ∙ simp (is-known (not-false b known), lt-ltb (length s) (nextAt s at) (omega (arith, next-found))))
 
-        pub whole-record : at + 1 + n ≤ length s → found.Record k (at + 1 + n) ≡ foundAt kinds s at
+        pub whole-record : q ≤ length s → found.Record k q ≡ foundAt kinds s at
         whole-record h =
-            ap (λ (k : ℕ). found.Record k (at + 1 + n)) is ∙ ap (found.Record (byteAt s at)) next-found
+            ap (λ (k : ℕ). found.Record k q) is ∙ ap (found.Record (byteAt s at)) next-found
             ∙ sym (found-is ∙ simp (is-known (not-false b known), le-ltb (length s) (nextAt s at) (omega (arith, next-found))))
 
 -- To a reader of sections ---------------------------------------------------------------------------------------------

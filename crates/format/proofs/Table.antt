@@ -33,6 +33,20 @@ body-le =
     (lit≤ tt and lit≤ tt and lit≤ tt and lit≤ tt and lit≤ tt and lit≤ tt and lit≤ tt and lit≤ tt
     and lit≤ tt and lit≤ tt and lit≤ tt and lit≤ tt and lit≤ tt and lit≤ tt and lit≤ tt and (λ i. lit≤ tt))
 
+-- of the kinds of conditions, a leaf alone has a body
+pub no-body : (k : ℕ) → sectionOf k ≡ conditions → (k ≡ 1 → ⊥) → bodyLength k ≡ 0
+no-body =
+    by-rows (λ k x. x .section ≡ conditions → (k ≡ 1 → ⊥) → widths (x .fields) ≡ 0)
+    ((λ e n. refl) and (λ e n. absurd (n refl)) and none and none and none and none and none
+    and other and other and other and other and other and other and other and other
+    and (λ i e n. refl))
+  where
+    none : {A B : Type 0} → A → B → _≡_ {A = ℕ} 0 0
+    none e n = refl
+
+    other : {s w : ℕ} {B : Type 0} → suc (suc s) ≡ conditions → B → w ≡ 0
+    other e n = absurd (omega arith)
+
 -- sections by comparisons
 pub section-is : (k : ℕ) → 1 ≤ k → k ≤ lastKind → cond (ltb k 7) conditions (cond (ltb k 8) points (cond (ltb k 10) methods (cond (ltb k 13) steps certificates))) ≡ sectionOf k
 section-is =

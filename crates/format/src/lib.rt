@@ -1,8 +1,14 @@
 // The records of a sheet: one byte of kind, then a body whose length the kind fixes.
 ghost use mathlib.Core.Path.{_≡_};
-ghost use Prim.Native.Nat.{_≤_};
+ghost use Prim.Native.Nat.{_+_, _^_, _≤_, _<_};
+ghost use Rattle.sheet.specs.Kind.{bodyLength};
 ghost use Rattle.format.specs.Kinds.{lastKind};
 ghost use Rattle.format.specs.Found.{isKnown, foundAt, refusalAt};
+use crate::kinds::CONDITIONS;
+use crate::kinds::EMPTY;
+use crate::kinds::LEAF;
+use crate::kinds::PAIR;
+use crate::kinds::section_of;
 use bits::both;
 use fields::byte_at;
 use fields::index;
@@ -45,6 +51,32 @@ fn known(kind: u8, kinds: u8) -> bool
     both(0 < kind, kind <= kinds)
 }
 
+// The length of a kind's body, by the table.
+fn body_of(kind: u8) -> usize
+    requires { ⌜ (1 ≤ kind) × (kind ≤ lastKind) ⌝ }
+    ensures { λ r. ⌜ r ≡ bodyLength kind ⌝ }
+{
+    index(BODY_LENGTHS[index(kind) - 1])
+}
+
+// The offset after a record of a kind. Most records are pairs, leaves, or other records of conditions, which have no body: the processor foresees
+// these branches, and does not wait for the table.
+fn after(kind: u8, at: usize) -> usize
+    requires { ⌜ (1 ≤ kind) × (kind ≤ lastKind) × (at + 11 < 2 ^ 64) ⌝ }
+    ensures { λ r. ⌜ r ≡ at + 1 + bodyLength kind ⌝ }
+{
+    if kind == PAIR {
+        return at + 1 + body_of(PAIR);
+    }
+    if kind == LEAF {
+        return at + 1 + body_of(LEAF);
+    }
+    if section_of(kind) == CONDITIONS {
+        return at + 1 + body_of(EMPTY);
+    }
+    at + 1 + body_of(kind)
+}
+
 // The record at an offset, of the kinds 1 to `kinds`.
 pub fn record_at(s: &[u8], kinds: u8, at: usize) -> Found
     requires { ⌜ kinds ≤ lastKind ⌝ }
@@ -54,7 +86,7 @@ pub fn record_at(s: &[u8], kinds: u8, at: usize) -> Found
     if !known(kind, kinds) {
         return Found::NoRecord;
     }
-    let next = at + 1 + index(BODY_LENGTHS[index(kind) - 1]);
+    let next = after(kind, at);
     if s.len() < next {
         return Found::NoRecord;
     }

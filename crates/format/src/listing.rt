@@ -1,11 +1,11 @@
 // Pairs of a certificate: kind 13, "left place (1), right set (4)".
 ghost use mathlib.Core.Path.{_≡_};
-ghost use Prim.Native.Nat.{_-_};
-ghost use Rattle.format.specs.Pairs.{listedAt};
+ghost use Prim.Native.Nat.{_+_, _-_, _<_};
+ghost use lib.ListN.{length};
+ghost use Rattle.sheet.specs.AtOffset.{pairAt};
+ghost use Rattle.format.specs.Pairs.{pairIs, listedAt};
 use crate::kinds::PAIR;
-use fields::byte_at;
 use fields::index;
-use fields::set_at;
 use fields::set_inside;
 
 // The bytes of a pair, and of the end of a certificate.
@@ -19,7 +19,7 @@ pub struct Pair {
     pub set: u64,
 }
 
-// What stands at an offset: whether it is a pair, and the fields that it has if it is.
+// What stands at an offset: whether it is a whole pair, and the fields that it has if it is.
 pub struct Listed {
     pub there: bool,
     pub pair: Pair,
@@ -32,26 +32,25 @@ fn whole_below(n: usize) -> usize
     if 5 <= n { n - 5 } else { 0 }
 }
 
-// The pair at an offset. Where six bytes are there, one test serves them all.
+// The fields of the pair at an offset, of which all six bytes are there.
+pub fn pair_at(s: &[u8], at: usize) -> Pair
+    requires { ⌜ at + 5 < length (now s) ⌝ }
+    ensures { λ r. ⌜ pairIs r ≡ pairAt (now (s .entry)) at ⌝ }
+{
+    Pair {
+        place: index(s[at + 1]),
+        set: set_inside(s, at + 2),
+    }
+}
+
+// What stands at an offset. One test serves for all six bytes.
 pub fn listed_at(s: &[u8], at: usize) -> Listed
     ensures { λ r. ⌜ r ≡ listedAt (now (s .entry)) at ⌝ }
 {
     if at < whole_below(s.len()) {
         return Listed {
             there: s[at] == PAIR,
-            pair: Pair {
-                place: index(s[at + 1]),
-                set: set_inside(s, at + 2),
-            },
-        };
-    }
-    if at < s.len() {
-        return Listed {
-            there: s[at] == PAIR,
-            pair: Pair {
-                place: index(byte_at(s, at + 1)),
-                set: set_at(s, at + 2),
-            },
+            pair: pair_at(s, at),
         };
     }
     Listed {

@@ -1,18 +1,18 @@
 -- The pairs of a certificate, one after another.
-use mathlib.Core.Path.{_≡_, refl, sym, ap, ap₂, _∙_}
-use mathlib.Core.Bool.{Bool, true, false, cond}
+use mathlib.Core.Path.{_≡_, refl, sym, ap, ap₂, _∙_, subst}
+use mathlib.Core.Bool.{Bool, true, false, cond, _&&_}
 use mathlib.Core.List.{List, [], _∷_}
-use Prim.Native.Nat.{ℕ, zero, suc, _+_, _*_, _≤_, _<_}
+use Prim.Native.Nat.{ℕ, zero, suc, _+_, _*_, _^_, _≤_, _<_}
 use native.Mathlib.Omega.{arith}
-use lib.Dec.{eqb, ltb}
+use lib.Dec.{T, eqb, ltb}
 use lib.ListN.{length, drop, length-drop}
 use lib.Seq.{getD-drop}
-use borrow.Author.Tests.{lt-ltb, eqb-true, eqb-false, ltb-true, ltb-false}
-use Rattle.certificate.specs.Certificate.{Pair, pair, Certificate, pairOf}
-use Rattle.sheet.specs.Record.{byteAt, nextAt}
-use Rattle.sheet.specs.AtOffset.{setAt, pairAt, pairsOn, certificateAt}
-use Rattle.sheet.proofs.Pairs.{pair-on, pair-off}
-use Rattle.fields.proofs.Laws.{byte-past, set-is}
+use borrow.Author.Tests.{lt-ltb, le-ltb, ltb-true, ltb-false}
+use Rattle.certificate.specs.Certificate.{Pair, Certificate, pairOf}
+use Rattle.sheet.specs.Record.{Bytes, byteAt, nextAt}
+use Rattle.sheet.specs.AtOffset.{setAt, pairAt, hasPair, pairsOn, certificateAt}
+use Rattle.sheet.proofs.Pairs.{pair-out, pair-on, pair-off}
+use Rattle.fields.proofs.Laws.{set-is}
 use Rattle.format.specs.Pairs.{pairIs, listedAt}
 use Rattle.format.proofs.Pairs.{listed-there, listed-pair}
 use Rattle.format.specs.declared.listing.Listed.{Listed}
@@ -21,35 +21,35 @@ use Rattle.pairs.specs.Found.{pairValue, pairFound}
 use Rattle.pairs.specs.declared.Entry.the-variants as entry
 use Rattle.pairs.specs.declared.Entry.the-variants.{End}
 
--- a record of kind 13 stands before the end
-pub inside : (s : List ℕ) (at : ℕ) → byteAt s at ≡ 13 → at < length s
-inside s at e = go (ltb at (length s)) refl
-  where
-    go : (b : Bool) → ltb at (length s) ≡ b → at < length s
-    go true l = ltb-true at (length s) l
-    go false l = let z : byteAt s at ≡ 0 = byte-past s at (ltb-false at (length s) l) in absurd (omega arith)
+-- a set is below 2 ^ 32
+set-lt : (s : List ℕ) → Bytes s → (i : ℕ) → setAt s i < 2 ^ 32
+unfolding byteAt
+set-lt s bytes i = omega (arith, set-is s i, bytes i, bytes (i + 1), bytes (i + 2), bytes (i + 3))
 
 -- The certificate at an offset: a pair and the certificate after it, or nothing ------------------------------------------
 
 -- fuel past the end of the sheet adds nothing
 on-past : (s : List ℕ) (fuel at : ℕ) → length s ≤ at → pairsOn s fuel at ≡ []
-on-past s fuel at h = pair-off s at fuel (λ e. let l = inside s at e in omega arith)
+on-past s fuel at h = go (hasPair s at) refl
+  where
+    go : (b : Bool) → hasPair s at ≡ b → pairsOn s fuel at ≡ []
+    go true e = absurd (omega (arith, pair-out s at e .1))
+    go false e = pair-off s at fuel e
 
 fuel-enough : (s : List ℕ) (f g at : ℕ) → length s ≤ f + at → length s ≤ g + at → pairsOn s f at ≡ pairsOn s g at
 unfolding pairsOn nextAt
 fuel-enough s zero g at h k = sym (on-past s g at (omega arith))
 fuel-enough s (suc f) zero at h k = on-past s (suc f) at (omega arith)
 fuel-enough s (suc f) (suc g) at h k =
-    ap (λ (c : Certificate). cond (eqb (byteAt s at) 13) (pairAt s at ∷ c) []) (fuel-enough s f g (nextAt s at) (omega arith) (omega arith))
+    ap (λ (c : Certificate). cond (hasPair s at) (pairAt s at ∷ c) []) (fuel-enough s f g (nextAt s at) (omega arith) (omega arith))
 
-certificate-more : (s : List ℕ) (at : ℕ) → byteAt s at ≡ 13 → certificateAt s at ≡ pairAt s at ∷ certificateAt s (at + 6)
+certificate-more : (s : List ℕ) (at : ℕ) → hasPair s at ≡ true → certificateAt s at ≡ pairAt s at ∷ certificateAt s (at + 6)
 unfolding certificateAt
-certificate-more s at e =
-    fuel-enough s (length s) (suc (length s)) at (omega arith) (omega arith) ∙ pair-on s at (length s) e
+certificate-more s at e = fuel-enough s (length s) (suc (length s)) at (omega arith) (omega arith) ∙ pair-on s at (length s) e
 
-certificate-end : (s : List ℕ) (at : ℕ) → (byteAt s at ≡ 13 → ⊥) → certificateAt s at ≡ []
+certificate-end : (s : List ℕ) (at : ℕ) → hasPair s at ≡ false → certificateAt s at ≡ []
 unfolding certificateAt
-certificate-end s at n = pair-off s at (length s) n
+certificate-end s at e = pair-off s at (length s) e
 
 -- The part of the sheet from a certificate's first pair on ----------------------------------------------------------------
 
@@ -72,22 +72,30 @@ module _ (s : List ℕ) (from : ℕ) where
       let two : from + (at + 2) ≡ from + at + 2 = omega arith in
       rw (part-byte (at + 1), part-set (at + 2), one, two)
 
+  part-end : (at : ℕ) → ltb (at + 5) (length (drop from s)) ≡ ltb (from + at + 5) (length s)
+  part-end at = go (ltb (from + at + 5) (length s)) refl
+    where
+      go : (b : Bool) → ltb (from + at + 5) (length s) ≡ b → ltb (at + 5) (length (drop from s)) ≡ b
+      go true e = lt-ltb (at + 5) (length (drop from s)) (omega (arith, length-drop from s, ltb-true (from + at + 5) (length s) e))
+      go false e = le-ltb (at + 5) (length (drop from s)) (omega (arith, length-drop from s, ltb-false (from + at + 5) (length s) e))
+
+  part-has : (at : ℕ) → hasPair (drop from s) at ≡ hasPair s (from + at)
+  unfolding hasPair
+  part-has at = ap₂ (λ (k : ℕ) (b : Bool). eqb k 13 && b) (part-byte at) (part-end at)
+
   part-on : (fuel at : ℕ) → pairsOn (drop from s) fuel at ≡ pairsOn s fuel (from + at)
   unfolding pairsOn
   part-on zero at = refl
-  part-on (suc fuel) at = go (part-on fuel (at + 6)) (eqb (byteAt s (from + at)) 13) refl
+  part-on (suc fuel) at = go (part-on fuel (at + 6)) (hasPair s (from + at)) refl
     where
-      go : pairsOn (drop from s) fuel (at + 6) ≡ pairsOn s fuel (from + (at + 6)) → (b : Bool) → eqb (byteAt s (from + at)) 13 ≡ b
+      go : pairsOn (drop from s) fuel (at + 6) ≡ pairsOn s fuel (from + (at + 6)) → (b : Bool) → hasPair s (from + at) ≡ b
           → pairsOn (drop from s) (suc fuel) at ≡ pairsOn s (suc fuel) (from + at)
       go more true e =
-          let k = eqb-true (byteAt s (from + at)) 13 e in
           let six : from + (at + 6) ≡ from + at + 6 = omega arith in
-          pair-on (drop from s) at fuel (part-byte at ∙ k)
+          pair-on (drop from s) at fuel (part-has at ∙ e)
           ∙ ap₂ (λ (p : Pair) (c : Certificate). p ∷ c) (part-pair at) (more ∙ ap (pairsOn s fuel) six)
-          ∙ sym (pair-on s (from + at) fuel k)
-      go more false e =
-          let k = eqb-false (byteAt s (from + at)) 13 e in
-          pair-off (drop from s) at (suc fuel) (λ x. k (sym (part-byte at) ∙ x)) ∙ sym (pair-off s (from + at) (suc fuel) k)
+          ∙ sym (pair-on s (from + at) fuel e)
+      go more false e = pair-off (drop from s) at (suc fuel) (part-has at ∙ e) ∙ sym (pair-off s (from + at) (suc fuel) e)
 
   -- has the same certificate at its start
   pub certificate-part : certificateAt (drop from s) 0 ≡ certificateAt s from
@@ -101,47 +109,54 @@ module _ (s : List ℕ) (from : ℕ) where
 -- Pair i stands 6 * i bytes on ------------------------------------------------------------------------------------------
 
 module _ (s : List ℕ) where
-  begins : (from : ℕ) → 0 < length (certificateAt s from) → byteAt s from ≡ 13
-  begins from l = go (eqb (byteAt s from) 13) refl
+  begins : (from : ℕ) → 0 < length (certificateAt s from) → hasPair s from ≡ true
+  begins from l = go (hasPair s from) refl
     where
-      go : (b : Bool) → eqb (byteAt s from) 13 ≡ b → byteAt s from ≡ 13
-      go true e = eqb-true (byteAt s from) 13 e
-      go false e = absurd (omega (arith, ap length (certificate-end s from (eqb-false (byteAt s from) 13 e))))
+      go : (b : Bool) → hasPair s from ≡ b → hasPair s from ≡ true
+      go true e = e
+      go false e = absurd (omega (arith, ap length (certificate-end s from e)))
 
   -- each pair stands there
-  stands : (i from at : ℕ) → at ≡ from + 6 * i → i < length (certificateAt s from)
-      → (byteAt s at ≡ 13) × (pairOf (certificateAt s from) i ≡ pairAt s at)
+  stands : (i from at : ℕ) → at ≡ from + 6 * i → i < length (certificateAt s from) → (hasPair s at ≡ true) × (pairOf (certificateAt s from) i ≡ pairAt s at)
   stands zero from at a l =
       let k = begins from (omega arith) in
       let here : from ≡ at = omega arith in
-      (ap (byteAt s) (sym here) ∙ k, rw (certificate-more s from k) (ap (pairAt s) here))
+      (ap (hasPair s) (sym here) ∙ k, rw (certificate-more s from k) (ap (pairAt s) here))
   stands (suc i) from at a l =
       let m = certificate-more s from (begins from (omega arith)) in
       let (x, y) = stands i (from + 6) at (omega arith) (omega (arith, ap length m)) in
       (x, rw m y)
 
   -- and behind the last one none
-  ends : (n from at : ℕ) → at ≡ from + 6 * n → length (certificateAt s from) ≡ n → byteAt s at ≡ 13 → ⊥
+  ends : (n from at : ℕ) → at ≡ from + 6 * n → length (certificateAt s from) ≡ n → hasPair s at ≡ true → ⊥
   ends zero from at a e k =
       let here : at ≡ from = omega arith in
-      omega (arith, ap length (certificate-more s from (ap (byteAt s) (sym here) ∙ k)))
+      omega (arith, ap length (certificate-more s from (ap (hasPair s) (sym here) ∙ k)))
   ends (suc n) from at a e k =
       let m = certificate-more s from (begins from (omega arith)) in
       ends n (from + 6) at (omega arith) (omega (arith, ap length m)) k
 
   module _ (i : ℕ) where
-    pub pair-stands : i < length (certificateAt s 0) → byteAt s (6 * i) ≡ 13
+    pair-stands : i < length (certificateAt s 0) → hasPair s (6 * i) ≡ true
     pair-stands l = stands i 0 (6 * i) (omega arith) l .0
 
-    pub pair-inside : i < length (certificateAt s 0) → 6 * i < length s
-    pair-inside l = inside s (6 * i) (pair-stands l)
+    -- all six bytes of it
+    pub pair-whole : i < length (certificateAt s 0) → 6 * i + 5 < length s
+    pair-whole l = pair-out s (6 * i) (pair-stands l) .1
 
-    pub pair-read : i < length (certificateAt s 0) → pairOf (certificateAt s 0) i ≡ pair (byteAt s (6 * i + 1)) (setAt s (6 * i + 2))
-    unfolding pairAt
+    pub pair-inside : i < length (certificateAt s 0) → 6 * i < length s
+    pair-inside l = omega (arith, pair-whole l)
+
+    pub pair-read : i < length (certificateAt s 0) → pairOf (certificateAt s 0) i ≡ pairAt s (6 * i)
     pair-read l = stands i 0 (6 * i) (omega arith) l .1
 
+    -- its set is a number of four bytes
+    pub set-narrow : Bytes s → i < length (certificateAt s 0) → pairOf (certificateAt s 0) i .set < 2 ^ 32
+    unfolding pairAt
+    set-narrow bytes l = omega (arith, ap (λ (p : Pair). p .set) (pair-read l), set-lt s bytes (6 * i + 2))
+
     -- where a pair stands i is the number of one
-    pair-there : i ≤ length (certificateAt s 0) → byteAt s (6 * i) ≡ 13 → i < length (certificateAt s 0)
+    pair-there : i ≤ length (certificateAt s 0) → hasPair s (6 * i) ≡ true → i < length (certificateAt s 0)
     pair-there l k = go (ltb i (length (certificateAt s 0))) refl
       where
         go : (b : Bool) → ltb i (length (certificateAt s 0)) ≡ b → i < length (certificateAt s 0)
@@ -150,40 +165,45 @@ module _ (s : List ℕ) where
             let h = ltb-false i (length (certificateAt s 0)) e in
             absurd (ends i 0 (6 * i) (omega arith) (omega arith) k)
 
-  -- the offset behind the last pair is near the end
-  pub pairs-near : (i k : ℕ) → i ≤ length (certificateAt s 0) → length s + 6 ≤ k → 6 * i < k
-  pairs-near zero k l h = omega arith
-  pairs-near (suc i) k l h = let o = pair-inside i l in omega arith
+  -- the offset behind pair i is inside or at the end
+  pub behind-pair : (i : ℕ) → i ≤ length (certificateAt s 0) → 6 * i ≤ length s
+  behind-pair zero l = omega arith
+  behind-pair (suc i) l = omega (arith, pair-whole i l)
 
--- a certificate with a pair ends before the end of its part, or in its last pair
-pub last-inside : (s : List ℕ) (n : ℕ) → n ≡ length (certificateAt s 0) → 0 < n → (0 < length s) × (6 * n ≤ length s + 5)
-last-inside s zero e h = absurd (omega arith)
-last-inside s (suc n) e h = let l = pair-inside s n (omega arith) in (omega arith, omega arith)
+  -- all pairs stand in the bytes
+  pub pairs-within : 6 * length (certificateAt s 0) ≤ length s
+  pairs-within = behind-pair (length (certificateAt s 0)) (omega arith)
+
+  pub pairs-near : (i k : ℕ) → i ≤ length (certificateAt s 0) → length s + 6 ≤ k → 6 * i < k
+  pairs-near i k l h = omega (arith, behind-pair i l)
+
+-- a certificate with a pair ends before the end of its part, or there
+pub last-inside : (s : List ℕ) (n : ℕ) → n ≡ length (certificateAt s 0) → 0 < n → (0 < length s) × (6 * n ≤ length s)
+last-inside s n e h = let w = pairs-within s in (omega arith, omega arith)
 
 -- What a reader finds ---------------------------------------------------------------------------------------------------
 
-module _ (s : List ℕ) (i : ℕ) {e : Listed} (h : e ≡ listedAt s (6 * i)) where
-  -- the fields that are read where the certificate has a pair
-  pub read-is : i < length (certificateAt s 0) → pairOf (certificateAt s 0) i ≡ pairIs (e .pair)
-  read-is l = pair-read s i l ∙ sym (listed-pair s (6 * i) h)
+-- the fields that are read where the certificate has a pair
+pub read-is : (s : List ℕ) (i : ℕ) {p : format.Pair} → pairIs p ≡ pairAt s (6 * i) → i < length (certificateAt s 0) → pairOf (certificateAt s 0) i ≡ pairIs p
+read-is s i h l = pair-read s i l ∙ sym h
 
-  module _ (l : i ≤ length (certificateAt s 0)) where
-    pub a-pair-is : e .there ≡ true → pairFound (certificateAt s 0) i ≡ entry.Pair (e .pair)
-    unfolding pairFound
-    a-pair-is y =
-        let k = pair-there s i l (eqb-true (byteAt s (6 * i)) 13 (sym (listed-there s (6 * i) h) ∙ y)) in
-        rw (lt-ltb i (length (certificateAt s 0)) k) (ap (λ (p : Pair). entry.Pair (pairValue p)) (read-is k))
+module _ (s : List ℕ) (i : ℕ) {e : Listed} (h : e ≡ listedAt s (6 * i)) (l : i ≤ length (certificateAt s 0)) where
+  pub a-pair-is : e .there ≡ true → pairFound (certificateAt s 0) i ≡ entry.Pair (e .pair)
+  unfolding pairFound
+  a-pair-is y =
+      let there = sym (listed-there s (6 * i) h) ∙ y in
+      let k = pair-there s i l there in
+      rw (lt-ltb i (length (certificateAt s 0)) k) (ap (λ (p : Pair). entry.Pair (pairValue p)) (read-is s i (listed-pair s (6 * i) h there) k))
 
-    pub the-end-is : e .there ≡ false → pairFound (certificateAt s 0) i ≡ End
-    unfolding pairFound
-    the-end-is y = go (ltb i (length (certificateAt s 0))) refl
-      where
-        go : (b : Bool) → ltb i (length (certificateAt s 0)) ≡ b → cond b (entry.Pair (pairValue (pairOf (certificateAt s 0) i))) End ≡ End
-        go false _ = refl
-        go true k =
-            absurd
-            (eqb-false (byteAt s (6 * i)) 13 (sym (listed-there s (6 * i) h) ∙ y)
-            (pair-stands s i (ltb-true i (length (certificateAt s 0)) k)))
+  pub the-end-is : e .there ≡ false → pairFound (certificateAt s 0) i ≡ End
+  unfolding pairFound
+  the-end-is y = go (ltb i (length (certificateAt s 0))) refl
+    where
+      go : (b : Bool) → ltb i (length (certificateAt s 0)) ≡ b → cond b (entry.Pair (pairValue (pairOf (certificateAt s 0) i))) End ≡ End
+      go false _ = refl
+      go true k =
+          let there = pair-stands s i (ltb-true i (length (certificateAt s 0)) k) in
+          absurd (subst T (sym there ∙ sym (listed-there s (6 * i) h) ∙ y) tt)
 
 -- and what that says of the certificate
 module _ (c : Certificate) (i : ℕ) where

@@ -11,6 +11,7 @@ use format::listing::Listed;
 use format::listing::PAIR_BYTES;
 use format::listing::Pair;
 use format::listing::listed_at;
+use format::listing::pair_at;
 
 // The certificate's part of the sheet: the bytes from its first pair on. Document 01 asks for this form.
 pub struct Certificate<'a> {
@@ -58,13 +59,12 @@ pub fn pair_in(pairs: &[u8], i: usize) -> Entry
     Entry::End
 }
 
-// Pair number i, which the certificate has: its kind need not be looked at.
+// Pair number i, which the certificate has: neither its kind nor the end need be looked at.
 pub fn known_pair(pairs: &[u8], i: usize) -> Pair
     requires { ⌜ i < length (certificateAt (now pairs) 0) ⌝ }
     ensures { λ r. ⌜ pairOf (certificateAt (now (pairs .entry)) 0) i ≡ pairIs r ⌝ }
 {
-    let found = listed_in(pairs, PAIR_BYTES * i);
-    found.pair
+    pair_at(pairs, PAIR_BYTES * i)
 }
 
 // The bytes of a certificate of so many pairs, with its end.

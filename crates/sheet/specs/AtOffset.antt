@@ -2,11 +2,11 @@
 -- proofs/Standing shows that they are what was read.
 use Prim.Native.Nat.{ℕ, zero, suc, _+_, _*_}
 use mathlib.Core.Path.{_≡_}
-use mathlib.Core.Bool.{cond}
+use mathlib.Core.Bool.{Bool, cond, _&&_}
 use mathlib.Core.Option.{Option, none, some}
 use mathlib.Core.List.{List, [], _∷_, _++_}
 use lib.ListN.{length, getD}
-use lib.Dec.{eqb}
+use lib.Dec.{eqb, ltb}
 use Rattle.condition.specs.Condition.{Condition, leaf, empty, join, either, star}
 use Rattle.certificate.specs.Certificate.{Pair, pair, Certificate}
 use Rattle.sheet.specs.Sheet.{Point, Method, Step, event-step, callFrom, pass-step}
@@ -92,11 +92,16 @@ InPostfix s c = symbolsAt s (startOf (c .opened) (c .last .at)) ≡ postfix (ite
 
 -- Certificates --------------------------------------------------------------------------------------------------------
 
+-- whether a pair stands at an offset: kind 13, and the five bytes of its body are there too
+unfoldable pub hasPair : List ℕ → ℕ → Bool
+unfolding byteAt
+hasPair s at = eqb (byteAt s at) 13 && ltb (at + 5) (length s)
+
 -- the pairs from an offset on, up to the first record that is none
 unfoldable pub pairsOn : List ℕ → ℕ → ℕ → Certificate
 pairsOn s zero at = []
-pairsOn s (suc fuel) at = let more = pairAt s at ∷ pairsOn s fuel (nextAt s at) in cond (eqb (byteAt s at) 13) more []
+pairsOn s (suc fuel) at = let more = pairAt s at ∷ pairsOn s fuel (nextAt s at) in cond (hasPair s at) more []
 
 unfoldable pub certificateAt : List ℕ → ℕ → Certificate
-unfolding pairAt nextAt pairsOn
+unfolding pairAt nextAt hasPair pairsOn
 certificateAt s at = pairsOn s (length s) at
