@@ -47,6 +47,7 @@ module _ (M : Model) (s : List ℕ) (r : Reading) (h : readSheet M s ≡ whole r
       let there = x .condition-stands c l in
       record {
         exists = omega (arith, x .few-conditions);
+        inside = rw (held c (omega (arith, x .conditions-counted))) (there .inside);
         stands =
             rw (held c (omega (arith, x .conditions-counted)))
             (record { in-postfix = there .in-postfix; few-symbols = there .few-symbols; few-leaves = there .few-leaves });

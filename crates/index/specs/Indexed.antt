@@ -27,6 +27,7 @@ pub record Tabled {A : Type 0} (at : List ℕ → ℕ → A) (s : List ℕ) (row
 -- the condition number c is r, and stands where the table says
 pub record ConditionIn (s conditions : List ℕ) (c : ℕ) (r : Condition) : Type 0 where
   pub exists : c < conditionLimit
+  pub inside : getD conditions c 0 < length s
   pub stands : StandsAt s (getD conditions c 0) r
 
 -- each condition of the sheet S stands where the table says

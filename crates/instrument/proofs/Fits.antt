@@ -1,5 +1,5 @@
--- What holds of every instrument: its points fit a table of 512, its events fit a set, its kinds have rows in the table of kinds, and it has the 32
--- events of a leaf's set.
+-- What holds of every instrument: the offsets of its sheets fit four bytes, its points fit a table of 512, its events fit a set, its kinds have rows
+-- in the table of kinds, and it has the 32 events of a leaf's set.
 use mathlib.Core.Path.{_≡_, sym, subst}
 use Prim.Native.Nat.{_≤_}
 use native.Mathlib.Omega.{arith}
@@ -10,13 +10,14 @@ use Rattle.instrument.specs.declared.Limits.{Limits}
 use Rattle.instrument.specs.Model.{modelOf, modelWith, limitsOf}
 
 pub record Fits (M : Model) : Type 0 where
+  pub few-bytes : M .bytes ≤ 4294967296
   pub few-points : M .points ≤ 512
   pub few-events : M .events ≤ 64
   pub few-kinds : M .kinds ≤ 14
   pub wide : 32 ≤ M .events
 
 pub instrument-fits : (i : Instrument) → Fits (modelOf i)
-instrument-fits Large = record { few-points = omega arith; few-events = omega arith; few-kinds = omega arith; wide = omega arith }
+instrument-fits Large = record { few-bytes = omega arith; few-points = omega arith; few-events = omega arith; few-kinds = omega arith; wide = omega arith }
 
 -- and of its limits
 pub limits-fit : (i : Instrument) {l : Limits} → l ≡ limitsOf i → Fits (modelWith l)

@@ -59,8 +59,8 @@ fn step_needs(step: Step) -> Needs
 // The needs of a subject, by the number that it has in the order of testing. The first has rules 1 and 2, which have no certificate.
 fn needs_at(
     s: &[u8],
-    methods: &[usize; 64],
-    steps: &[usize; 512],
+    methods: &[u32; 64],
+    steps: &[u32; 512],
     counts: Counts,
     number: usize,
 ) -> Needs
@@ -78,13 +78,13 @@ fn needs_at(
     let k = number - 1;
     let listed = counts.methods;
     if k < listed {
-        return method_needs(method_at(s, methods[k]));
+        return method_needs(method_at(s, methods[k] as usize));
     }
-    step_needs(step_at(s, steps[k - listed]))
+    step_needs(step_at(s, steps[k - listed] as usize))
 }
 
 // The needs of all subjects.
-pub fn sheet_needs(s: &[u8], methods: &[usize; 64], steps: &[usize; 512], counts: Counts) -> Needs
+pub fn sheet_needs(s: &[u8], methods: &[u32; 64], steps: &[u32; 512], counts: Counts) -> Needs
     requires { ⌜ ((S : Sheet) × (conditions : List ℕ) × (points : List ℕ) × SheetIn S (now s) conditions points (now methods) (now steps) counts) ⌝ }
     ensures { λ r. ⌜ ((S : Sheet) (conditions points : List ℕ) → SheetIn S (now (s .entry)) conditions points (now (methods .entry)) (now (steps .entry)) counts → Needed (rules S) r) ⌝ }
 {

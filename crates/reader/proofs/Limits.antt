@@ -10,8 +10,8 @@ use Rattle.sections.specs.declared.Read.{Read}
 use Rattle.reader.specs.Contract.{Reads}
 
 module _ (i : Instrument) {l : Limits} (is : l ≡ limitsOf i) where
-  pub readable : (l .points ≤ 512) × (l .kinds ≤ 14)
-  readable = let f = limits-fit i is in (f .few-points, f .few-kinds)
+  pub readable : (l .bytes ≤ 4294967296) × (l .points ≤ 512) × (l .kinds ≤ 14)
+  readable = let f = limits-fit i is in (f .few-bytes, f .few-points, f .few-kinds)
 
   pub reads-as : {s : List ℕ} {r : Read} {cs cs′ ps ps′ ms ms′ ts ts′ : List ℕ}
       → Reads (modelWith l) s r cs cs′ ps ps′ ms ms′ ts ts′ → Reads (modelOf i) s r cs cs′ ps ps′ ms ms′ ts ts′

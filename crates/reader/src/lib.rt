@@ -2,6 +2,7 @@
 ghost use Prim.Native.Nat.{_≤_};
 ghost use Rattle.format.specs.Kinds.{lastKind};
 ghost use Rattle.instrument.specs.Model.{modelOf, modelWith};
+ghost use Rattle.sections.specs.Sections.{addressable};
 ghost use Rattle.reader.specs.Contract.{Reads};
 use format::Refusal;
 use format::kinds::METHODS;
@@ -21,12 +22,12 @@ use tally::nothing_counted;
 fn read_with(
     s: &[u8],
     limits: Limits,
-    conditions: &mut [usize; 256],
-    points: &mut [usize; 512],
-    methods: &mut [usize; 64],
-    steps: &mut [usize; 512],
+    conditions: &mut [u32; 256],
+    points: &mut [u32; 512],
+    methods: &mut [u32; 64],
+    steps: &mut [u32; 512],
 ) -> Read
-    requires { ⌜ (limits .points ≤ 512) × (limits .kinds ≤ lastKind) ⌝ }
+    requires { ⌜ (limits .bytes ≤ addressable) × (limits .points ≤ 512) × (limits .kinds ≤ lastKind) ⌝ }
     ensures { λ r. ⌜ Reads (modelWith limits) (now (s .entry)) r (now (conditions .entry)) (now (conditions .exit)) (now (points .entry)) (now (points .exit))
         (now (methods .entry)) (now (methods .exit)) (now (steps .entry)) (now (steps .exit)) ⌝ }
 {
@@ -48,10 +49,10 @@ fn read_with(
 pub fn read_sheet(
     instrument: Instrument,
     s: &[u8],
-    conditions: &mut [usize; 256],
-    points: &mut [usize; 512],
-    methods: &mut [usize; 64],
-    steps: &mut [usize; 512],
+    conditions: &mut [u32; 256],
+    points: &mut [u32; 512],
+    methods: &mut [u32; 64],
+    steps: &mut [u32; 512],
 ) -> Read
     ensures { λ r. ⌜ Reads (modelOf instrument) (now (s .entry)) r (now (conditions .entry)) (now (conditions .exit)) (now (points .entry)) (now (points .exit))
         (now (methods .entry)) (now (methods .exit)) (now (steps .entry)) (now (steps .exit)) ⌝ }

@@ -28,10 +28,10 @@ pub enum Next {
 // Before the first claim.
 pub fn start(
     s: &[u8],
-    conditions: &[usize; 256],
-    points: &[usize; 512],
-    methods: &[usize; 64],
-    steps: &[usize; 512],
+    conditions: &[u32; 256],
+    points: &[u32; 512],
+    methods: &[u32; 64],
+    steps: &[u32; 512],
     counts: Counts,
 ) -> Cursor
     requires { ⌜ ((S : Sheet) × SheetIn S (now s) (now conditions) (now points) (now methods) (now steps) counts) ⌝ }
@@ -46,10 +46,10 @@ pub fn start(
 
 pub fn next_claim(
     s: &[u8],
-    conditions: &[usize; 256],
-    points: &[usize; 512],
-    methods: &[usize; 64],
-    steps: &[usize; 512],
+    conditions: &[u32; 256],
+    points: &[u32; 512],
+    methods: &[u32; 64],
+    steps: &[u32; 512],
     counts: Counts,
     cursor: Cursor,
 ) -> Next

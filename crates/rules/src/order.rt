@@ -27,16 +27,16 @@ pub struct Counts {
 // The method m, with its body if it has one.
 fn method_subject(
     s: &[u8],
-    conditions: &[usize; 256],
-    points: &[usize; 512],
-    methods: &[usize; 64],
+    conditions: &[u32; 256],
+    points: &[u32; 512],
+    methods: &[u32; 64],
     m: usize,
 ) -> Subject
     requires { ⌜ ((S : Sheet) × (steps : List ℕ) × Indexes S (now s) (now conditions) (now points) (now methods) steps × (m < length (S .methods))) ⌝ }
     ensures { λ r. ⌜ ((S : Sheet) (steps : List ℕ) → Indexes S (now (s .entry)) (now (conditions .entry)) (now (points .entry)) (now (methods .entry)) steps →
         m < length (S .methods) → SubjectIs (now (s .entry)) S r (methodRules S m (body S m))) ⌝ }
 {
-    let method = method_at(s, methods[m]);
+    let method = method_at(s, methods[m] as usize);
     let Method::WithBody(_, inner) = method else {
         return Subject::None;
     };
@@ -51,17 +51,17 @@ fn method_subject(
 // The step i, by its kind. What a call asks and promises is what its method declares.
 fn step_subject(
     s: &[u8],
-    conditions: &[usize; 256],
-    points: &[usize; 512],
-    methods: &[usize; 64],
-    steps: &[usize; 512],
+    conditions: &[u32; 256],
+    points: &[u32; 512],
+    methods: &[u32; 64],
+    steps: &[u32; 512],
     i: usize,
 ) -> Subject
     requires { ⌜ ((S : Sheet) × Indexes S (now s) (now conditions) (now points) (now methods) (now steps) × (i < length (S .steps))) ⌝ }
     ensures { λ r. ⌜ ((S : Sheet) → Indexes S (now (s .entry)) (now (conditions .entry)) (now (points .entry)) (now (methods .entry)) (now (steps .entry)) →
         i < length (S .steps) → SubjectIs (now (s .entry)) S r (stepRules S i (stepAt (now (s .entry)) (getD (now (steps .entry)) i 0)))) ⌝ }
 {
-    let step = step_at(s, steps[i]);
+    let step = step_at(s, steps[i] as usize);
     match step {
         Step::Event { from, to, event } => Subject::Event {
             step: i,
@@ -86,10 +86,10 @@ fn step_subject(
 // The subject of a number: first the method that runs start at, then the methods, then the steps.
 pub fn subject_at(
     s: &[u8],
-    conditions: &[usize; 256],
-    points: &[usize; 512],
-    methods: &[usize; 64],
-    steps: &[usize; 512],
+    conditions: &[u32; 256],
+    points: &[u32; 512],
+    methods: &[u32; 64],
+    steps: &[u32; 512],
     counts: Counts,
     number: usize,
 ) -> Subject

@@ -23,6 +23,10 @@ use Rattle.sections.specs.declared.Read.{Read}
 use Rattle.sections.specs.declared.Read.the-variants.{Whole}
 use Rattle.sections.specs.declared.Read.the-variants as read
 
+-- a sheet with at most so many bytes has offsets that fit the four bytes of a table's element
+abbrev pub addressable : ℕ
+addressable = 4294967296
+
 -- the code's counts are those of the state
 abbrev pub Counts : Reading → Tally → Type 0
 Counts r t = (k : ℕ) → tally r k ≡ countOf t k

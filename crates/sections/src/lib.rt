@@ -8,7 +8,7 @@ ghost use Rattle.sheet.specs.Kind.{conditions, points, methods, certificates};
 ghost use Rattle.sheet.specs.Reading.{Reading, Outcome};
 ghost use Rattle.format.specs.Kinds.{lastKind};
 ghost use Rattle.instrument.specs.Model.{modelWith};
-ghost use Rattle.sections.specs.Sections.{Told, Filled, Alone, Concluded};
+ghost use Rattle.sections.specs.Sections.{addressable, Told, Filled, Alone, Concluded};
 use bits::both;
 use format::Found;
 use format::Refusal;
@@ -45,11 +45,11 @@ pub enum Section {
 }
 
 // The section readers. Each starts where the section before ended, and tells where its own ends, or the refusal that ends reading (`Told`),
-// whatever was counted before the sheet.
+// whatever was counted before the sheet. A table holds each offset in four bytes.
 
 // The conditions. One is stored with its start, when its end comes.
-pub fn read_conditions(s: &[u8], limits: Limits, given: Tally, table: &mut [usize; 256]) -> Section
-    requires { ⌜ limits .kinds ≤ lastKind ⌝ }
+pub fn read_conditions(s: &[u8], limits: Limits, given: Tally, table: &mut [u32; 256]) -> Section
+    requires { ⌜ (limits .kinds ≤ lastKind) × (length (now s) ≤ addressable) ⌝ }
     ensures { λ r. ⌜ ((o : Outcome) (u : Reading) → Told (modelWith limits) (now (s .entry)) o 0 (Section.Done 0 given) u → u .own conditions ≡ []
         → Filled (modelWith limits) (now (s .entry)) o points r conditions u (now (table .entry)) (now (table .exit))) ⌝ }
 {
@@ -74,7 +74,7 @@ pub fn read_conditions(s: &[u8], limits: Limits, given: Tally, table: &mut [usiz
             Stepped::On(more) => begun = more,
         }
         if counts(kind) {
-            table[n] = start;
+            table[n] = start as u32;
             tally = past(tally, CONDITIONS);
             start = next;
         }
@@ -93,9 +93,9 @@ pub fn read_alone(
     section: u8,
     limit: usize,
     reached: Section,
-    table: &mut [usize],
+    table: &mut [u32],
 ) -> Section
-    requires { ⌜ Alone limits section limit (now table) ⌝ }
+    requires { ⌜ Alone limits section limit (now table) × (length (now s) ≤ addressable) ⌝ }
     ensures { λ r. ⌜ ((o : Outcome) (u : Reading) → Told (modelWith limits) (now (s .entry)) o section reached u → u .own section ≡ []
         → Filled (modelWith limits) (now (s .entry)) o (suc section) r section u (now (table .entry)) (now (table .exit))) ⌝ }
 {
@@ -127,7 +127,7 @@ pub fn read_alone(
         if both(n == first, is_primitive(kind)) {
             return Section::Refused(Refusal::NoFirstBody(at));
         }
-        table[n] = at;
+        table[n] = at as u32;
         tally = past(tally, section);
         at = next;
     }

@@ -40,10 +40,10 @@ fn read_numbers(read: Read) -> [usize; ROOM]
 pub extern "C" fn sheet_loader_read(sheet: &[u8], out: &mut [usize]) -> usize
     ensures { λ r. ⌜ ReadsInto (now (sheet .entry)) (now (out .entry)) (now (out .exit)) r ⌝ }
 {
-    let mut conditions = [0usize; 256];
-    let mut points = [0usize; 512];
-    let mut methods = [0usize; 64];
-    let mut steps = [0usize; 512];
+    let mut conditions = [0u32; 256];
+    let mut points = [0u32; 512];
+    let mut methods = [0u32; 64];
+    let mut steps = [0u32; 512];
     let read = read_sheet(
         Instrument::Large,
         sheet,

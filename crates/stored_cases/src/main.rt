@@ -40,10 +40,10 @@ fn print_tally(t: Tally) {
 
 // The refusal, or the five counts of a sheet that is read whole.
 fn print_reading(sheet: &[u8]) {
-    let mut conditions = [0usize; 256];
-    let mut points = [0usize; 512];
-    let mut methods = [0usize; 64];
-    let mut steps = [0usize; 512];
+    let mut conditions = [0u32; 256];
+    let mut points = [0u32; 512];
+    let mut methods = [0u32; 64];
+    let mut steps = [0u32; 512];
     let read = read_sheet(
         Instrument::Large,
         sheet,

@@ -39,7 +39,7 @@ fn first_stray(word: &[u8], events: usize) -> usize
 // The word test on a sheet that is read whole: 14, 12, 13, or yes or no.
 fn answer(
     s: &[u8],
-    conditions: &[usize; 256],
+    conditions: &[u32; 256],
     instrument: Instrument,
     contents: Contents,
     condition: usize,
@@ -62,7 +62,7 @@ fn answer(
     if stray < word.len() {
         return WordAnswer::Refused(Refusal::StrayEvent(stray));
     }
-    if holds_word(s, conditions[condition], events, word) {
+    if holds_word(s, conditions[condition] as usize, events, word) {
         return WordAnswer::Yes;
     }
     WordAnswer::No
@@ -72,10 +72,10 @@ fn answer(
 pub fn word_test_on(instrument: Instrument, s: &[u8], condition: usize, word: &[u8]) -> WordAnswer
     ensures { λ r. ⌜ TestsWord (modelOf instrument) (now (s .entry)) condition (now (word .entry)) (answerOf r) ⌝ }
 {
-    let mut conditions: [usize; 256] = [0; 256];
-    let mut points: [usize; 512] = [0; 512];
-    let mut methods: [usize; 64] = [0; 64];
-    let mut steps: [usize; 512] = [0; 512];
+    let mut conditions: [u32; 256] = [0; 256];
+    let mut points: [u32; 512] = [0; 512];
+    let mut methods: [u32; 64] = [0; 64];
+    let mut steps: [u32; 512] = [0; 512];
     let got = read_sheet(
         instrument,
         s,

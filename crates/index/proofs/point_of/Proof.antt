@@ -10,6 +10,9 @@ mul-point-at c = search needs
 element-copy-out-point-at : tie.Need-element-copy-out-point-at
 element-copy-out-point-at c = search needs
 
+cast-point-at : tie.Need-cast-point-at
+cast-point-at c = search needs
+
 point-at-requires : tie.Need-point-at-requires
 point-at-requires c κs = search needs
 
@@ -19,17 +22,26 @@ mul-t9 c = let t = point-named (c .before .before .before .pre .1) (c .point-at 
 element-copy-out-t12 : tie.Need-element-copy-out-t12
 element-copy-out-t12 c = let t = point-named (c .before .before .before .pre .1) (c .point-at .result) (c .point-at .ensures) in omega (arith, t .first .exists)
 
-mul-t15 : tie.Need-mul-t15
-mul-t15 c = let t = point-named (c .before .before .before .before .pre .1) (c .before .point-at .result) (c .before .point-at .ensures) in omega (arith, t .second .exists)
+cast-t13 : tie.Need-cast-t13
+cast-t13 c = let t = point-named (c .before .before .before .before .pre .1) (c .before .point-at .result) (c .before .point-at .ensures) in omega (arith, t .first .inside)
 
-element-copy-out-t18 : tie.Need-element-copy-out-t18
-element-copy-out-t18 c = let t = point-named (c .before .before .before .before .pre .1) (c .before .point-at .result) (c .before .point-at .ensures) in omega (arith, t .second .exists)
+mul-t16 : tie.Need-mul-t16
+mul-t16 c = let t = point-named (c .before .before .before .before .pre .1) (c .before .point-at .result) (c .before .point-at .ensures) in omega (arith, t .second .exists)
 
-mul-t19 : tie.Need-mul-t19
-mul-t19 c = let t = point-named (c .before .before .before .before .before .pre .1) (c .before .before .point-at .result) (c .before .before .point-at .ensures) in omega (arith, t .third .exists)
+element-copy-out-t19 : tie.Need-element-copy-out-t19
+element-copy-out-t19 c = let t = point-named (c .before .before .before .before .pre .1) (c .before .point-at .result) (c .before .point-at .ensures) in omega (arith, t .second .exists)
 
-element-copy-out-t22 : tie.Need-element-copy-out-t22
-element-copy-out-t22 c = let t = point-named (c .before .before .before .before .before .pre .1) (c .before .before .point-at .result) (c .before .before .point-at .ensures) in omega (arith, t .third .exists)
+cast-t20 : tie.Need-cast-t20
+cast-t20 c = let t = point-named (c .before .before .before .before .before .pre .1) (c .before .before .point-at .result) (c .before .before .point-at .ensures) in omega (arith, t .second .inside)
+
+mul-t21 : tie.Need-mul-t21
+mul-t21 c = let t = point-named (c .before .before .before .before .before .pre .1) (c .before .before .point-at .result) (c .before .before .point-at .ensures) in omega (arith, t .third .exists)
+
+element-copy-out-t24 : tie.Need-element-copy-out-t24
+element-copy-out-t24 c = let t = point-named (c .before .before .before .before .before .pre .1) (c .before .before .point-at .result) (c .before .before .point-at .ensures) in omega (arith, t .third .exists)
+
+cast-t25 : tie.Need-cast-t25
+cast-t25 c = let t = point-named (c .before .before .before .before .before .before .pre .1) (c .before .before .before .point-at .result) (c .before .before .before .point-at .ensures) in omega (arith, t .third .inside)
 
 returns : tie.Need-returns
 returns c = λ S x.
@@ -42,11 +54,15 @@ point-of-spec =
     (tie.spec
     mul-point-at
     element-copy-out-point-at
+    cast-point-at
     point-at-requires
     mul-t9
     element-copy-out-t12
-    mul-t15
-    element-copy-out-t18
-    mul-t19
-    element-copy-out-t22
+    cast-t13
+    mul-t16
+    element-copy-out-t19
+    cast-t20
+    mul-t21
+    element-copy-out-t24
+    cast-t25
     returns)

@@ -25,6 +25,9 @@ mul-method-at c = search needs
 element-copy-out-method-at : tie.Need-element-copy-out-method-at
 element-copy-out-method-at c = search needs
 
+cast-method-at : tie.Need-cast-method-at
+cast-method-at c = let (S, cs, ps, x) = c .before .before .before .before .pre .0 in omega (arith, method-in (x .indexes) (c .before .before .before .before .args .number - 1) (omega (arith, x .methods-are, c .before .if2 .taken)) .inside)
+
 method-at-requires : tie.Need-method-at-requires
 method-at-requires c κs = let (S, cs, ps, x) = c .before .before .before .before .pre .0 in method-in (x .indexes) (c .before .before .before .before .args .number - 1) (omega (arith, x .methods-are, c .before .if2 .taken)) .inside
 
@@ -44,6 +47,9 @@ mul-step-at c = search needs
 
 element-copy-out-step-at : tie.Need-element-copy-out-step-at
 element-copy-out-step-at c = search needs
+
+cast-step-at : tie.Need-cast-step-at
+cast-step-at c = let (S, cs, ps, x) = c .before .before .before .before .pre .0 in omega (arith, step-inside (x .indexes) (c .before .before .before .before .args .number - 1 - c .before .before .before .before .args .counts .methods) (omega (arith, x .methods-are, x .steps-are, c .before .before .before .before .pre .1, c .before .if2 .left, c .before .before .if1 .left)))
 
 step-at-requires : tie.Need-step-at-requires
 step-at-requires c κs = let (S, cs, ps, x) = c .before .before .before .before .pre .0 in step-inside (x .indexes) (c .before .before .before .before .args .number - 1 - c .before .before .before .before .args .counts .methods) (omega (arith, x .methods-are, x .steps-are, c .before .before .before .before .pre .1, c .before .if2 .left, c .before .before .if1 .left))
@@ -67,11 +73,13 @@ needs-at-spec =
     sub-k
     mul-method-at
     element-copy-out-method-at
+    cast-method-at
     method-at-requires
     method-needs-requires
     returns-2
     mul-step-at
     element-copy-out-step-at
+    cast-step-at
     step-at-requires
     step-needs-requires
     returns-3)

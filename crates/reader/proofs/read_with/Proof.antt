@@ -1,6 +1,7 @@
 -- Section after section: each hands on where reading stands, and what its table holds.
 use Rattle.instrument.specs.Model.{modelWith}
 use Rattle.reader.proofs.Whole.{refused-length, stops, certificates-le, concludes}
+use native.Mathlib.Omega.{arith}
 use borrow.Author.Needs.{needs}
 use Rattle.reader.proofs.read_with.Statement.{statement}
 use Rattle.reader.proofs.read_with.Tie as tie
@@ -15,13 +16,13 @@ read-conditions-requires : tie.Need-read-conditions-requires
 read-conditions-requires c κs = search needs
 
 read-alone-requires : tie.Need-read-alone-requires
-read-alone-requires c κs = search needs
+read-alone-requires c κs = (search needs, omega (arith, c .before .before .before .before .if1 .left, c .before .before .before .before .before .before .before .pre .0))
 
 read-alone-requires-2 : tie.Need-read-alone-requires-2
-read-alone-requires-2 c κs = search needs
+read-alone-requires-2 c κs = (search needs, omega (arith, c .before .before .before .before .before .before .if1 .left, c .before .before .before .before .before .before .before .before .before .pre .0))
 
 read-alone-requires-3 : tie.Need-read-alone-requires-3
-read-alone-requires-3 c κs = search needs
+read-alone-requires-3 c κs = (search needs, omega (arith, c .before .before .before .before .before .before .before .before .if1 .left, c .before .before .before .before .before .before .before .before .before .before .before .pre .0))
 
 enum-known-fourth : tie.Need-enum-known-fourth
 enum-known-fourth c = search needs
@@ -30,7 +31,7 @@ enum-known-fourth-2 : tie.Need-enum-known-fourth-2
 enum-known-fourth-2 c = search needs
 
 read-certificates-requires : tie.Need-read-certificates-requires
-read-certificates-requires c κs = (c .before .before .before .before .before .before .before .before .before .before .before .before .before .before .before .pre .1, certificates-le (c .before .before .before .before .before .before .before .before .before .before .before .before .if1 .left) (c .before .before .before .before .before .before .before .before .before .before .before .nothing-counted .ensures) (c .before .before .before .before .before .before .before .before .before .read-conditions .ensures) (c .before .before .before .before .before .before .before .read-alone .ensures) (c .before .before .before .before .before .read-alone2 .ensures) (c .before .before .before .read-alone3 .ensures) (c .before .fourth2 .given .1))
+read-certificates-requires c κs = (c .before .before .before .before .before .before .before .before .before .before .before .before .before .before .before .pre .2, certificates-le (c .before .before .before .before .before .before .before .before .before .before .before .before .if1 .left) (c .before .before .before .before .before .before .before .before .before .before .before .nothing-counted .ensures) (c .before .before .before .before .before .before .before .before .before .read-conditions .ensures) (c .before .before .before .before .before .before .before .read-alone .ensures) (c .before .before .before .before .before .read-alone2 .ensures) (c .before .before .before .read-alone3 .ensures) (c .before .fourth2 .given .1))
 
 returns-2 : tie.Need-returns-2
 returns-2 c = stops (c .before .before .before .before .before .before .before .before .before .before .before .before .if1 .left) (c .before .before .before .before .before .before .before .before .before .before .before .nothing-counted .ensures) (c .before .before .before .before .before .before .before .before .before .read-conditions .ensures) (c .before .before .before .before .before .before .before .read-alone .ensures) (c .before .before .before .before .before .read-alone2 .ensures) (c .before .before .before .read-alone3 .ensures) (c .before .fourth .given .1)

@@ -47,7 +47,7 @@ loop-holds : tie.Need-loop-holds Inv-loop μ-loop
 loop-holds c = (refl, λ o u told none. record { state = u; told = told; grown = begin _ none })
 
 record-at-requires : tie.Need-record-at-requires Inv-loop μ-loop
-record-at-requires c κs = c .before .before .before .before .before .before .before .before .pre .kinds
+record-at-requires c κs = c .before .before .before .before .before .before .before .before .pre .0 .kinds
 
 enum-known-got : tie.Need-enum-known-got Inv-loop μ-loop
 enum-known-got c = search needs
@@ -79,24 +79,24 @@ returns-2 : tie.Need-returns-2 Inv-loop μ-loop
 returns-2 c = λ o u told none.
     let k = kept (c .before .before .before .before) o u told none in
     let why = refused (modelWith (c .before .before .before .before .before .before .before .before .before .before .before .before .args .limits)) (c .before .before .before .before .before .before .before .before .before .before .before .before .args .s .now) (c .before .before .before .before .before .loop .at) (k .state) (sym (c .before .before .before .record-at .ensures) ∙ c .before .enum-told2 .given .1) in
-    no-record (c .before .before .before .before .before .before .before .before .before .before .before .before .pre) k (c .before .before .before .before .loop-test .taken) _ (subst (λ (x : Refusal). Refuses (modelWith (c .before .before .before .before .before .before .before .before .before .before .before .before .args .limits)) (c .before .before .before .before .before .before .before .before .before .before .before .before .args .s .now) (c .before .before .before .before .before .loop .at) (k .state) x) (sym (c .refusal-at .ensures)) why)
+    no-record (c .before .before .before .before .before .before .before .before .before .before .before .before .pre .0) k (c .before .before .before .before .loop-test .taken) _ (subst (λ (x : Refusal). Refuses (modelWith (c .before .before .before .before .before .before .before .before .before .before .before .before .args .limits)) (c .before .before .before .before .before .before .before .before .before .before .before .before .args .s .now) (c .before .before .before .before .before .loop .at) (k .state) x) (sym (c .refusal-at .ensures)) why)
 
 section-of-requires : tie.Need-section-of-requires Inv-loop μ-loop
-section-of-requires c κs = (standing c .low, omega (arith, standing c .high, c .before .before .before .before .before .before .before .before .before .before .before .before .pre .kinds))
+section-of-requires c κs = (standing c .low, omega (arith, standing c .high, c .before .before .before .before .before .before .before .before .before .before .before .before .pre .0 .kinds))
 
 same-length-2 : tie.Need-same-length-2 Inv-loop μ-loop
 same-length-2 c = c .before .before .before .before .before .before .before .loop .inv .0
 
 returns-3 : tie.Need-returns-3 Inv-loop μ-loop
 returns-3 c = λ o u told none.
-    too-early (c .before .before .before .before .before .before .before .before .before .before .before .before .before .before .pre) (kept (c .before .before .before .before .before .before) o u told none) (c .before .before .before .before .before .before .loop-test .taken) (standing (c .before .before)) (omega (arith, c .if1 .taken, c .before .section-of .ensures))
+    too-early (c .before .before .before .before .before .before .before .before .before .before .before .before .before .before .pre .0) (kept (c .before .before .before .before .before .before) o u told none) (c .before .before .before .before .before .before .loop-test .taken) (standing (c .before .before)) (omega (arith, c .if1 .taken, c .before .section-of .ensures))
 
 same-length-3 : tie.Need-same-length-3 Inv-loop μ-loop
 same-length-3 c = c .before .before .before .before .before .before .before .before .loop .inv .0
 
 returns-4 : tie.Need-returns-4 Inv-loop μ-loop
 returns-4 c = λ o u told none.
-    later-section (c .before .before .before .before .before .before .before .before .before .before .before .before .before .before .before .pre) (kept (c .before .before .before .before .before .before .before) o u told none) (c .before .before .before .before .before .before .before .loop-test .taken) (standing (c .before .before .before)) (omega (arith, c .if2 .taken, c .before .before .section-of .ensures))
+    later-section (c .before .before .before .before .before .before .before .before .before .before .before .before .before .before .before .pre .0) (kept (c .before .before .before .before .before .before .before) o u told none) (c .before .before .before .before .before .before .before .loop-test .taken) (standing (c .before .before .before)) (omega (arith, c .if2 .taken, c .before .before .section-of .ensures))
 
 count-requires-2 : tie.Need-count-requires-2 Inv-loop μ-loop
 count-requires-2 c κs = search needs
@@ -110,12 +110,12 @@ same-length-4 c = c .before .before .before .before .before .before .before .bef
 
 returns-5 : tie.Need-returns-5 Inv-loop μ-loop
 returns-5 c = λ o u told none.
-    over-limit (c .before .before .before .before .before .before .before .before .before .before .before .before .before .before .before .before .before .pre) (kept (c .before .before .before .before .before .before .before .before .before) o u told none) (c .before .before .before .before .before .before .before .before .before .loop-test .taken) (standing (c .before .before .before .before .before)) (same (c .before)) (le-leb (c .before .before .before .before .before .before .before .before .before .before .before .before .before .before .before .before .before .args .limit) (countOf (c .before .before .before .before .before .before .before .before .before .before .loop .tally) (c .before .before .before .before .before .before .before .before .before .before .before .before .before .before .before .before .before .args .section)) (omega (arith, c .if3 .taken, c .before .count2 .ensures)))
+    over-limit (c .before .before .before .before .before .before .before .before .before .before .before .before .before .before .before .before .before .pre .0) (kept (c .before .before .before .before .before .before .before .before .before) o u told none) (c .before .before .before .before .before .before .before .before .before .loop-test .taken) (standing (c .before .before .before .before .before)) (same (c .before)) (le-leb (c .before .before .before .before .before .before .before .before .before .before .before .before .before .before .before .before .before .args .limit) (countOf (c .before .before .before .before .before .before .before .before .before .before .loop .tally) (c .before .before .before .before .before .before .before .before .before .before .before .before .before .before .before .before .before .args .section)) (omega (arith, c .if3 .taken, c .before .count2 .ensures)))
 
 names-exist-requires : tie.Need-names-exist-requires Inv-loop μ-loop
 names-exist-requires c κs =
     let is = same (c .before) in
-    let a = c .before .before .before .before .before .before .before .before .before .before .before .before .before .before .before .before .before .pre in
+    let a = c .before .before .before .before .before .before .before .before .before .before .before .before .before .before .before .before .before .pre .0 in
     let w = standing (c .before .before .before .before .before) in
     record { is = w .kind; low = omega (arith, a .low); high = omega (arith, a .high); inside = w .inside }
 
@@ -128,7 +128,7 @@ same-length-5 c = c .before .before .before .before .before .before .before .bef
 
 returns-6 : tie.Need-returns-6 Inv-loop μ-loop
 returns-6 c = λ o u told none.
-    unnamed (c .before .before .before .before .before .before .before .before .before .before .before .before .before .before .before .before .before .before .before .pre) (kept (c .before .before .before .before .before .before .before .before .before .before .before) o u told none) (c .before .before .before .before .before .before .before .before .before .before .before .loop-test .taken) (standing (c .before .before .before .before .before .before .before)) (same (c .before .before .before)) (within (c .before .before)) (sym (c .before .names-exist .ensures) ∙ not-true (c .before .names-exist .result) (c .if4 .taken))
+    unnamed (c .before .before .before .before .before .before .before .before .before .before .before .before .before .before .before .before .before .before .before .pre .0) (kept (c .before .before .before .before .before .before .before .before .before .before .before) o u told none) (c .before .before .before .before .before .before .before .before .before .before .before .loop-test .taken) (standing (c .before .before .before .before .before .before .before)) (same (c .before .before .before)) (within (c .before .before)) (sym (c .before .names-exist .ensures) ∙ not-true (c .before .names-exist .result) (c .if4 .taken))
 
 is-primitive-requires : tie.Need-is-primitive-requires Inv-loop μ-loop
 is-primitive-requires c κs = search needs
@@ -148,17 +148,20 @@ same-length-6 c = c .before .before .before .before .before .before .before .bef
 
 returns-7 : tie.Need-returns-7 Inv-loop μ-loop
 returns-7 c = λ o u told none.
-    primitive-first (c .before .before .before .before .before .before .before .before .before .before .before .before .before .before .before .before .before .before .before .before .before .before .pre) (kept (c .before .before .before .before .before .before .before .before .before .before .before .before .before .before) o u told none) (c .before .before .before .before .before .before .before .before .before .before .before .before .before .before .loop-test .taken) (standing (c .before .before .before .before .before .before .before .before .before .before)) (same (c .before .before .before .before .before .before)) (within (c .before .before .before .before .before)) (sym (c .before .before .before .before .names-exist .ensures) ∙ not-false (c .before .before .before .before .names-exist .result) (c .before .before .before .if4 .left))
+    primitive-first (c .before .before .before .before .before .before .before .before .before .before .before .before .before .before .before .before .before .before .before .before .before .before .pre .0) (kept (c .before .before .before .before .before .before .before .before .before .before .before .before .before .before) o u told none) (c .before .before .before .before .before .before .before .before .before .before .before .before .before .before .loop-test .taken) (standing (c .before .before .before .before .before .before .before .before .before .before)) (same (c .before .before .before .before .before .before)) (within (c .before .before .before .before .before)) (sym (c .before .before .before .before .names-exist .ensures) ∙ not-false (c .before .before .before .before .names-exist .result) (c .before .before .before .if4 .left))
     (given (c .before .before .before .before .before .before .before .before .before .before .before .before .before .before .before .before) o u told .1) none (first-primitive (c .before) ∙ c .if5 .taken)
 
+cast-table : tie.Need-cast-table Inv-loop μ-loop
+cast-table c = omega (arith, c .before .before .before .before .before .before .before .before .before .before .before .before .before .before .loop-test .taken, c .before .before .before .before .before .before .before .before .before .before .before .before .before .before .before .before .before .before .before .before .before .before .pre .1)
+
 mul-table : tie.Need-mul-table Inv-loop μ-loop
-mul-table c = omega (arith, c .before .before .before .before .before .if3 .left, c .before .before .before .before .before .before .before .before .before .before .before .before .before .before .before .before .before .before .before .before .before .before .pre .few)
+mul-table c = omega (arith, c .before .before .before .before .before .if3 .left, c .before .before .before .before .before .before .before .before .before .before .before .before .before .before .before .before .before .before .before .before .before .before .pre .0 .few)
 
 slice-write-table : tie.Need-slice-write-table Inv-loop μ-loop
-slice-write-table c = omega (arith, c .before .before .before .before .before .if3 .left, c .before .before .before .before .before .before .before .before .before .before .before .before .before .before .before .before .before .before .before .before .before .before .pre .room, c .before .before .before .before .before .before .before .before .before .before .before .before .before .before .before .loop .inv .0)
+slice-write-table c = omega (arith, c .before .before .before .before .before .if3 .left, c .before .before .before .before .before .before .before .before .before .before .before .before .before .before .before .before .before .before .before .before .before .before .pre .0 .room, c .before .before .before .before .before .before .before .before .before .before .before .before .before .before .before .loop .inv .0)
 
 past-requires : tie.Need-past-requires Inv-loop μ-loop
-past-requires c κs = omega (arith, c .before .before .before .before .before .if3 .left, c .before .before .before .before .before .before .count2 .ensures, c .before .before .before .before .before .before .before .before .before .before .before .before .before .before .before .before .before .before .before .before .before .before .pre .room)
+past-requires c κs = omega (arith, c .before .before .before .before .before .if3 .left, c .before .before .before .before .before .before .count2 .ensures, c .before .before .before .before .before .before .before .before .before .before .before .before .before .before .before .before .before .before .before .before .before .before .pre .0 .room)
 
 loop-less : tie.Need-loop-less Inv-loop μ-loop
 loop-less c =
@@ -169,7 +172,7 @@ loop-again : tie.Need-loop-again Inv-loop μ-loop
 loop-again c = (
   length-set (c .before .before .before .before .before .before .before .before .before .before .before .before .before .before .before .before .loop .table) (c .before .before .before .before .before .before .before .count2 .result) (c .before .before .before .before .before .before .before .before .before .before .before .before .before .before .before .before .loop .at) ∙ c .before .before .before .before .before .before .before .before .before .before .before .before .before .before .before .before .loop .inv .0,
   λ o u told none.
-      again (c .before .before .before .before .before .before .before .before .before .before .before .before .before .before .before .before .before .before .before .before .before .before .before .pre) (c .before .before .before .before .before .before .before .before .before .before .before .before .before .before .before .before .loop .inv .1 o u told none) (c .before .before .before .before .before .before .before .before .before .before .before .before .before .before .before .loop-test .taken) (standing (c .before .before .before .before .before .before .before .before .before .before .before)) (same (c .before .before .before .before .before .before .before)) (within (c .before .before .before .before .before .before)) (sym (c .before .before .before .before .before .names-exist .ensures) ∙ not-false (c .before .before .before .before .before .names-exist .result) (c .before .before .before .before .if4 .left))
+      again (c .before .before .before .before .before .before .before .before .before .before .before .before .before .before .before .before .before .before .before .before .before .before .before .pre .0) (c .before .before .before .before .before .before .before .before .before .before .before .before .before .before .before .before .loop .inv .1 o u told none) (c .before .before .before .before .before .before .before .before .before .before .before .before .before .before .before .loop-test .taken) (standing (c .before .before .before .before .before .before .before .before .before .before .before)) (same (c .before .before .before .before .before .before .before)) (within (c .before .before .before .before .before .before)) (sym (c .before .before .before .before .before .names-exist .ensures) ∙ not-false (c .before .before .before .before .before .names-exist .result) (c .before .before .before .before .if4 .left))
       (told .1) none (first-primitive (c .before .before) ∙ c .before .if5 .left) (c .before .before .before .before .before .before .before .count2 .ensures) (c .past .ensures),
 )
 
@@ -177,7 +180,7 @@ same-length-7 : tie.Need-same-length-7 Inv-loop μ-loop
 same-length-7 c = c .before .loop .inv .0
 
 returns-8 : tie.Need-returns-8 Inv-loop μ-loop
-returns-8 c = λ o u told none. no-more (c .before .before .before .before .before .before .before .before .pre) (c .before .loop .inv .1 o u (given (c .before .before) o u told) none) (c .loop-test .left)
+returns-8 c = λ o u told none. no-more (c .before .before .before .before .before .before .before .before .pre .0) (c .before .loop .inv .1 o u (given (c .before .before) o u told) none) (c .loop-test .left)
 
 pub read-alone-spec : {M : Type 1} → statement M
 read-alone-spec =
@@ -211,6 +214,7 @@ read-alone-spec =
     both-requires
     same-length-6
     returns-7
+    cast-table
     mul-table
     slice-write-table
     past-requires

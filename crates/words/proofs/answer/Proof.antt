@@ -35,6 +35,9 @@ mul-holds-word c = let (t, named) = c .before .before .before .before .before .b
 element-copy-out-holds-word : tie.Need-element-copy-out-holds-word
 element-copy-out-holds-word c = let (t, named) = c .before .before .before .before .before .before .before .before .before .pre in named _ (condition-there t (c .before .before .before .before .if1 .left)) .exists
 
+cast-holds-word : tie.Need-cast-holds-word
+cast-holds-word c = let (t, named) = c .before .before .before .before .before .before .before .before .before .before .pre in omega (arith, named _ (condition-there t (c .before .before .before .before .before .if1 .left)) .inside)
+
 holds-word-requires : tie.Need-holds-word-requires
 holds-word-requires c κs = (limits-fit (c .before .before .before .before .before .before .before .before .before .before .args .instrument) (c .before .before .before .limits-of .ensures) .few-events, λ i l. c .before .before .first-stray .ensures .before i (omega (arith, c .before .if3 .left)))
 
@@ -61,6 +64,7 @@ answer-spec =
     returns-3
     mul-holds-word
     element-copy-out-holds-word
+    cast-holds-word
     holds-word-requires
     returns-4
     returns-5)

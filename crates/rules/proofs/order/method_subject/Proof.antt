@@ -1,3 +1,4 @@
+use native.Mathlib.Omega.{arith}
 use Rattle.index.proofs.Indexed.{method-in}
 use Rattle.rules.proofs.Decoded.{body-rules, entry-in, exit-in}
 use borrow.Author.Needs.{needs}
@@ -9,6 +10,9 @@ mul-method-at c = search needs
 
 element-copy-out-method-at : tie.Need-element-copy-out-method-at
 element-copy-out-method-at c = search needs
+
+cast-method-at : tie.Need-cast-method-at
+cast-method-at c = let (S, steps, x, l) = c .before .before .pre in omega (arith, method-in x (c .before .before .args .m) l .inside)
 
 method-at-requires : tie.Need-method-at-requires
 method-at-requires c κs = let (S, steps, x, l) = c .before .before .pre in method-in x _ l .inside
@@ -49,6 +53,7 @@ method-subject-spec =
     (tie.spec
     mul-method-at
     element-copy-out-method-at
+    cast-method-at
     method-at-requires
     enum-known-method
     enum-told

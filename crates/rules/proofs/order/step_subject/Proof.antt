@@ -1,3 +1,4 @@
+use native.Mathlib.Omega.{arith}
 use Rattle.index.proofs.Indexed.{point-in, method-in, step-inside}
 use Rattle.rules.proofs.Decoded.{step-rules, named, fits}
 use borrow.Author.Needs.{needs}
@@ -9,6 +10,9 @@ mul-step-at c = search needs
 
 element-copy-out-step-at : tie.Need-element-copy-out-step-at
 element-copy-out-step-at c = search needs
+
+cast-step-at : tie.Need-cast-step-at
+cast-step-at c = let (S, x, l) = c .before .before .pre in omega (arith, step-inside x (c .before .before .args .i) l)
 
 step-at-requires : tie.Need-step-at-requires
 step-at-requires c κs = let (S, x, l) = c .before .before .pre in step-inside x _ l
@@ -86,6 +90,7 @@ step-subject-spec =
     (tie.spec
     mul-step-at
     element-copy-out-step-at
+    cast-step-at
     step-at-requires
     enum-known-step
     point-of-requires
