@@ -9,6 +9,7 @@ use Rattle.runs.specs.Rules as runs
 use Rattle.runs.specs.Rules.{rules}
 use Rattle.faults.specs.declared.Fault.{Fault}
 use Rattle.items.specs.Stack.{Roomy, Rows}
+use Rattle.meets.specs.Meets.{tableRows}
 use Rattle.answers.specs.declared.Rule.{Rule}
 use Rattle.index.specs.Trial.{Trial, tryRules}
 use Rattle.index.proofs.Trial.{onward, no-rules, trial-append}
@@ -83,9 +84,9 @@ module _ {events : ℕ} {s : List ℕ} {S : Sheet} {from at : ℕ} {cursor : Cur
 
 -- The tables that a test is lent: the stack on which a side's places are found, the rows of the left side and of the right, and room for the
 -- search of a certificate's faults.
-pub record RoomToTest (nulls : List Bool) (firsts lasts lfollow lsets rfollow rsets missing kept : List ℕ) : Type 0 where
+pub record RoomToTest (nulls : List Bool) (firsts lasts lfollow lsets rfollow rsets missing rows : List ℕ) : Type 0 where
   pub stack : Roomy nulls firsts lasts
   pub left : Rows lfollow lsets
   pub right : Rows rfollow rsets
   pub missing-long : length missing ≡ 64
-  pub kept-long : length kept ≡ 64
+  pub rows-long : length rows ≡ tableRows

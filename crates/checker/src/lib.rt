@@ -4,6 +4,7 @@ ghost use Rattle.sheet.specs.Sheet.{Sheet};
 ghost use Rattle.runs.specs.Rules.{rules};
 ghost use Rattle.rules.specs.Order.{SheetIn};
 ghost use Rattle.trial.specs.Tested.{Tries};
+use meets::ROWS;
 use rules::cursor::Next;
 use rules::cursor::next_claim;
 use rules::cursor::start;
@@ -16,10 +17,10 @@ use trial::test;
 // All rules of a sheet over so many events, with the certificates from an offset on. The tables that the tests need are made once, here.
 pub fn test_rules(
     s: &[u8],
-    conditions: &[usize; 256],
-    points: &[usize; 512],
-    methods: &[usize; 64],
-    steps: &[usize; 512],
+    conditions: &[u32; 256],
+    points: &[u32; 512],
+    methods: &[u32; 64],
+    steps: &[u32; 512],
     counts: Counts,
     events: usize,
     from: usize,
@@ -38,7 +39,7 @@ pub fn test_rules(
     let mut rf = [0; 64];
     let mut rs = [0; 64];
     let mut missing = [0; 64];
-    let mut kept = [0; 64];
+    let mut rows = [0; ROWS];
     let mut at = from;
     let mut cursor = start(s, conditions, points, methods, steps, counts);
     loop {
@@ -62,7 +63,7 @@ pub fn test_rules(
             events,
             question,
         };
-        let tested = test(s, trial, &lf, &ls, &rf, &rs, &mut missing, &mut kept);
+        let tested = test(s, trial, &lf, &ls, &rf, &rs, &mut missing, &mut rows);
         let Tested::Passed(behind) = tested else {
             return tested;
         };

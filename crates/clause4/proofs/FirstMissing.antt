@@ -10,11 +10,13 @@ use lib.Bits.{bitAnd}
 use borrow.Author.Tests.{ltb-true, ltb-false}
 use Rattle.bits.specs.Bits.{_⇒_, has, anyBelow}
 use Rattle.bits.proofs.Tests.{T-true, T-ext, and-out, and-in, any-in, any-out}
+use Rattle.bits.proofs.Sets.{has-none}
 use Rattle.bits.proofs.Masks.{has-and}
 use Rattle.certificate.specs.Certificate.{Certificate, fine, fault, inOrder, unless}
 use Rattle.certificate.proofs.Findings.{Fine, fine-is, unless-in, inOrder-in, inOrder-stops, inOrder-cong}
 use Rattle.bits.specs.Rows.{rowHas, inRows, IsLowest}
-use Rattle.clause4.specs.Clause4.{servedBy, misses, Active, Wanted, Served, missingAt, clause4ByTables}
+use Rattle.looks.specs.Looks.{misses}
+use Rattle.clause4.specs.Clause4.{servedBy, Active, Wanted, Served, missingAt, clause4ByTables}
 use Rattle.clause4.proofs.Serving.{served-is}
 
 T-of : {b : Bool} → b ≡ true → T b
@@ -58,7 +60,8 @@ module _ (missers : ℕ) (rows : List ℕ) (n i all : ℕ) (all-is : (k : ℕ) �
     event-fault : has all e ≡ true → missingAt n i missers rows e ≡ fault 4 i e l
     event-fault h =
         inOrder-stops n (λ l. unless (not (misses missers rows l e)) (fault 4 i e l)) l (on-side h)
-        (inOrder-in l (λ l. unless (not (misses missers rows l e)) (fault 4 i e l)) (λ k a. unless-in (not (misses missers rows k e)) (fault 4 i e k) (fails (at-place .before k a))))
+        (inOrder-in l (λ l. unless (not (misses missers rows l e)) (fault 4 i e l))
+        (λ k a. unless-in (not (misses missers rows k e)) (fault 4 i e k) (fails (at-place .before k a))))
         _
         (ap (λ (b : Bool). unless (not b) (fault 4 i e l)) (at-place .stops (on-side h)))
 
@@ -68,6 +71,14 @@ module _ (missers : ℕ) (rows : List ℕ) (n i all : ℕ) (all-is : (k : ℕ) �
         (inOrder-in e (missingAt n i missers rows) (λ k a. event-fine k (low .before k a)))
         _
         (event-fault (low .stops h)))
+
+-- no place misses an event
+pub missing-nothing : {missers : ℕ} (rows : List ℕ) (n i events : ℕ) → missers ≡ 0 → fine ≡ inOrder events (missingAt n i missers rows)
+missing-nothing {missers} rows n i events z =
+    sym (fine-is _ (inOrder-in events (missingAt n i missers rows) (λ e _.
+    inOrder-in n (λ l. unless (not (misses missers rows l e)) (fault 4 i e l)) (λ l _.
+    unless-in (not (misses missers rows l e)) (fault 4 i e l)
+    (fails (ap (λ (x : ℕ). has x l && rowHas rows l e) z ∙ ap (λ (b : Bool). b && rowHas rows l e) (has-none l)))))))
 
 -- In the certificate --------------------------------------------------------------------------------------------------
 
@@ -103,7 +114,8 @@ module _ (events n followers alive mask : ℕ) (lsets : List ℕ) (mask-is : (k 
           and-in (has (bitAnd followers alive) l) (rowHas rows l e) z
           (subst T (sym (row-is z)) (and-in (rowHas lsets l e) (has mask e) y (subst T (sym (mask-is e)) (lt→ltb e events k))))
 
-  pub clause4-is : (c : Certificate) (i m onward : ℕ) (rsets : List ℕ) {missers : ℕ} {rows′ : List ℕ} → Served c m onward rsets (bitAnd followers alive) rows missers rows′
+  pub clause4-is : (c : Certificate) (i m onward : ℕ) (rsets : List ℕ) {missers : ℕ} {rows′ : List ℕ}
+      → Served c m onward rsets (bitAnd followers alive) rows missers rows′
       → inOrder events (missingAt n i missers rows′) ≡ inOrder events (clause4ByTables c n i followers lsets m onward rsets)
   clause4-is c i m onward rsets {missers} {rows′} s =
       inOrder-cong events (missingAt n i missers rows′) (clause4ByTables c n i followers lsets m onward rsets)

@@ -1,5 +1,4 @@
-pub mod Rows
 pub mod Wanting
-pub mod Rounds
+pub mod Seen
 pub mod Serving
 pub mod FirstMissing

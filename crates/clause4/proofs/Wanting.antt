@@ -20,7 +20,7 @@ use Rattle.bits.proofs.Masks.{has-and, has-or, nonzero-in}
 use Rattle.bits.proofs.Least.{Lowest, positive, lowest, lowest-lt}
 use Rattle.bits.specs.Rows.{rowHas}
 use Rattle.clause4.specs.Clause4.{Active, Wanted}
-use Rattle.clause4.proofs.Rows.{chosen-has}
+use Rattle.looks.proofs.Rows.{chosen-has}
 
 -- The places that hold one of the first events, place after place -------------------------------------------------------
 

@@ -5,25 +5,17 @@ use mathlib.Core.List.{List}
 use mathlib.Core.Logic.{_⊎_}
 use Prim.Native.Nat.{ℕ, _≤_, _<_}
 use lib.ListN.{length, getD}
-use lib.Dec.{T, eqb}
+use lib.Dec.{T}
 use lib.Bits.{bitAnd}
 use Rattle.bits.specs.Bits.{_⇒_, has, anyBelow}
-use Rattle.certificate.specs.Certificate.{Pair, Certificate, pairOf, Finding, fault, inOrder, unless}
+use Rattle.certificate.specs.Certificate.{Certificate, pairOf, Finding, fault, inOrder, unless}
 use Rattle.bits.specs.Rows.{rowHas}
-use Rattle.held.specs.Held.{allHold, Surveyed}
-use Rattle.clause4.specs.declared.Scope.{Scope}
+use Rattle.looks.specs.declared.Scope.{Scope}
+use Rattle.looks.specs.Looks.{Searched, serves, misses}
 
 -- Pairs that serve ------------------------------------------------------------------------------------------------------
 
--- a set lies within the stepped set where it lies within the followers `onward`, and each of its places holds the event e
-abbrev pub serving : ℕ → ℕ → List ℕ → ℕ → ℕ → Bool
-serving m onward sets t e = eqb (bitAnd t onward) t && allHold m sets t e
-
--- a pair is one of place q with such a set
-abbrev pub serves : ℕ → ℕ → List ℕ → ℕ → ℕ → Pair → Bool
-serves m onward sets q e p = eqb (p .place) q && serving m onward sets (p .set) e
-
--- one of the first j pairs is
+-- one of the first j pairs serves the event e at place q
 abbrev pub servedBy : Certificate → ℕ → ℕ → List ℕ → ℕ → ℕ → ℕ → Bool
 servedBy c m onward sets j q e = anyBelow j (λ i. serves m onward sets q e (pairOf c i))
 
@@ -40,17 +32,11 @@ pub record Active (sets : List ℕ) (n events set : ℕ) : Type 0 where
   pub holds : (q e : ℕ) → q < n → e < events → T (rowHas sets q e) → T (has set q)
 
 -- what is the same for all pairs of a certificate c, with the tables of the two sides and the rows that are kept of c
-pub record Scoped (c : Certificate) (x : Scope) (lsets rsets kept : List ℕ) : Type 0 where
-  pub count-is : x .count ≡ length c
+pub record Scoped (c : Certificate) (x : Scope) (lsets rsets rows : List ℕ) : Type 0 where
+  pub searched : Searched c x rsets rows
   pub few-events : x .events ≤ 64
   pub few-left : x .n ≤ 64
-  pub few-right : x .m ≤ 64
   pub alive-is : Active lsets (x .n) (x .events) (x .alive)
-  pub kept-is : Surveyed c (x .m) rsets kept
-
--- place q misses the event e: it is one of the places `missers`, and its row has e. Rows of other places say nothing.
-abbrev pub misses : ℕ → List ℕ → ℕ → ℕ → Bool
-misses missers rows q e = has missers q && rowHas rows q e
 
 -- the rows of the places `missers` are the events of the mask that each holds
 pub record Wanted (missers : ℕ) (sets : List ℕ) (mask : ℕ) (rows : List ℕ) : Type 0 where

@@ -1,41 +1,30 @@
 // Clause 4 of a pair: the events that are missing at each follower of its place, until a pair of that follower serves them. The table `missing`
 // has a row for each place; only the rows of the places `missers` count.
 ghost use mathlib.Core.Path.{_≡_};
-ghost use mathlib.Core.Bool.{cond};
-ghost use Prim.Native.Nat.{_≤_};
-ghost use lib.Dec.{ltb};
+ghost use Prim.Native.Nat.{_≤_, _<_};
 ghost use lib.Bits.{bitAnd};
 ghost use lib.ListN.{length};
+ghost use Rattle.bits.specs.Bits.{has};
 ghost use Rattle.certificate.specs.Certificate.{inOrder};
 ghost use Rattle.sheet.specs.AtOffset.{certificateAt};
 ghost use Rattle.faults.specs.Fault.{findingOf};
-ghost use Rattle.held.specs.Held.{Surveyed};
+ghost use Rattle.looks.specs.Looks.{Searched};
 ghost use Rattle.clause4.specs.Clause4.{Active, Scoped, Wanted, Served, Hint, missingAt, clause4ByTables};
 use bits::below;
 use bits::bit;
-use bits::both;
 use bits::chosen;
-use bits::listed;
 use bits::lowest;
 use bits::rows::gather;
 use bits::rows::lowest_row;
 use bits::without;
 use faults::Fault;
 use faults::Finding;
-use held::events_of;
-use pairs::known_pair;
+use looks::Scope;
+use looks::look;
+use looks::skip;
+use meets::ROWS;
 
-// What is the same for all pairs of a certificate: how many they are, over how many events, how many places the left side has and the right one,
-// and the left places that hold an event.
-pub struct Scope {
-    pub count: usize,
-    pub events: usize,
-    pub n: usize,
-    pub m: usize,
-    pub alive: u64,
-}
-
-// What clause 4 asks of a pair: its number, the followers of its place and those of its set, and the pair from which on the search goes round.
+// What clause 4 asks of a pair: its number, the followers of its place and those of its set, and the pair at which the search starts.
 pub struct Ask {
     pub pair: usize,
     pub followers: u64,
@@ -50,12 +39,15 @@ pub struct Turned {
     pub start: usize,
 }
 
-// The rest of what is missing: the places that miss an event, and the pair at which the next search may start. That is the lowest pair met whose
-// place missed an event and whose set lies within the followers, or the number of pairs where there was none.
+// The rest of what is missing: the places that miss an event, and the pair at which the next search may start. That is the lowest pair that served,
+// or the number of pairs where none did.
 pub struct Rest {
     pub missers: u64,
     pub lowest: usize,
 }
+
+// The looks in vain that a search of many pairs may make before it asks of each pair which events it serves.
+pub const TRIES: usize = 64;
 
 // The places below n whose leaf holds an event.
 pub fn active(sets: &[u64; 64], n: usize, events: usize) -> u64
@@ -86,59 +78,61 @@ pub fn want(missers: u64, sets: &[u64; 64], mask: u64, missing: &mut [u64; 64])
     }
 }
 
-// Number i of `count`, going round: behind the last comes the first.
-pub fn round(i: usize, count: usize) -> usize
-    ensures { λ r. ⌜ r ≡ cond (ltb i count) i 0 ⌝ }
+// A search starts at the pair that is asked for, and at the first where there is no such pair.
+pub fn start_of(asked: usize, count: usize) -> usize
+    ensures { λ r. ⌜ (r ≤ count) × (0 < count → r < count) ⌝ }
 {
-    if i < count { i } else { 0 }
+    if asked < count { asked } else { 0 }
 }
 
-// The lesser of two numbers.
-pub fn least(a: usize, b: usize) -> usize
-    ensures { λ r. ⌜ r ≡ cond (ltb a b) a b ⌝ }
-{
-    if a < b { a } else { b }
+// One less, and not below 0.
+pub fn fewer(tries: usize) -> usize {
+    if 0 < tries { tries - 1 } else { 0 }
 }
 
-// What the pairs leave of what the places `wanted` miss, going round them from the one that the ask names. It stops where nothing is missing any
-// more. What is left is the same wherever it starts.
+// What the pairs leave of what the places `wanted` miss: from the pair that the ask names to the last, and then from the first on. It stops where
+// nothing is missing any more. What is left is the same wherever it starts.
 pub fn serve(
     pairs: &[u8],
     scope: Scope,
     ask: Ask,
     wanted: u64,
     sets: &[u64; 64],
-    kept: &[u64; 64],
+    rows: &[u64; ROWS],
     missing: &mut [u64; 64],
 ) -> Rest
-    requires { ⌜ (scope .count ≡ length (certificateAt (now pairs) 0)) × (scope .m ≤ 64) × (length (now missing) ≡ 64) ⌝ }
-    requires { ⌜ Surveyed (certificateAt (now pairs) 0) (scope .m) (now sets) (now kept) ⌝ }
-    ensures rest { λ r. ⌜ Served (certificateAt (now (pairs .entry)) 0) (scope .m) (ask .onward) (now (sets .entry)) wanted (now (missing .entry)) (r .missers) (now (missing .exit)) ⌝ }
+    requires { ⌜ Searched (certificateAt (now pairs) 0) scope (now sets) (now rows) × (length (now missing) ≡ 64) ⌝ }
+    ensures rest { λ r. ⌜ Served (certificateAt (now (pairs .entry)) 0) (scope .m) (ask .onward) (now (sets .entry)) wanted
+        (now (missing .entry)) (r .missers) (now (missing .exit)) ⌝ }
     ensures hint { λ r. ⌜ Hint (certificateAt (now (pairs .entry)) 0) (ask .onward) wanted (r .lowest) ⌝ }
 {
-    let count = scope.count;
-    let m = scope.m;
     let onward = ask.onward;
+    let start = start_of(ask.start, scope.count);
     let mut missers = wanted;
-    let mut lowest = count;
-    let mut i: usize = round(ask.start, count);
-    let mut left: usize = count;
+    let mut lowest = scope.count;
+    let mut i = start;
+    let mut to = scope.count;
+    let mut tries = TRIES;
     while missers != 0 {
-        if left == 0 {
+        i = skip(pairs, scope, onward, i, to, tries, sets, rows, missing);
+        if i < to {
+            let looked = look(pairs, scope, onward, i, missers, sets, rows, missing);
+            missers = looked.missers;
+            if looked.served {
+                if i < lowest {
+                    lowest = i;
+                }
+            } else {
+                tries = fewer(tries);
+            }
+            i += 1;
+            continue;
+        }
+        if to == start {
             return Rest { missers, lowest };
         }
-        let pair = known_pair(pairs, i);
-        let q = pair.place;
-        let set = pair.set;
-        if both(listed(missers, q), set & onward == set) {
-            let row = missing[q];
-            let rest = without(row, events_of(i, set, m, sets, kept));
-            missing[q] = rest;
-            missers = missers ^ chosen(rest == 0, bit(q));
-            lowest = least(lowest, i);
-        }
-        i = round(i + 1, count);
-        left -= 1;
+        i = 0;
+        to = start;
     }
     Rest { missers, lowest }
 }
@@ -148,6 +142,9 @@ pub fn first_missing(scope: Scope, missers: u64, i: usize, missing: &[u64; 64]) 
     requires { ⌜ (scope .n ≤ 64) × (scope .events ≤ 64) ⌝ }
     ensures { λ r. ⌜ findingOf r ≡ inOrder (scope .events) (missingAt (scope .n) i missers (now (missing .entry))) ⌝ }
 {
+    if missers == 0 {
+        return Finding::Fine;
+    }
     let n = scope.n;
     let events = scope.events;
     let all = gather(missing, n, missers);
@@ -172,11 +169,12 @@ pub fn clause4(
     ask: Ask,
     lsets: &[u64; 64],
     rsets: &[u64; 64],
-    kept: &[u64; 64],
+    rows: &[u64; ROWS],
     missing: &mut [u64; 64],
 ) -> Turned
-    requires { ⌜ Scoped (certificateAt (now pairs) 0) scope (now lsets) (now rsets) (now kept) × (length (now missing) ≡ 64) ⌝ }
-    ensures finding { λ r. ⌜ findingOf (r .finding) ≡ inOrder (scope .events) (clause4ByTables (certificateAt (now (pairs .entry)) 0) (scope .n) (ask .pair) (ask .followers) (now (lsets .entry)) (scope .m) (ask .onward) (now (rsets .entry))) ⌝ }
+    requires { ⌜ Scoped (certificateAt (now pairs) 0) scope (now lsets) (now rsets) (now rows) × (length (now missing) ≡ 64) ⌝ }
+    ensures finding { λ r. ⌜ findingOf (r .finding) ≡ inOrder (scope .events) (clause4ByTables (certificateAt (now (pairs .entry)) 0) (scope .n)
+        (ask .pair) (ask .followers) (now (lsets .entry)) (scope .m) (ask .onward) (now (rsets .entry))) ⌝ }
     ensures rows { λ _. ⌜ length (now (missing .exit)) ≡ 64 ⌝ }
     ensures hint { λ r. ⌜ Hint (certificateAt (now (pairs .entry)) 0) (ask .onward) (bitAnd (ask .followers) (scope .alive)) (r .start) ⌝ }
 {
@@ -185,7 +183,7 @@ pub fn clause4(
     let alive = scope.alive;
     let wanted = followers & alive;
     want(wanted, lsets, mask, missing);
-    let rest = serve(pairs, scope, ask, wanted, rsets, kept, missing);
+    let rest = serve(pairs, scope, ask, wanted, rsets, rows, missing);
     let finding = first_missing(scope, rest.missers, ask.pair, missing);
     Turned {
         finding,

@@ -22,8 +22,9 @@ use Rattle.certificate.proofs.Findings.{inOrder-cong}
 use Rattle.places.specs.Tables.{Tables}
 use Rattle.places.specs.declared.Side.{Side}
 use Rattle.bits.specs.Rows.{rowHas, inRows}
-use Rattle.held.specs.Held.{allHold}
-use Rattle.clause4.specs.Clause4.{serving, servedBy, clause4ByTables}
+use Rattle.meets.specs.Meets.{allHold}
+use Rattle.looks.specs.Looks.{serving}
+use Rattle.clause4.specs.Clause4.{servedBy, clause4ByTables}
 use Rattle.format.specs.Pairs.{pairIs}
 use Rattle.format.specs.declared.listing.Pair as format
 use Rattle.clauses.specs.declared.Task.{Task}
@@ -139,7 +140,7 @@ module _ (g : Condition) (side : Side) (follow sets : List ℕ) (tg : Tables g s
 
 -- Two sides -------------------------------------------------------------------------------------------------------------
 
-module _ (x : Task) (l g : Condition) {lfollow lsets rfollow rsets kept : List ℕ} (c : Certificate) (ready : Ready c x lsets rsets kept)
+module _ (x : Task) (l g : Condition) {lfollow lsets rfollow rsets rows : List ℕ} (c : Certificate) (ready : Ready c x lsets rsets rows)
     (tl : Tables l (x .left) lfollow lsets) (tg : Tables g (x .right) rfollow rsets) (i : ℕ) (p : format.Pair) where
   abbrev events : ℕ
   events = x .scope .events

@@ -17,12 +17,12 @@ abbrev pub checkedFinding : Checked → Finding
 checkedFinding (Passes n) = fine
 checkedFinding (Fails f) = found (faultOf f)
 
--- The bytes of a certificate that passes, with its end: a pair is six, the end one. It has a pair, so it starts inside its part, and ends there or
--- in its last pair.
+-- The bytes of a certificate that passes, with its end: a pair is six, the end one. It has a pair, so it starts inside its part; all its pairs stand
+-- there, and its end may be the end of the part.
 pub record Spans (part : List ℕ) (bytes : ℕ) : Type 0 where
   pub bytes-are : bytes ≡ 6 * length (certificateAt part 0) + 1
   pub begins : 0 < length part
-  pub ends : bytes ≤ length part + 6
+  pub ends : bytes ≤ length part + 1
 
 -- clauses 2 to 4, pair by pair
 abbrev pub eachPair : ℕ → Condition → Condition → Certificate → ℕ → Finding
@@ -35,7 +35,7 @@ pub record PlacesOf (leaves r : ℕ) : Type 0 where
   pub most : 62 < leaves → r ≡ 63
 
 -- a search through the certificate c is made ready: its scope is that of c and of the two sides
-pub record Ready (c : Certificate) (x : Task) (lsets rsets kept : List ℕ) : Type 0 where
-  pub scoped : Scoped c (x .scope) lsets rsets kept
+pub record Ready (c : Certificate) (x : Task) (lsets rsets rows : List ℕ) : Type 0 where
+  pub scoped : Scoped c (x .scope) lsets rsets rows
   pub lefts : PlacesOf (x .left .leaves) (x .scope .n)
   pub rights : PlacesOf (x .right .leaves) (x .scope .m)

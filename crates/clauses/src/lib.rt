@@ -7,26 +7,30 @@ ghost use lib.Bits.{bitAnd};
 ghost use lib.ListN.{length};
 ghost use Rattle.bits.specs.Bits.{has, _⇒_};
 ghost use Rattle.condition.specs.Condition.{Condition};
-ghost use Rattle.certificate.specs.Certificate.{startsRight, pairFinding, inOrder, check};
+ghost use Rattle.certificate.specs.Certificate.{fine, startsRight, pairFinding, inOrder, check};
 ghost use Rattle.sheet.specs.AtOffset.{certificateAt};
 ghost use Rattle.faults.specs.Fault.{findingOf};
 ghost use Rattle.format.specs.Pairs.{pairIs};
 ghost use Rattle.places.specs.Tables.{Tables};
+ghost use Rattle.meets.specs.Meets.{tableRows};
 ghost use Rattle.clauses.specs.declared.Checked.the-variants.{Passes};
+ghost use Rattle.known.specs.Known.{Next};
 ghost use Rattle.clauses.specs.Clauses.{checkedFinding, Spans, eachPair, PlacesOf, Ready};
 use bits::both;
 use bits::member;
 use bits::rows::gather;
 use clause4::Ask;
-use clause4::Scope;
-use clause4::Turned;
 use clause4::active;
-use clause4::clause4;
 use faults::Fault;
 use faults::Finding;
 use faults::fault_of;
 use format::listing::Pair;
-use held::survey;
+use known::Ended;
+use known::Known;
+use known::clause4_once;
+use looks::Scope;
+use meets::ROWS;
+use meets::survey;
 use pairs::Entry;
 use pairs::bytes_of;
 use pairs::known_pair;
@@ -53,11 +57,12 @@ pub struct Task {
     pub right: Side,
 }
 
-// The pair in turn: its number, its place and set, and the pair at which the search for what it needs is to start.
+// The pair in turn: its number, its place and set, the pair at which the search for what it needs is to start, and what is known to be served.
 pub struct Turn {
     pub number: usize,
     pub pair: Pair,
     pub start: usize,
+    pub known: Known,
 }
 
 // The number of a side's places, which is at most 63.
@@ -112,19 +117,22 @@ pub fn pair_fault(
     lsets: &[u64; 64],
     rfollow: &[u64; 64],
     rsets: &[u64; 64],
-    kept: &[u64; 64],
+    rows: &[u64; ROWS],
     missing: &mut [u64; 64],
-) -> Turned
-    requires { ⌜ Ready (certificateAt (now pairs) 0) task (now lsets) (now rsets) (now kept) × (length (now missing) ≡ 64) ⌝ }
+) -> Ended
+    requires { ⌜ Ready (certificateAt (now pairs) 0) task (now lsets) (now rsets) (now rows) × (length (now missing) ≡ 64) ⌝ }
+    requires { ⌜ Next (certificateAt (now pairs) 0) (task .scope) (now lsets) (now rsets) (turn .start) (turn .known) ⌝ }
     ensures finding { λ r. ⌜ ((l g : Condition) → Tables l (task .left) (now (lfollow .entry)) (now (lsets .entry)) → Tables g (task .right) (now (rfollow .entry)) (now (rsets .entry)) → findingOf (r .finding) ≡ pairFinding (task .scope .events) l g (certificateAt (now (pairs .entry)) 0) (turn .number) (pairIs (turn .pair))) ⌝ }
     ensures rows { λ _. ⌜ length (now (missing .exit)) ≡ 64 ⌝ }
-    ensures hint { λ r. ⌜ r .start ≤ task .scope .count ⌝ }
+    ensures next { λ r. ⌜ (findingOf (r .finding) ≡ fine → Next (certificateAt (now (pairs .entry)) 0) (task .scope) (now (lsets .entry)) (now (rsets .entry)) (r .start) (r .known)) ⌝ }
 {
     let scope = task.scope;
     let left = task.left;
     let right = task.right;
     let number = turn.number;
     let pair = turn.pair;
+    let start = turn.start;
+    let known = turn.known;
     let place = pair.place;
     if clause2(scope.n, scope.m, pair) {
         if clause3(left.ends, right.ends, pair) {
@@ -132,18 +140,20 @@ pub fn pair_fault(
                 pair: number,
                 followers: lfollow[place],
                 onward: gather(rfollow, scope.m, pair.set),
-                start: turn.start,
+                start,
             };
-            return clause4(pairs, scope, ask, lsets, rsets, kept, missing);
+            return clause4_once(pairs, scope, ask, known, lsets, rsets, rows, missing);
         }
-        return Turned {
+        return Ended {
             finding: Finding::Found(fault_of(3, number)),
-            start: 0,
+            start,
+            known,
         };
     }
-    Turned {
+    Ended {
         finding: Finding::Found(fault_of(2, number)),
-        start: 0,
+        start,
+        known,
     }
 }
 
@@ -155,10 +165,10 @@ pub fn in_turn(
     lsets: &[u64; 64],
     rfollow: &[u64; 64],
     rsets: &[u64; 64],
-    kept: &[u64; 64],
+    rows: &[u64; ROWS],
     missing: &mut [u64; 64],
 ) -> Checked
-    requires { ⌜ Ready (certificateAt (now pairs) 0) task (now lsets) (now rsets) (now kept) × (length (now missing) ≡ 64) ⌝ }
+    requires { ⌜ Ready (certificateAt (now pairs) 0) task (now lsets) (now rsets) (now rows) × (length (now missing) ≡ 64) ⌝ }
     ensures finding { λ r. ⌜ ((l g : Condition) → Tables l (task .left) (now (lfollow .entry)) (now (lsets .entry)) → Tables g (task .right) (now (rfollow .entry)) (now (rsets .entry)) → checkedFinding r ≡ inOrder (length (certificateAt (now (pairs .entry)) 0)) (eachPair (task .scope .events) l g (certificateAt (now (pairs .entry)) 0))) ⌝ }
     ensures bytes { λ r. ⌜ ((n : ℕ) → r ≡ Passes n → n ≡ 6 * length (certificateAt (now (pairs .entry)) 0) + 1) ⌝ }
     ensures rows { λ _. ⌜ length (now (missing .exit)) ≡ 64 ⌝ }
@@ -166,14 +176,19 @@ pub fn in_turn(
     let scope = task.scope;
     let count = scope.count;
     let mut start: usize = 0;
+    let mut known = Known {
+        followers: 0,
+        onward: 0,
+    };
     let mut i: usize = 0;
     while i < count {
         let turn = Turn {
             number: i,
             pair: known_pair(pairs, i),
             start,
+            known,
         };
-        let turned = pair_fault(
+        let ended = pair_fault(
             pairs,
             task,
             turn,
@@ -181,21 +196,22 @@ pub fn in_turn(
             lsets,
             rfollow,
             rsets,
-            kept,
+            rows,
             missing,
         );
-        let finding = turned.finding;
+        let finding = ended.finding;
         if let Finding::Found(fault) = finding {
             return Checked::Fails(fault);
         }
-        start = turned.start;
+        start = ended.start;
+        known = ended.known;
         i += 1;
     }
     Checked::Passes(bytes_of(i))
 }
 
-// The first fault of a certificate that is to show an inclusion, with the tables of the two sides. `missing` and `kept` are room for the search.
-// With n pairs it takes at most n * n looks at a pair, each of which goes through the places of the pair's set at most once.
+// The first fault of a certificate that is to show an inclusion, with the tables of the two sides. `missing` and `rows` are room for the search.
+// With n pairs it takes at most n * n looks at a pair, each of which reads at most six rows for the set of a sheet's pair.
 pub fn first_fault(
     pairs: &[u8],
     t: Inclusion,
@@ -204,13 +220,13 @@ pub fn first_fault(
     rfollow: &[u64; 64],
     rsets: &[u64; 64],
     missing: &mut [u64; 64],
-    kept: &mut [u64; 64],
+    rows: &mut [u64; ROWS],
 ) -> Checked
     requires { ⌜ t .events ≤ 64 ⌝ }
-    requires { ⌜ (length (now missing) ≡ 64) × (length (now kept) ≡ 64) ⌝ }
+    requires { ⌜ (length (now missing) ≡ 64) × (length (now rows) ≡ tableRows) ⌝ }
     ensures finding { λ r. ⌜ ((l g : Condition) → Tables l (t .left) (now (lfollow .entry)) (now (lsets .entry)) → Tables g (t .right) (now (rfollow .entry)) (now (rsets .entry)) → checkedFinding r ≡ check (t .events) l g (certificateAt (now (pairs .entry)) 0)) ⌝ }
     ensures bytes { λ r. ⌜ ((n : ℕ) → r ≡ Passes n → Spans (now (pairs .entry)) n) ⌝ }
-    ensures room { λ _. ⌜ (length (now (missing .exit)) ≡ 64) × (length (now (kept .exit)) ≡ 64) ⌝ }
+    ensures room { λ _. ⌜ (length (now (missing .exit)) ≡ 64) × (length (now (rows .exit)) ≡ tableRows) ⌝ }
 {
     if clause1(pairs) {
         let left = t.left;
@@ -218,7 +234,7 @@ pub fn first_fault(
         let events = t.events;
         let n = places_of(left);
         let m = places_of(right);
-        let count = survey(pairs, m, rsets, kept);
+        let count = survey(pairs, m, rsets, rows);
         let scope = Scope {
             count,
             events,
@@ -227,7 +243,7 @@ pub fn first_fault(
             alive: active(lsets, n, events),
         };
         let task = Task { scope, left, right };
-        return in_turn(pairs, task, lfollow, lsets, rfollow, rsets, kept, missing);
+        return in_turn(pairs, task, lfollow, lsets, rfollow, rsets, rows, missing);
     }
     Checked::Fails(fault_of(1, 0))
 }

@@ -5,6 +5,7 @@ ghost use Prim.Native.Nat.{ℕ, _≤_};
 ghost use lib.ListN.{length};
 ghost use Rattle.condition.specs.Condition.{Condition};
 ghost use Rattle.places.specs.Tables.{Tables};
+ghost use Rattle.meets.specs.Meets.{tableRows};
 ghost use Rattle.runs.specs.Rules as runs;
 ghost use Rattle.runs.specs.Rules.{holdsEmpty};
 ghost use Rattle.claims.specs.Claims.{_says_};
@@ -17,6 +18,7 @@ use clauses::Inclusion;
 use clauses::first_fault;
 use faults::Fault;
 use faults::fault_of;
+use meets::ROWS;
 use pairs::part_from;
 use places::Side;
 use sides::Question;
@@ -50,7 +52,7 @@ fn empty_word(at: usize, rule: Rule, side: Side) -> Tested
 }
 
 // A question about a rule, put to the certificates from an offset on: an inclusion to the certificate there, whose part of the sheet is taken here,
-// once for the rule, and the empty word to none. `missing` and `kept` are room for the search of faults.
+// once for the rule, and the empty word to none. `missing` and `rows` are room for the search of faults.
 pub fn test(
     s: &[u8],
     trial: Trial,
@@ -59,13 +61,13 @@ pub fn test(
     rfollow: &[u64; 64],
     rsets: &[u64; 64],
     missing: &mut [u64; 64],
-    kept: &mut [u64; 64],
+    rows: &mut [u64; ROWS],
 ) -> Tested
     requires { ⌜ trial .events ≤ 64 ⌝ }
-    requires { ⌜ (length (now missing) ≡ 64) × (length (now kept) ≡ 64) ⌝ }
+    requires { ⌜ (length (now missing) ≡ 64) × (length (now rows) ≡ tableRows) ⌝ }
     ensures tried { λ r. ⌜ ((x : runs.Rule) → QuestionIs (now (lfollow .entry)) (now (lsets .entry)) (now (rfollow .entry)) (now (rsets .entry)) (trial .question) x →
         Tries (trial .events) (now (s .entry)) (x ∷ []) (trial .at) r) ⌝ }
-    ensures room { λ _. ⌜ (length (now (missing .exit)) ≡ 64) × (length (now (kept .exit)) ≡ 64) ⌝ }
+    ensures room { λ _. ⌜ (length (now (missing .exit)) ≡ 64) × (length (now (rows .exit)) ≡ tableRows) ⌝ }
 {
     let at = trial.at;
     let events = trial.events;
@@ -78,7 +80,7 @@ pub fn test(
                 left,
                 right,
             };
-            let found = first_fault(pairs, t, lfollow, lsets, rfollow, rsets, missing, kept);
+            let found = first_fault(pairs, t, lfollow, lsets, rfollow, rsets, missing, rows);
             match found {
                 Checked::Passes(bytes) => Tested::Passed(at + bytes),
                 Checked::Fails(fault) => Tested::Failed { rule, fault },

@@ -7,11 +7,11 @@ use Rattle.checker.proofs.test_rules.Statement.{statement}
 use Rattle.checker.proofs.test_rules.Tie as tie
 
 abbrev Inv-loop : tie.InvT-loop
-Inv-loop s conditions points methods steps counts events from nulls₀ firsts₀ lasts₀ lfollow₀ lsets₀ rfollow₀ rsets₀ missing₀ kept₀ at₀ cursor₀ nulls firsts lasts lfollow lsets rfollow rsets missing kept at cursor = RoomToTest nulls firsts lasts lfollow lsets rfollow rsets missing kept
+Inv-loop s conditions points methods steps counts events from nulls₀ firsts₀ lasts₀ lfollow₀ lsets₀ rfollow₀ rsets₀ missing₀ rows₀ at₀ cursor₀ nulls firsts lasts lfollow lsets rfollow rsets missing rows at cursor = RoomToTest nulls firsts lasts lfollow lsets rfollow rsets missing rows
     × ((S : Sheet) → SheetIn S s conditions points methods steps counts → Onward events s S from at cursor)
 
 abbrev μ-loop : tie.MeasureT-loop
-μ-loop s conditions points methods steps counts events from nulls₀ firsts₀ lasts₀ lfollow₀ lsets₀ rfollow₀ rsets₀ missing₀ kept₀ at₀ cursor₀ nulls firsts lasts lfollow lsets rfollow rsets missing kept at cursor = weight counts cursor
+μ-loop s conditions points methods steps counts events from nulls₀ firsts₀ lasts₀ lfollow₀ lsets₀ rfollow₀ rsets₀ missing₀ rows₀ at₀ cursor₀ nulls firsts lasts lfollow lsets rfollow rsets missing rows at cursor = weight counts cursor
 
 start-requires : tie.Need-start-requires Inv-loop μ-loop
 start-requires c κs = search needs
@@ -39,7 +39,7 @@ sides-of-requires : tie.Need-sides-of-requires Inv-loop μ-loop
 sides-of-requires c κs = let room = c .before .before .before .before .before .before .before .before .before .before .before .loop .inv .0 in (room .stack, room .left, room .right)
 
 test-requires : tie.Need-test-requires Inv-loop μ-loop
-test-requires c κs = let room = c .before .before .before .before .before .before .before .before .before .before .before .before .before .before .before .before .before .before .loop .inv .0 in (c .before .before .before .before .before .before .before .before .before .before .before .before .before .before .before .before .before .before .before .before .before .pre .1, (room .missing-long, room .kept-long))
+test-requires c κs = let room = c .before .before .before .before .before .before .before .before .before .before .before .before .before .before .before .before .before .before .loop .inv .0 in (c .before .before .before .before .before .before .before .before .before .before .before .before .before .before .before .before .before .before .before .before .before .pre .1, (room .missing-long, room .rows-long))
 
 enum-known-tested : tie.Need-enum-known-tested Inv-loop μ-loop
 enum-known-tested c = search needs
@@ -58,8 +58,8 @@ loop-less c = next-nearer _ _ (c .before .before .before .before .before .before
 
 loop-again : tie.Need-loop-again Inv-loop μ-loop
 loop-again c = let (stack, ((left, right), asks)) = c .before .before .before .before .before .before .before .before .before .before .sides-of .ensures in
-    let (tried, (missing-long, kept-long)) = c .before .before .before .test .ensures in (
-      record { stack = stack; left = left; right = right; missing-long = missing-long; kept-long = kept-long },
+    let (tried, (missing-long, rows-long)) = c .before .before .before .test .ensures in (
+      record { stack = stack; left = left; right = right; missing-long = missing-long; rows-long = rows-long },
       λ S x.
           let h = c .before .before .before .before .before .before .before .before .before .before .before .before .before .before .before .before .before .before .before .before .before .before .loop .inv .1 S x in
           let g = next-claim _ S _ (c .before .before .before .before .before .before .before .before .before .before .before .before .before .before .before .before .before .before .before .next .given .1) (c .before .before .before .before .before .before .before .before .before .before .before .before .before .before .before .before .before .before .before .before .before .next-claim .ensures .0 S (h .left) x (h .left-at)) in

@@ -28,12 +28,10 @@ in-turn-requires c κs = (
   record {
     scoped =
         record {
-          count-is = c .before .before .before .survey .ensures .0;
+          searched = record { count-is = c .before .before .before .survey .ensures .0; few-right = omega (arith, c .before .before .before .before .before .places-of2 .ensures .few); kept-is = c .before .before .before .survey .ensures .1 };
           few-events = c .before .before .before .before .before .before .before .before .before .before .before .before .pre .0;
           few-left = omega (arith, c .before .before .before .before .before .before .places-of .ensures .few);
-          few-right = omega (arith, c .before .before .before .before .before .places-of2 .ensures .few);
           alive-is = c .before .before .active .ensures;
-          kept-is = c .before .before .before .survey .ensures .1;
         };
     lefts = c .before .before .before .before .before .before .places-of .ensures;
     rights = c .before .before .before .before .before .places-of2 .ensures;
