@@ -180,6 +180,36 @@ def closing_loops(seed, count):
         yield Case("closing loop", encode(tried), "unproved ")
 
 
+def long_certificates():
+    """Certificates of 384 pairs and one more or fewer, among which one pair
+    serves each of 31 events at each of two left places; whole, and without the
+    pairs of one event. The other pairs serve nothing."""
+    draws = Draws(67)
+    leaves = [(LEAF, 1 << event) for event in range(31)]
+    right = leaves[0]
+    for leaf in leaves[1:]:
+        right = (EITHER, right, leaf)
+    some = (LEAF, 2 ** 31 - 1)
+    trees = [EMPTY_TREE, (STAR, (EITHER, some, some)), (STAR, right)]
+    points = [Point(2, 0, 0)]
+    sheet = with_certificates(
+        Sheet(trees, points, [Method(1, 0, 0, 0, 0)], [], []))
+    first, *serving = sheet.certificates[0]
+    for count in (383, 384, 385, 386):
+        for lost in (None, 0, 4, 5, 6, 11, 16, 17, 23, 28, 29, 30):
+            pairs = [pair for pair in serving
+                     if lost is None or pair[1] != 2 << lost]
+            while len(pairs) + 1 < count:
+                one, other = draws.below(31), draws.below(30)
+                other += other >= one
+                pairs.append((1 + draws.below(2), 2 << one | 2 << other))
+            pairs = [first] + draws.shuffled(pairs)
+            line = f"accepted {rule_count(sheet)}" if lost is None else (
+                f"unproved rule 3 method 0 clause 4 pair 0 event {lost} place 1")
+            yield Case(f"{count} pairs", encode(Sheet(
+                *sheet[:4], [pairs] + sheet.certificates[1:])), line)
+
+
 def special_cases():
     """All single sheets but those of last_cases."""
     yield from starred()
@@ -199,3 +229,4 @@ def last_cases():
     yield from listed_examples()
     for data in (M, (EXAMPLES / "close_loop.sheet").read_bytes()):
         yield from clauses_2_and_3(read_sheet(data))
+    yield from long_certificates()
