@@ -26,7 +26,8 @@ pub fn bench(all: &[Doors], word: &str) {
     print!("| family | {} |", names.join(" | "));
     println!("{}", if ratio { " ratio |" } else { "" });
     println!("|---|{}", "---|".repeat(all.len() + ratio as usize));
-    for family in families().into_iter().filter(|family| family.name.contains(word)) {
+    for (name, make) in families().into_iter().filter(|(name, _)| name.contains(word)) {
+        let family = make(name);
         let times = rounds(&family, all);
         let cells: Vec<String> = times.iter().map(|list| shown(median(list.clone()))).collect();
         print!("| {} | {} |", family.name, cells.join(" | "));
@@ -35,31 +36,56 @@ pub fn bench(all: &[Doors], word: &str) {
     }
 }
 
-fn families() -> Vec<Family> {
+/// Makes the family of a name.
+type Make = Box<dyn Fn(&str) -> Family>;
+
+/// The families by name; each is made where it is asked for.
+fn families() -> Vec<(&'static str, Make)> {
+    let mut list: Vec<(&str, Make)> = vec![("small honest sheet", Box::new(small))];
+    let loads: [(&str, fn() -> Vec<u8>); 3] = [
+        ("as many rules as fit", sheets::many_rules),
+        ("as many rules as fit, under 35 stars", sheets::starred_rules),
+        ("large honest certificate", sheets::large_certificate),
+    ];
+    for (name, make) in loads {
+        list.push((name, Box::new(move |name| one_load(name, make()))));
+    }
+    for (name, make) in sheets::HOSTILE {
+        list.push((name, Box::new(move |name| one_load(name, make(usize::MAX)))));
+    }
+    let words: [(&str, fn() -> (Vec<u8>, Vec<u8>)); 3] = [
+        ("word in the same places", sheets::steady_word),
+        ("word in changing places", sheets::changing_word),
+        ("word in one place at a time", sheets::single_word),
+    ];
+    for (name, make) in words {
+        list.push((name, Box::new(move |name| one_word(name, make()))));
+    }
+    list.push(("reading alone", Box::new(|name| reading(name, sheets::many_rules()))));
+    let records = |name: &str| reading(name, sheets::many_records());
+    list.push(("reading alone, most records", Box::new(records)));
+    list
+}
+
+fn small(name: &str) -> Family {
     let small = sheets::small_honest(200);
     let bytes: usize = small.iter().map(Vec::len).sum();
-    let name = format!("small honest sheet, {} bytes on average", bytes / small.len());
+    let name = format!("{name}, {} bytes on average", bytes / small.len());
     let parts = small.len();
     let work = Box::new(move |doors: &Doors| {
         for sheet in &small {
             black_box((doors.load)(black_box(sheet)));
         }
     });
-    let read_sheet = sheets::many_rules();
-    let read_name = format!("reading alone, {} bytes", read_sheet.len());
-    let read_work = Box::new(move |doors: &Doors| {
-        black_box((doors.read)(black_box(&read_sheet)).is_ok());
+    Family { name, work, parts }
+}
+
+fn reading(name: &str, sheet: Vec<u8>) -> Family {
+    let name = format!("{name}, {} bytes", sheet.len());
+    let work = Box::new(move |doors: &Doors| {
+        black_box((doors.read)(black_box(&sheet)).is_ok());
     });
-    vec![
-        Family { name, work, parts },
-        one_load("as many rules as fit", sheets::many_rules()),
-        one_load("large honest certificate", sheets::large_certificate()),
-        one_load("hostile certificate", sheets::hostile()),
-        one_word("in the same places", sheets::steady_word()),
-        one_word("in changing places", sheets::changing_word()),
-        one_word("in one place at a time", sheets::single_word()),
-        Family { name: read_name, work: read_work, parts: 1 },
-    ]
+    Family { name, work, parts: 1 }
 }
 
 fn one_load(name: &str, sheet: Vec<u8>) -> Family {
@@ -72,7 +98,7 @@ fn one_load(name: &str, sheet: Vec<u8>) -> Family {
 }
 
 fn one_word(name: &str, (sheet, word): (Vec<u8>, Vec<u8>)) -> Family {
-    let name = format!("word of {} events on 31 leaves, {name}", word.len());
+    let name = format!("{name}, {} events on 31 leaves", word.len());
     let work = Box::new(move |doors: &Doors| {
         black_box((doors.word_test)(black_box(&sheet), 1, black_box(&word)));
     });

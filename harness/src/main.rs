@@ -10,6 +10,7 @@ mod naive;
 mod random;
 mod reference;
 mod runs;
+mod search;
 mod sheets;
 mod simulate;
 mod stack;
@@ -28,6 +29,7 @@ const USAGE: &str = "commands:
   vectors CRATES          stored cases of the gate's programs
   runs CRATES --seed S    random runs of the stored sheets that are accepted
   bench [WORD]            timings of the families, or of those with WORD in their name
+  search N --seed S       N tries to find the certificate that takes longest
   stack                   stack used by one call
   load                    the line for the sheet on standard input";
 
@@ -69,6 +71,11 @@ fn run(words: &[&str]) -> Result<usize, String> {
         }
         ["bench", word] => {
             bench::bench(&loaders(), word);
+            Ok(0)
+        }
+        ["search", rest @ ..] => {
+            let (tries, seed) = numbers(rest)?;
+            search::search(&library::doors().unwrap_or(reference::DOORS), tries, seed);
             Ok(0)
         }
         ["stack"] => {

@@ -5,6 +5,7 @@ mod clauses;
 mod places;
 mod reading;
 mod rules;
+mod search;
 
 use crate::answer::{Answer, Counts, Doors, Refusal, Verdict};
 use places::Side;

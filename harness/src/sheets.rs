@@ -3,20 +3,25 @@
 mod draft;
 mod families;
 mod honest;
+mod hostile;
 mod mutate;
 mod stray;
 mod words;
+mod worst;
 
 use crate::naive;
 use crate::random::Random;
 #[cfg(test)]
 pub use draft::{certificate, Draft, Step};
 pub use families::{
-    changing_word, hostile, large_certificate, many_rules, single_word, small_honest, steady_word,
+    changing_word, large_certificate, many_records, many_rules, single_word, small_honest,
+    starred_rules, steady_word,
 };
+pub use hostile::HOSTILE;
 #[cfg(test)]
 pub use stray::{least, row};
 pub use words::{words, Test};
+pub use worst::{Recipe, WORST};
 
 /// One sheet of a random sort.
 pub fn sheet(random: &mut Random) -> Vec<u8> {

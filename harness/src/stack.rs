@@ -17,14 +17,12 @@ pub fn stack(all: &[Doors]) {
     println!("| call | loader | bytes of stack |");
     println!("|---|---|---|");
     let (word_sheet, word) = sheets::steady_word();
-    let loads = [
-        ("load, as many rules as fit", sheets::many_rules()),
-        ("load, hostile certificate", sheets::hostile()),
-    ];
+    let mut loads = vec![("as many rules as fit", sheets::many_rules())];
+    loads.extend(sheets::HOSTILE.map(|(name, make)| (name, make(usize::MAX))));
     for &doors in all {
         for (name, sheet) in &loads {
             let sheet = sheet.clone();
-            row(name, doors.name, move || {
+            row(&format!("load, {name}"), doors.name, move || {
                 black_box((doors.load)(black_box(&sheet)));
             });
         }

@@ -1,16 +1,20 @@
 //! Clauses 1 to 4 of one certificate.
 use super::places::{members, Side};
+use super::search::Search;
 use crate::answer::Fault;
 
 /// No side has this place, so it stands for every place too large.
 const NOWHERE: u8 = 63;
 
+/// A certificate of as many pairs is searched by looking at all.
+const FEW: usize = 64;
+
 /// A pair, with the events that every place of its set holds.
 #[derive(Clone, Copy)]
 pub struct Pair {
-    place: u8,
-    set: u32,
-    shared: u32,
+    pub place: u8,
+    pub set: u32,
+    pub shared: u32,
 }
 
 /// Reads the certificate at an offset; returns the offset after it.
@@ -28,10 +32,25 @@ pub fn read(bytes: &[u8], mut at: usize, right: &Side, pairs: &mut Vec<Pair>) ->
 
 /// The first fault of a certificate for left in right.
 pub fn check(left: &Side, right: &Side, pairs: &[Pair]) -> Result<(), Fault> {
+    if pairs.len() <= FEW {
+        return check_by(left, right, pairs, |follow, union| unserved(left, follow, union, pairs));
+    }
+    let mut search = Search::new(left, right, pairs);
+    check_by(left, right, pairs, |follow, union| search.unserved(follow, union))
+}
+
+/// The same with a search for clause 4.
+fn check_by(
+    left: &Side,
+    right: &Side,
+    pairs: &[Pair],
+    mut unserved: impl FnMut(u64, u32) -> Option<(usize, usize)>,
+) -> Result<(), Fault> {
     match pairs.first() {
         Some(first) if first.place == 0 && first.set == 1 => {}
         _ => return Err(Fault::of(1, 0)),
     }
+    let mut known = (0, 0);
     for (index, pair) in pairs.iter().enumerate() {
         let place = pair.place as usize;
         if place >= left.places || pair.set as u64 >> right.places != 0 {
@@ -41,7 +60,12 @@ pub fn check(left: &Side, right: &Side, pairs: &[Pair]) -> Result<(), Fault> {
             return Err(Fault::of(3, index));
         }
         let union = right.followers(pair.set as u64) as u32;
-        if let Some((event, place)) = unserved(left, left.follow[place], union, pairs) {
+        let follow = left.follow[place];
+        if follow & !known.0 == 0 && known.1 & !union == 0 {
+            continue;
+        }
+        known = (follow, union);
+        if let Some((event, place)) = unserved(follow, union) {
             return Err(Fault { clause: 4, pair: index, event, place });
         }
     }

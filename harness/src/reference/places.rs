@@ -151,14 +151,20 @@ impl Side {
         members(set).fold(0, |all, place| all | self.follow[place])
     }
 
-    /// Whether the side holds a word of events 0 to 31.
-    pub fn holds(&self, word: &[u8]) -> bool {
-        let mut holding = [0u64; 32];
+    /// The places that hold each event.
+    pub fn holding(&self) -> [u64; 32] {
+        let mut holding = [0; 32];
         for place in 1..self.places {
             for event in members(self.sets[place] as u64) {
                 holding[event] |= 1 << place;
             }
         }
+        holding
+    }
+
+    /// Whether the side holds a word of events 0 to 31.
+    pub fn holds(&self, word: &[u8]) -> bool {
+        let holding = self.holding();
         let mut set = 1;
         for &event in word {
             set = self.followers(set) & holding[event as usize & 31];

@@ -1,13 +1,15 @@
 //! The sheets of the timings.
-use super::draft::{certificate, certify, Draft, Step};
+use super::draft::{certify, Draft, Step};
 use super::honest::honest;
+use super::hostile::by_entry;
 use super::stray::{least, row};
 use crate::answer::Verdict;
 use crate::random::Random;
 use crate::reference;
 use crate::tree::Tree;
 
-const LONGEST: usize = 65_536;
+/// The bytes of the longest sheet.
+pub const LONGEST: usize = 65_536;
 
 /// Small accepted sheets.
 pub fn small_honest(count: usize) -> Vec<Vec<u8>> {
@@ -25,11 +27,29 @@ pub fn small_honest(count: usize) -> Vec<Vec<u8>> {
 
 /// All 2,818 rules, each on sides of 31 leaves, in a sheet of full length.
 pub fn many_rules() -> Vec<u8> {
+    rules_on(&mostly_dead().star())
+}
+
+/// The same with as many stars as fit around the leaves: each links all leaves.
+pub fn starred_rules() -> Vec<u8> {
+    rules_on(&starred(mostly_dead(), 35))
+}
+
+/// A leaf that holds every event, and thirty that hold none.
+fn mostly_dead() -> Tree {
+    let dead = |_| Tree::Leaf(0);
+    (1..31).map(dead).fold(Tree::Leaf(u32::MAX), Tree::either)
+}
+
+fn starred(tree: Tree, stars: usize) -> Tree {
+    (0..stars).fold(tree, |tree, _| tree.star())
+}
+
+/// A sheet of full length with all rules, each on this condition.
+fn rules_on(heavy: &Tree) -> Vec<u8> {
     let mut draft = Draft::default();
-    let zeros = (1..31).fold(Tree::Leaf(u32::MAX), |tree, _| tree.either(Tree::Leaf(0)));
-    let heavy = zeros.star();
     for _ in 0..512 {
-        draft.point(&heavy, &heavy, &heavy);
+        draft.point(heavy, heavy, heavy);
     }
     draft.methods = (0..64).map(|m| vec![0, 0, 0, m, 511 - m]).collect();
     draft.steps = (0..512).map(|s| Step::Call(s, 511 - s, s % 64)).collect();
@@ -42,10 +62,18 @@ pub fn many_rules() -> Vec<u8> {
     }
     while left >= 2 {
         let stars = (left - 2).min(if left == 98 { 94 } else { 95 });
-        draft.conditions.push((0..stars).fold(Tree::Empty, |tree, _| tree.star()));
+        draft.conditions.push(starred(Tree::Empty, stars));
         left -= stars + 2;
     }
     draft.certified()
+}
+
+/// As many records as fit: the least sheet before its certificates, then ends of
+/// certificates, of one byte each. It reads well, and loads as refused 10.
+pub fn many_records() -> Vec<u8> {
+    let mut out = least().bytes();
+    out.resize(LONGEST, 14);
+    out
 }
 
 /// One certificate of 10,369 reachable pairs, none with a set within another's:
@@ -59,35 +87,8 @@ pub fn large_certificate() -> Vec<u8> {
     let other = tail(Tree::event(1), 3).either(tail(Tree::event(2), 3));
     let others = Tree::any().join(tail(other, 7));
     let past = Tree::any().either(zeros).either(others);
-    let draft = with_pre(Tree::Leaf(7).star(), past);
+    let (draft, _) = by_entry(Tree::Leaf(7).star(), past);
     certify(draft.bytes(), LONGEST)
-}
-
-/// The least sheet with another pre, and another past at its point.
-fn with_pre(pre: Tree, past: Tree) -> Draft {
-    let mut draft = least();
-    draft.methods[0][0] = draft.condition(&pre);
-    draft.points[0][0] = draft.condition(&past);
-    draft
-}
-
-/// A certificate as long as fits in which each pair needs the last one, and each
-/// of the others lists all right places, one of which holds no event.
-pub fn hostile() -> Vec<u8> {
-    let zero_last = row(30).either(Tree::Leaf(0)).star();
-    let draft = with_pre(row(31).star(), zero_last);
-    let mut out = draft.bytes();
-    let rest: [&[(usize, u32)]; 2] = [&[(0, 1)], &[(0, 1)]];
-    let room = (LONGEST - out.len() - 15) / 6;
-    let mut pairs = vec![(0, 1)];
-    pairs.extend((1..31).map(|place| (place, 2)));
-    pairs.resize(room - 1, (31, !1));
-    pairs.push((31, 2));
-    certificate(&mut out, &pairs);
-    for pairs in rest {
-        certificate(&mut out, pairs);
-    }
-    out
 }
 
 /// A sheet whose condition 1 has 31 leaves, and a word of 4,096 events of it

@@ -12,17 +12,54 @@ fn a_short_comparison_finds_nothing() {
 
 #[test]
 fn timed_sheets_are_accepted() {
-    let families = [sheets::many_rules(), sheets::large_certificate(), sheets::hostile()];
-    let counts = [2_818, 6, 6];
-    for (sheet, count) in families.iter().zip(counts) {
-        assert!(sheet.len() <= 65_536);
-        assert_eq!(reference::load(sheet), Verdict::Accepted(count));
+    let rules = [sheets::many_rules(), sheets::starred_rules()];
+    for sheet in &rules {
+        assert_eq!(sheet.len(), 65_536);
+        assert_eq!(sheets::pairs(sheet), 7_040);
+        assert_eq!(reference::load(sheet), Verdict::Accepted(2_818));
     }
-    assert_eq!(families[0].len(), 65_536);
-    assert_eq!(sheets::pairs(&families[1]), 10_371);
+    let large = sheets::large_certificate();
+    assert_eq!(sheets::pairs(&large), 10_371);
+    assert_eq!(reference::load(&large), Verdict::Accepted(6));
+    let counts = reference::read(&sheets::many_records()).unwrap();
+    assert_eq!(counts.certificates, 65_516);
     for (sheet, word) in [sheets::steady_word(), sheets::changing_word(), sheets::single_word()] {
         assert_eq!(reference::word_test(&sheet, 1, &word).to_string(), "yes");
     }
+}
+
+#[test]
+fn hostile_sheets_are_accepted() {
+    let pairs = [
+        10_855, 10_861, 10_885, 10_855, 10_849, 10_849, 10_884, 10_885, 10_885, 10_881, 10_881,
+        10_855, 10_818,
+    ];
+    assert_eq!(sheets::HOSTILE.map(|(_, make)| sheets::pairs(&make(usize::MAX))), pairs);
+    for (name, make) in sheets::HOSTILE {
+        let sheet = make(usize::MAX);
+        assert!((65_531..=65_536).contains(&sheet.len()), "{name}");
+        assert!(matches!(reference::load(&sheet), Verdict::Accepted(_)), "{name}");
+    }
+}
+
+/// The naive loader takes long, so it has the hostile sheets with few fillers;
+/// the last three need many pairs.
+#[test]
+fn short_hostile_sheets() {
+    let mut random = Random::new(8);
+    let mut unproved = 0;
+    for (name, make) in &sheets::HOSTILE[..10] {
+        let sheet = make(80);
+        assert!(matches!(naive::load(&sheet), Verdict::Accepted(_)), "{name}");
+        for _ in 0..4 {
+            let mut changed = sheet.clone();
+            changed[sheet.len() - 1 - random.below(400)] ^= 1 << random.below(8);
+            let verdict = naive::load(&changed);
+            assert_eq!(reference::load(&changed), verdict, "{name}");
+            unproved += matches!(verdict, Verdict::Unproved { .. }) as usize;
+        }
+    }
+    assert!(unproved > 3, "{unproved}");
 }
 
 #[test]
