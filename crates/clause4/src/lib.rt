@@ -1,7 +1,9 @@
 // Clause 4 of a pair: the events that are missing at each follower of its place, until a pair of that follower serves them. The table `missing`
 // has a row for each place; only the rows of the places `missers` count.
 ghost use mathlib.Core.Path.{_≡_};
-ghost use Prim.Native.Nat.{_≤_, _<_};
+ghost use mathlib.Core.Bool.{cond};
+ghost use Prim.Native.Nat.{_-_, _≤_, _<_};
+ghost use lib.Dec.{ltb};
 ghost use lib.Bits.{bitAnd};
 ghost use lib.ListN.{length};
 ghost use Rattle.bits.specs.Bits.{has};
@@ -80,13 +82,16 @@ pub fn want(missers: u64, sets: &[u64; 64], mask: u64, missing: &mut [u64; 64])
 
 // A search starts at the pair that is asked for, and at the first where there is no such pair.
 pub fn start_of(asked: usize, count: usize) -> usize
-    ensures { λ r. ⌜ (r ≤ count) × (0 < count → r < count) ⌝ }
+    ensures start { λ r. ⌜ r ≡ cond (ltb asked count) asked 0 ⌝ }
+    ensures bound { λ r. ⌜ (r ≤ count) × (0 < count → r < count) ⌝ }
 {
     if asked < count { asked } else { 0 }
 }
 
 // One less, and not below 0.
-pub fn fewer(tries: usize) -> usize {
+pub fn fewer(tries: usize) -> usize
+    ensures { λ r. ⌜ r ≡ tries - 1 ⌝ }
+{
     if 0 < tries { tries - 1 } else { 0 }
 }
 

@@ -8,7 +8,7 @@ use lib.Dec.{T, eqb, eqb→eq, eqb-refl}
 use lib.Bits.{bitAnd}
 use Rattle.bits.specs.Bits.{_⇒_, has}
 use Rattle.bits.specs.Rows.{rowHas}
-use Rattle.bits.proofs.Tests.{and-out, and-in, if-out, if-in, any-in, any-out}
+use Rattle.bits.proofs.Tests.{T-true, and-out, and-in, if-out, if-in, any-in, any-out}
 use Rattle.bits.proofs.Sets.{has-none}
 use Rattle.bits.proofs.Masks.{has-and, bits-ext}
 use Rattle.certificate.specs.Certificate.{Certificate, pairOf, fine, fault, inOrder}
@@ -31,11 +31,7 @@ of-within : (s t : ℕ) → Within s t → T (eqb (bitAnd s t) s)
 of-within s t h = rw (bits-ext (bitAnd s t) s (λ k. has-and s t k ∙ go k (has s k) refl)) (eqb-refl s)
   where
     go : (k : ℕ) (b : Bool) → has s k ≡ b → (b && has t k) ≡ b
-    go k true e = T-is (has t k) (h k (rw e tt))
-      where
-        T-is : (b : Bool) → T b → b ≡ true
-        T-is true x = refl
-        T-is false x = absurd x
+    go k true e = T-true (has t k) (h k (rw e tt))
     go k false e = refl
 
 module _ (c : Certificate) (x : Scope) (lsets rsets : List ℕ) where

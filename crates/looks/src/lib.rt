@@ -1,7 +1,7 @@
 // Looks at pairs in a search for what a pair needs: a look at one pair, and which pairs need none. A pair serves an event at a place where it is a pair
 // of that place, and its set lies within the followers and has only places that hold the event.
 ghost use mathlib.Core.Path.{_≡_};
-ghost use mathlib.Core.Bool.{false, cond};
+ghost use mathlib.Core.Bool.{false, not, cond};
 ghost use mathlib.Core.List.{List};
 ghost use Prim.Native.Nat.{ℕ, _%_, _≤_, _<_};
 ghost use lib.Dec.{T, eqb};
@@ -46,7 +46,8 @@ pub fn row_of(place: usize, set: u64, onward: u64) -> usize
 
 // A row has one of the events. Where it has none, each of its numbers is below 64, as in every word, and is none of them.
 pub fn shares(row: u64, events: u64) -> bool
-    ensures { λ r. ⌜ (r ≡ false → (e : ℕ) → T (has row e) → (e < 64) × (has events e ≡ false)) ⌝ }
+    ensures shared { λ r. ⌜ r ≡ not (eqb (bitAnd row events) 0) ⌝ }
+    ensures none { λ r. ⌜ (r ≡ false → (e : ℕ) → T (has row e) → (e < 64) × (has events e ≡ false)) ⌝ }
 {
     row & events != 0
 }
@@ -54,7 +55,8 @@ pub fn shares(row: u64, events: u64) -> bool
 // The first pair from `from` on, below `to`, whose set lies within the followers; `to` where there is none.
 pub fn next_within(pairs: &[u8], from: usize, to: usize, onward: u64) -> usize
     requires { ⌜ (from ≤ to) × (to ≤ length (certificateAt (now pairs) 0)) ⌝ }
-    ensures { λ r. ⌜ (r ≤ to) × ((m : ℕ) (sets rows : List ℕ) → Passed (certificateAt (now (pairs .entry)) 0) m onward sets rows from r) ⌝ }
+    ensures passed { λ r. ⌜ (r ≤ to) × ((m : ℕ) (sets rows : List ℕ) → Passed (certificateAt (now (pairs .entry)) 0) m onward sets rows from r) ⌝ }
+    ensures within { λ r. ⌜ (r < to → bitAnd (pairOf (certificateAt (now (pairs .entry)) 0) r .set) onward ≡ pairOf (certificateAt (now (pairs .entry)) 0) r .set) ⌝ }
 {
     let mut i = from;
     while i < to {

@@ -23,7 +23,7 @@ start-of-requires c κs = search needs
 
 loop-holds : tie.Need-loop-holds Inv-loop μ-loop
 loop-holds c = let p = c .before .before .pre in
-    (going-none _ _ _ _ _ _ _ (p .0 .count-is) (c .start-of .ensures .0) (c .start-of .ensures .1) (p .1) (search needs), hint-none (p .0 .count-is))
+    (going-none _ _ _ _ _ _ _ (p .0 .count-is) (c .start-of .ensures .1 .0) (c .start-of .ensures .1 .1) (p .1) (search needs), hint-none (p .0 .count-is))
 
 skip-requires : tie.Need-skip-requires Inv-loop μ-loop
 skip-requires c κs = let p = c .before .before .before .before .before .pre in

@@ -58,7 +58,7 @@ loop-again c =
       search needs,
       passed-more (c .before .before .before .before .before .before .before .loop .inv .1) (read .ensures)
           (off-row _ _ _ _ (a .sets .now) (a .missing .now) _ _ (p .1 .1) (c .before .before .before .before .row-of .ensures .1)
-          (c .before .shares .ensures (c .if1 .left)) events),
+          (c .before .shares .ensures .1 (c .if1 .left)) events),
     )
 
 returns-2 : tie.Need-returns-2 Inv-loop μ-loop

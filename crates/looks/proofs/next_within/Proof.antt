@@ -2,7 +2,10 @@
 use mathlib.Core.List.{List}
 use Prim.Native.Nat.{ℕ, _-_, _≤_}
 use native.Mathlib.Nat.{le-antisymm}
-use mathlib.Core.Path.{refl}
+use native.Mathlib.Omega.{arith}
+use mathlib.Core.Path.{_≡_, refl, sym, subst}
+use lib.Bits.{bitAnd}
+use Rattle.certificate.specs.Certificate.{Pair}
 use Rattle.sheet.specs.AtOffset.{certificateAt}
 use Rattle.looks.specs.Looks.{Passed}
 use Rattle.looks.proofs.Passing.{passed-none, passed-more, passed-to, off-followers}
@@ -23,7 +26,10 @@ known-pair-requires : tie.Need-known-pair-requires Inv-loop μ-loop
 known-pair-requires c κs = search needs
 
 returns : tie.Need-returns Inv-loop μ-loop
-returns c = c .before .before .before .loop .inv
+returns c = (
+  c .before .before .before .loop .inv,
+  λ _. subst (λ (p : Pair). bitAnd (p .set) (c .before .before .before .before .before .args .onward) ≡ p .set) (sym (c .before .known-pair .ensures)) (c .if1 .taken),
+)
 
 add-i : tie.Need-add-i Inv-loop μ-loop
 add-i c = search needs
@@ -39,7 +45,10 @@ loop-again c = (
 )
 
 returns-2 : tie.Need-returns-2 Inv-loop μ-loop
-returns-2 c = (search needs, λ m sets rows. passed-to (c .before .loop .inv .1 m sets rows) (le-antisymm (c .before .loop .inv .0) (c .loop-test .left)))
+returns-2 c = (
+  (search needs, λ m sets rows. passed-to (c .before .loop .inv .1 m sets rows) (le-antisymm (c .before .loop .inv .0) (c .loop-test .left))),
+  λ l. absurd (omega (arith, l)),
+)
 
 pub next-within-spec : {M : Type 1} → statement M
 next-within-spec =

@@ -12,7 +12,7 @@ next-within-requires : tie.Need-next-within-requires
 next-within-requires c κs = search needs
 
 returns-2 : tie.Need-returns-2
-returns-2 c = (c .next-within .ensures .0, c .next-within .ensures .1 _ _ _)
+returns-2 c = (c .next-within .ensures .0 .0, c .next-within .ensures .0 .1 _ _ _)
 
 next-serving-requires : tie.Need-next-serving-requires
 next-serving-requires c κs = search needs
