@@ -1,13 +1,14 @@
 -- Records, sheets and readings by evaluation: the table of kinds, the fields of a record of each kind and what they stand for, a sheet, each limit at its
--- last and at one more, the order of sections, refusals of one record in their order, what was counted before a refusal, and another instrument's limits.
+-- last and at one more, the order of sections, refusals of one record in their order, what was counted before a refusal, and other instruments' limits.
 use mathlib.Core.Path.{_≡_, refl}
 use mathlib.Core.Option.{none, some}
 use mathlib.Core.List.{List, [], _∷_, _++_, map}
 use Prim.Native.Nat.{ℕ, zero, suc}
+use native.Mathlib.Omega.{arith}
 use lib.ListN.{getD, replicate}
 use Rattle.condition.specs.Condition.{leaf, empty, join, either, star}
 use Rattle.certificate.specs.Certificate.{pair}
-use Rattle.sheet.specs.Model.{Model, large}
+use Rattle.sheet.specs.Model.{Model, large, entry, NoLarger}
 use Rattle.sheet.specs.Sheet.{event-step, callFrom, pass-step}
 use Rattle.sheet.specs.Kind.{sectionOf, bodyLength}
 use Rattle.sheet.specs.Record.{Record, recordAt}
@@ -283,3 +284,32 @@ too-long-behind = refl
 refused-is-nothing : sheetOf large (0x02 ∷ 0x06 ∷ (point0 ++ point1)) ≡ record { conditions = []; points = []; methods = []; steps = []; certificates = [] }
 unfolding sheetOf
 refused-is-nothing = refl
+
+-- The entry instrument --------------------------------------------------------------------------------------------------
+
+-- "at most 8,192 bytes and 64 points": the last one, and one more; the other limits are those of the large one
+abbrev entryRows : List Row
+entryRows =
+    after 0 0 0 0 (replicate 8192 0x00) (2 ∷ 0 ∷ [])
+    ∷ after 0 0 0 0 (replicate 8193 0x00) (1 ∷ 8192 ∷ [])
+    ∷ after 1 63 0 0 point0 (9 ∷ 7 ∷ [])
+    ∷ after 1 64 0 0 point0 (6 ∷ 0 ∷ [])
+    ∷ after 1 62 0 0 (point0 ++ (point0 ++ point0)) (6 ∷ 14 ∷ [])
+    ∷ after 255 0 0 0 (0x02 ∷ 0x06 ∷ []) (9 ∷ 2 ∷ [])
+    ∷ after 256 0 0 0 (0x02 ∷ 0x06 ∷ []) (6 ∷ 1 ∷ [])
+    ∷ after 1 1 63 0 method0 []
+    ∷ after 1 1 64 0 method0 (6 ∷ 0 ∷ [])
+    ∷ after 1 1 1 511 pass0 (9 ∷ 5 ∷ [])
+    ∷ after 1 1 1 512 pass0 (6 ∷ 0 ∷ [])
+    ∷ after 1 1 1 0 (0x0A ∷ 0 ∷ 0 ∷ 0 ∷ 0 ∷ 31 ∷ []) (9 ∷ 6 ∷ [])
+    ∷ after 1 1 1 0 (0x0A ∷ 0 ∷ 0 ∷ 0 ∷ 0 ∷ 32 ∷ []) (7 ∷ 0 ∷ [])
+    ∷ after 1 1 1 0 (0x0E ∷ 0x0F ∷ []) (2 ∷ 1 ∷ [])
+    ∷ []
+
+entry-rows-are-so : map (λ x. numberAndPlace (readFrom entry (startingFrom (x .before)) (x .bytes))) entryRows ≡ map (λ x. x .refused) entryRows
+unfolding readFrom
+entry-rows-are-so = refl
+
+-- it is no larger than the large one
+pub entry-no-larger : NoLarger entry large
+entry-no-larger = record { bytes = omega arith; points = omega arith; events = refl; kinds = refl }

@@ -4,6 +4,7 @@ pub mod Fields
 pub mod Take
 pub mod Order
 pub mod ReadOn
+pub mod Models
 pub mod Own
 pub mod Laws
 pub mod Symbols

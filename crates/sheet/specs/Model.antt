@@ -1,5 +1,6 @@
 -- What an instrument takes: document 01, "Records", "Limits". What differs from instrument to instrument is a model's, the rest is fixed here.
-use Prim.Native.Nat.{ℕ}
+use Prim.Native.Nat.{ℕ, _≤_}
+use mathlib.Core.Path.{_≡_}
 
 pub record Model : Type 0 where
   -- "65,536 bytes"; "512 points"; "Events are 0 to 31": how many there are; "kind not 1 to 14": the highest kind that is taken
@@ -11,6 +12,17 @@ pub record Model : Type 0 where
 -- the large two-channel instrument, which is document 01's
 abbrev pub large : Model
 large = record { bytes = 65536; points = 512; events = 32; kinds = 14 }
+
+-- the entry instrument: document 02, Ask 8, "at most 8,192 bytes and 64 points"
+abbrev pub entry : Model
+entry = record { bytes = 8192; points = 64; events = large .events; kinds = large .kinds }
+
+-- M takes no more bytes and points than M′, and is equal to it otherwise
+pub record NoLarger (M M′ : Model) : Type 0 where
+  pub bytes : M .bytes ≤ M′ .bytes
+  pub points : M .points ≤ M′ .points
+  pub events : M .events ≡ M′ .events
+  pub kinds : M .kinds ≡ M′ .kinds
 
 -- "256 conditions; 96 records of kinds 1-5 and 31 leaves in a condition; .. 64 methods; 512 steps"; "word longer than 4,096"
 abbrev pub conditionLimit : ℕ

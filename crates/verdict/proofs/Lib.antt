@@ -1,6 +1,7 @@
 pub mod Reply
 pub mod Judged
 pub mod RulesMet
+pub mod Models
 pub mod Loads
 pub mod Facts
 pub mod Bytes
@@ -12,3 +13,4 @@ pub mod Examples
 pub mod Witnesses
 mod Unqualified
 mod Used
+mod Entry

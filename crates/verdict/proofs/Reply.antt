@@ -28,7 +28,7 @@ abbrev IsSome : Option ℕ → Type 0
 IsSome none = ⊥
 IsSome (some n) = Unit {0}
 
-abbrev orZero : Option ℕ → ℕ
+abbrev pub orZero : Option ℕ → ℕ
 orZero none = 0
 orZero (some n) = n
 
@@ -36,13 +36,13 @@ orZero (some n) = n
 has-number : {r t : Reply} → r ≡ t → IsSome (t .number) → IsSome (r .number)
 has-number e h = subst (λ (x : Reply). IsSome (x .number)) (sym e) h
 
-same-number : {r t : Reply} → r ≡ t → orZero (r .number) ≡ orZero (t .number)
+pub same-number : {r t : Reply} → r ≡ t → orZero (r .number) ≡ orZero (t .number)
 same-number e = ap (λ (x : Reply). orZero (x .number)) e
 
 same-length : {r t : Reply} → r ≡ t → length (r .values) ≡ length (t .values)
 same-length e = ap (λ (x : Reply). length (x .values)) e
 
-same-value : {r t : Reply} (i : ℕ) → r ≡ t → getD (r .values) i 0 ≡ getD (t .values) i 0
+pub same-value : {r t : Reply} (i : ℕ) → r ≡ t → getD (r .values) i 0 ≡ getD (t .values) i 0
 same-value i e = ap (λ (x : Reply). getD (x .values) i 0) e
 
 -- a refusal's place by its value

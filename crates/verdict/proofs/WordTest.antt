@@ -23,6 +23,7 @@ use Rattle.verdict.specs.WordTest.{Answer, tested, untested, unlessStray
 use Rattle.verdict.specs.Reply.{answerReply}
 use Rattle.verdict.specs.Promise.{FindsCondition, FirstStray, WordRefusedFor, sheet-refused, no-such-condition, word-too-long, stray-event, TakesWord, TestsWord, TestsAsPromised}
 use Rattle.verdict.proofs.Reply.{IsTested, reply-untested}
+use Rattle.verdict.proofs.Models.{word-on-larger}
 
 abbrev saidIn : Answer → Bool
 saidIn (tested b) = b
@@ -173,6 +174,7 @@ module _ (M : Model) (s : List ℕ) (c : ℕ) (w : Word) where
             λ b h.
             subst (λ (b : Bool). T b ↔ Holds (condition (sheetOf M s) c) w) (ap saidIn (sym (taken-in (taken-out b h)) ∙ h)) (words (condition (sheetOf M s) c) w);
         refused-iff = λ n at. (λ e. refused-out n at (reply-untested (wordTest M s c w) n at e), λ f. ap answerReply (refused-in f));
+        on-larger = λ M′ N. word-on-larger M M′ N s c w;
       }
 
 pub tests-as-promised : (M : Model) → TestsAsPromised M

@@ -11,7 +11,7 @@ use lib.ListN.{length, getD}
 use lib.Dec.{T}
 use Rattle.condition.specs.Condition.{Condition, Word, Holds}
 use Rattle.certificate.specs.Certificate.{Certificate, Fault, fine, found, Exact}
-use Rattle.sheet.specs.Model.{Model, wordLimit}
+use Rattle.sheet.specs.Model.{Model, NoLarger, wordLimit}
 use Rattle.sheet.specs.Each.{Each}
 use Rattle.sheet.specs.Record.{Bytes}
 use Rattle.sheet.specs.Sheet.{condition}
@@ -22,7 +22,7 @@ use Rattle.runs.specs.Runs.{Move, run, Safe}
 use Rattle.runs.specs.Owing.{Owing, ToldApart}
 use Rattle.verdict.specs.Verdict.{Report, accepted, refused, unproved, testOf, certificatesNeeded, nextOf, verdictOf}
 use Rattle.verdict.specs.WordTest.{Answer, tested, wordTest}
-use Rattle.verdict.specs.Reply.{_giving_, placeValue, faultValues, replyOf, answerReply}
+use Rattle.verdict.specs.Reply.{Reply, _giving_, placeValue, faultValues, replyOf, answerReply}
 
 -- Of a sheet's bytes ----------------------------------------------------------------------------------------------------
 
@@ -71,6 +71,31 @@ pub data RefusedFor (M : Model) (s : List ℕ) : ℕ → ℕ → Type 0 where
   wrong-count : {r : Reading} → readSheet M s ≡ whole r
       → (length (sheetOf M s .certificates) ≡ certificatesNeeded (rules (sheetOf M s)) → ⊥) → RefusedFor M s 10 (length s)
 
+-- Of two instruments ----------------------------------------------------------------------------------------------------
+
+-- What an instrument with the limits of M answers, a, beside the answer b of one that is no smaller: 1 with its own limit for the place, 6, or the same
+-- answer with all its values. `reply` gives document 01's number and values of an answer.
+pub data LikeLarger {A : Type 0} (reply : A → Reply) (M : Model) (a b : A) : Type 0 where
+  -- "Refusal 1 then gives place 8,192": the limit, not the sheet's length
+  too-long : reply a ≡ 1 giving (M .bytes ∷ []) → LikeLarger reply M a b
+  -- "6 comes at the 65th point"; what the larger one makes of the sheet is not said
+  over-limit : {at : ℕ} → reply a ≡ 6 giving (at ∷ []) → LikeLarger reply M a b
+  the-same : a ≡ b → LikeLarger reply M a b
+
+-- Request 8, of the loader
+pub record OnLarger (M : Model) (a b : Report) : Type 0 where
+  pub like : LikeLarger replyOf M a b
+  -- "A sheet that the small one accepts is accepted by the large one with an equal count"
+  pub accepted-too : (n : ℕ) → a ≡ accepted n → b ≡ accepted n
+  -- "a refusal there of a lone sheet by the loader, not 1 or 6, is the large one's too": its number and its values, 11 included
+  pub refused-too : (n : ℕ) (values : List ℕ) → replyOf a ≡ n giving values → (n ≡ 1 → ⊥) → (n ≡ 6 → ⊥) → replyOf b ≡ n giving values
+
+-- "State it over both limits as parameters": of any two instruments, whatever their limits, and all bytes; of the word test too (proofs/Models)
+abbrev pub ModelsAgree : Type 0
+ModelsAgree =
+    (M M′ : Model) → NoLarger M M′ → (s : List ℕ)
+    → OnLarger M (verdictOf M s) (verdictOf M′ s) × ((c : ℕ) (w : Word) → LikeLarger answerReply M (wordTest M s c w) (wordTest M′ s c w))
+
 -- Of the loader ---------------------------------------------------------------------------------------------------------
 
 -- "accepted with a count, refused with a number and place, or unproved with the first rule that fails"
@@ -105,6 +130,8 @@ pub record Loads (M : Model) (s : List ℕ) (answer : Report) : Type 0 where
   -- "Conversely a well-formed sheet with true rules is accepted if each certificate lists exactly the reachable pairs, the start first."
   pub complete : WellFormed M s → AllMet (rules (sheetOf M s)) → EachCertified (ExactFor (M .events)) (rules (sheetOf M s)) (sheetOf M s .certificates)
       → answer ≡ accepted (count (sheetOf M s))
+  -- Request 8: the answer of an instrument that is no smaller is this one, unless this one is 1 or 6
+  pub on-larger : (M′ : Model) → NoLarger M M′ → OnLarger M answer (verdictOf M′ s)
 
 -- that the definition's answer keeps the promise (proofs/Loads)
 abbrev pub LoadsAsPromised : Model → Type 0
@@ -147,6 +174,8 @@ pub record TestsWord (M : Model) (s : List ℕ) (c : ℕ) (w : Word) (answer : A
   pub right : (b : Bool) → answer ≡ tested b → T b ↔ Holds (condition (sheetOf M s) c) w
   -- and else names the first refusal that applies
   pub refused-iff : (n : ℕ) (at : Option ℕ) → (answerReply answer ≡ n giving placeValue at) ↔ WordRefusedFor M s c w n at
+  -- Request 8: the answer of an instrument that is no smaller is this one, unless this one is 1 or 6
+  pub on-larger : (M′ : Model) → NoLarger M M′ → LikeLarger answerReply M answer (wordTest M′ s c w)
 
 -- that the definition's answer keeps the promise (proofs/WordTest)
 abbrev pub TestsAsPromised : Model → Type 0
