@@ -1,8 +1,10 @@
--- Document 01's instrument by evaluation: the longest sheet that is read, and one byte more.
+-- The instruments by evaluation: the longest sheet that each reads, and one byte more; as many points as the entry instrument takes, and one more.
 use mathlib.Core.Path.{_≡_, refl}
+use mathlib.Core.List.{List, [], _∷_, _++_}
+use Prim.Native.Nat.{ℕ, zero, suc}
 use lib.ListN.{replicate}
-use Rattle.sheet.specs.Reading.{fresh, refusal, readSheet}
-use Rattle.instrument.specs.declared.Instrument.the-variants.{Large}
+use Rattle.sheet.specs.Reading.{fresh, Outcome, whole, refusal, readSheet}
+use Rattle.instrument.specs.declared.Instrument.the-variants.{Large, Entry}
 use Rattle.instrument.specs.Model.{modelOf}
 
 -- "65,536 bytes 00: `refused 2 at 0`; 65,537: `refused 1 at 65536`"
@@ -13,3 +15,44 @@ longest-read = refl
 too-long : readSheet (modelOf Large) (replicate 65537 0) ≡ refusal 1 65536 fresh
 unfolding readSheet
 too-long = refl
+
+-- "at most 8,192 bytes"; "Refusal 1 then gives place 8,192"
+longest-on-entry : readSheet (modelOf Entry) (replicate 8192 0) ≡ refusal 2 0 fresh
+unfolding readSheet
+longest-on-entry = refl
+
+too-long-on-entry : readSheet (modelOf Entry) (replicate 8193 0) ≡ refusal 1 8192 fresh
+unfolding readSheet
+too-long-on-entry = refl
+
+-- and not the length
+much-too-long : readSheet (modelOf Entry) (replicate 65536 0) ≡ refusal 1 8192 fresh
+unfolding readSheet
+much-too-long = refl
+
+-- a condition, so many points, and a method
+abbrev points : ℕ → List ℕ
+points zero = []
+points (suc n) = 0x07 ∷ 0 ∷ 0 ∷ 0 ∷ 0 ∷ 0 ∷ 0 ∷ points n
+
+abbrev withPoints : ℕ → List ℕ
+withPoints n = (0x02 ∷ 0x06 ∷ []) ++ (points n ++ (0x09 ∷ replicate 10 0))
+
+-- the number and the place of the refusal, neither where there is none
+abbrev numberAndPlace : Outcome → List ℕ
+numberAndPlace (whole r) = []
+numberAndPlace (refusal n at r) = n ∷ at ∷ []
+
+-- "64 points" are read, and "6 comes at the 65th point", behind the 2 bytes of the condition and 64 points of 7 bytes
+most-points : numberAndPlace (readSheet (modelOf Entry) (withPoints 64)) ≡ []
+unfolding readSheet
+most-points = refl
+
+too-many-points : numberAndPlace (readSheet (modelOf Entry) (withPoints 65)) ≡ 6 ∷ 450 ∷ []
+unfolding readSheet
+too-many-points = refl
+
+-- which the large instrument reads
+read-by-large : numberAndPlace (readSheet (modelOf Large) (withPoints 65)) ≡ []
+unfolding readSheet
+read-by-large = refl

@@ -1,10 +1,17 @@
 // The instruments that sheets are loaded on, and what each takes.
 ghost use mathlib.Core.Path.{_≡_};
-ghost use Rattle.instrument.specs.Model.{limitsOf};
+ghost use Rattle.instrument.specs.Model.{limitsOf, instrumentOf};
 
-// The large two-channel instrument, which is document 01's.
+// The large two-channel instrument, which is document 01's, and the entry instrument, which is request 8's.
 pub enum Instrument {
     Large,
+    Entry,
+}
+
+// What a number stands for where an instrument is asked for.
+pub enum Named {
+    Known(Instrument),
+    Unknown,
 }
 
 // What an instrument takes: how many bytes, points and events, and the highest kind of record.
@@ -25,5 +32,23 @@ pub fn limits_of(instrument: Instrument) -> Limits
             events: 32,
             kinds: 14,
         },
+        Instrument::Entry => Limits {
+            bytes: 8192,
+            points: 64,
+            events: 32,
+            kinds: 14,
+        },
+    }
+}
+
+// The instruments by number, for callers in C and Rust; harness/include/sheet_loader.h has the same. 0 is none, so that memory which was only
+// cleared names no instrument.
+pub fn instrument_of(number: usize) -> Named
+    ensures { λ r. ⌜ r ≡ instrumentOf number ⌝ }
+{
+    match number {
+        1 => Named::Known(Instrument::Large),
+        2 => Named::Known(Instrument::Entry),
+        _ => Named::Unknown,
     }
 }

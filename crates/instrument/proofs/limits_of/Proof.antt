@@ -1,16 +1,20 @@
+use mathlib.Core.Path.{sym, ap}
+use borrow.Author.Needs.{needs}
+use Rattle.instrument.specs.Model.{limitsOf}
 use Rattle.instrument.proofs.limits_of.Statement.{statement}
 use Rattle.instrument.proofs.limits_of.Tie as tie
-use mathlib.Core.Path.{_≡_, refl}
-use Rattle.instrument.specs.declared.Instrument.{Instrument}
-use Rattle.instrument.specs.declared.Instrument.the-variants.{Large}
-use Rattle.instrument.specs.Model.{limitsOf}
 
-large-limits : (i : Instrument) → limitsOf Large ≡ limitsOf i
-large-limits Large = refl
+enum-told : tie.Need-enum-told
+enum-told c = search needs
 
--- src/lib.rt:17:1
+enum-told-2 : tie.Need-enum-told-2
+enum-told-2 c = search needs
+
 returns : tie.Need-returns
-returns c = large-limits (c .args .instrument)
+returns c = sym (ap limitsOf (c .enum-told .given .1))
+
+returns-2 : tie.Need-returns-2
+returns-2 c = sym (ap limitsOf (c .enum-told2 .given .1))
 
 pub limits-of-spec : {M : Type 1} → statement M
-limits-of-spec = tie.close (tie.spec returns)
+limits-of-spec = tie.close (tie.spec enum-told enum-told-2 returns returns-2)
