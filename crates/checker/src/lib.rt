@@ -18,7 +18,7 @@ use trial::test;
 pub fn test_rules(
     s: &[u8],
     conditions: &[u32; 256],
-    points: &[u32; 512],
+    points: &[u32],
     methods: &[u32; 64],
     steps: &[u32; 512],
     counts: Counts,

@@ -12,7 +12,7 @@ use Rattle.sheet.specs.Decode.{sheetOf}
 use Rattle.sheet.specs.Names.{HasBody, EventBelow}
 use Rattle.sheet.proofs.Each.{each-map}
 use Rattle.sheet.proofs.Located.{Found, Located, located}
-use Rattle.index.specs.Indexed.{pointRows, Tabled, ConditionsIn, Indexes}
+use Rattle.index.specs.Indexed.{Tabled, ConditionsIn, Indexes}
 
 -- a table has these offsets, and behind them whatever it has
 abbrev pub HoldsOffsets : List ℕ → List ℕ → Type 0
@@ -53,7 +53,7 @@ module _ (M : Model) (s : List ℕ) (r : Reading) (h : readSheet M s ≡ whole r
             (record { in-postfix = there .in-postfix; few-symbols = there .few-symbols; few-leaves = there .few-leaves });
       }
 
-  pub read-indexes : {cs ps ms ts : List ℕ} → M .points ≤ pointRows → M .events ≤ 64
+  pub read-indexes : {cs ps ms ts : List ℕ} → M .points ≤ length ps → M .events ≤ 64
       → HoldsOffsets (startsOf (r .own conditions)) cs → HoldsOffsets (startsOf (r .own points)) ps
       → HoldsOffsets (startsOf (r .own methods)) ms → HoldsOffsets (startsOf (r .own steps)) ts
       → Indexes (sheetOf M s) s cs ps ms ts

@@ -14,10 +14,6 @@ use Rattle.postfix.specs.Parts.{StandsAt}
 use Rattle.index.specs.declared.PointConditions.{PointConditions}
 use Rattle.index.specs.declared.MethodConditions.{MethodConditions}
 
--- a table of points has so many rows
-abbrev pub pointRows : ℕ
-pointRows = 512
-
 -- what stands in the bytes s at the offsets of a table with so many rows: xs, numbered from 0
 pub record Tabled {A : Type 0} (at : List ℕ → ℕ → A) (s : List ℕ) (rows : ℕ) (table : List ℕ) (xs : List A) : Type 0 where
   pub few : length xs ≤ rows
@@ -37,7 +33,7 @@ ConditionsIn S s conditions = (c : ℕ) → c < length (S .conditions) → Condi
 -- the tables lead to the sheet S in the bytes s; its names exist, its events fit a set, and it has a method
 pub record Indexes (S : Sheet) (s conditions points methods steps : List ℕ) : Type 0 where
   pub conditions-in : ConditionsIn S s conditions
-  pub points-tabled : Tabled pointAt s pointRows points (S .points)
+  pub points-tabled : Tabled pointAt s (length points) points (S .points)
   pub methods-tabled : Tabled methodAt s methodLimit methods (S .methods)
   pub steps-tabled : Tabled stepAt s stepLimit steps (S .steps)
   pub names-exist : NamesExist S
@@ -46,7 +42,7 @@ pub record Indexes (S : Sheet) (s conditions points methods steps : List ℕ) : 
 
 -- the point p of the sheet S: the point where the table says, with its conditions
 pub record PointIn (S : Sheet) (s conditions points : List ℕ) (p : ℕ) : Type 0 where
-  pub exists : p < pointRows
+  pub exists : p < length points
   pub inside : getD points p 0 < length s
   pub past-named : ConditionIn s conditions (pointAt s (getD points p 0) .past) (past S p)
   pub own-named : ConditionIn s conditions (pointAt s (getD points p 0) .own) (own S p)

@@ -19,7 +19,7 @@ pub struct MethodConditions {
 }
 
 // The conditions of the point p.
-pub fn point_of(s: &[u8], conditions: &[u32; 256], points: &[u32; 512], p: usize) -> PointConditions
+pub fn point_of(s: &[u8], conditions: &[u32; 256], points: &[u32], p: usize) -> PointConditions
     requires { ⌜ ((S : Sheet) × PointIn S (now s) (now conditions) (now points) p) ⌝ }
     ensures { λ r. ⌜ ((S : Sheet) → PointIn S (now (s .entry)) (now (conditions .entry)) (now (points .entry)) p → PointIs (now (s .entry)) S p r) ⌝ }
 {

@@ -1,5 +1,5 @@
 -- What a reader leaves of a sheet that it reads whole: its tally counts the sheet, and its tables index it.
-use mathlib.Core.Path.{_≡_, refl, sym, _∙_, subst}
+use mathlib.Core.Path.{_≡_, refl, sym, ap, _∙_, subst}
 use mathlib.Core.List.{List, [], _∷_}
 use Prim.Native.Nat.{ℕ, zero, suc, _≤_}
 use native.Mathlib.Nat.{not-suc-le-zero, le-of-suc-le-suc}
@@ -16,7 +16,7 @@ use Rattle.tally.specs.Tally.{countOf}
 use Rattle.sections.specs.declared.Contents.{Contents}
 use Rattle.sections.specs.Sections.{overwritten}
 use Rattle.reader.specs.Contract.{lastState, ReadWhole, TablesFilled}
-use Rattle.index.specs.Indexed.{pointRows, ConditionsIn, Indexes}
+use Rattle.index.specs.Indexed.{ConditionsIn, Indexes}
 use Rattle.index.proofs.Read.{HoldsOffsets, read-conditions, read-indexes}
 
 overwritten-begins : (os table : List ℕ) → length os ≤ length table → HoldsOffsets os (overwritten os table)
@@ -24,6 +24,11 @@ overwritten-begins [] table h i l = absurd (not-suc-le-zero l)
 overwritten-begins (o ∷ os) [] h i l = absurd (not-suc-le-zero h)
 overwritten-begins (o ∷ os) (x ∷ table) h zero l = refl
 overwritten-begins (o ∷ os) (x ∷ table) h (suc i) l = overwritten-begins os table (le-of-suc-le-suc h) i (le-of-suc-le-suc l)
+
+overwritten-length : (os table : List ℕ) → length (overwritten os table) ≡ length table
+overwritten-length [] table = refl
+overwritten-length (o ∷ os) [] = refl
+overwritten-length (o ∷ os) (x ∷ table) = ap suc (overwritten-length os table)
 
 held : (os table table′ : List ℕ) → length os ≤ length table → table′ ≡ overwritten os table → HoldsOffsets os table′
 held os table table′ l e = subst (HoldsOffsets os) (sym e) (overwritten-begins os table l)
@@ -59,7 +64,7 @@ module _ {M : Model} {s : List ℕ} {c : Contents} (t : ReadWhole M s c) where
   pub certificates-are : c .tally .certificates ≡ length (offsets certificates)
   certificates-are = as-counted certificates
 
-  -- The tables, which are as long as the limits -----------------------------------------------------------------------------
+  -- The tables, which have room for what the limits allow -------------------------------------------------------------------
 
   module _ {cs cs′ ps ps′ ms ms′ ts ts′ : List ℕ} (w : TablesFilled cs cs′ ps ps′ ms ms′ ts ts′ (lastState M s .own)) (l : length cs ≡ 256) where
     conditions-held : HoldsOffsets (offsets conditions) cs′
@@ -68,9 +73,9 @@ module _ {M : Model} {s : List ℕ} {c : Contents} (t : ReadWhole M s c) where
     pub conditions-in : ConditionsIn S s cs′
     conditions-in = read-conditions M s _ (t .outcome) conditions-held
 
-    pub indexed : length ps ≡ 512 → length ms ≡ 64 → length ts ≡ 512 → M .points ≤ pointRows → M .events ≤ 64 → Indexes S s cs′ ps′ ms′ ts′
-    indexed a b d rows events =
-        read-indexes M s _ (t .outcome) rows events conditions-held
+    pub indexed : M .points ≤ length ps → length ms ≡ 64 → length ts ≡ 512 → M .events ≤ 64 → Indexes S s cs′ ps′ ms′ ts′
+    indexed a b d events =
+        read-indexes M s _ (t .outcome) (omega (arith, ap length (w .points), overwritten-length (offsets points) ps)) events conditions-held
         (held (offsets points) ps _ (omega (arith, there .points-counted, there .few-points)) (w .points))
         (held (offsets methods) ms _ (omega (arith, there .methods-counted, there .few-methods)) (w .methods))
         (held (offsets steps) ts _ (omega (arith, there .steps-counted, there .few-steps)) (w .steps))

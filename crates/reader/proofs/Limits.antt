@@ -1,5 +1,5 @@
 -- What reading by an instrument's limits answers is what the instrument's model says.
-use mathlib.Core.Path.{_≡_, subst}
+use mathlib.Core.Path.{_≡_, sym, subst}
 use mathlib.Core.List.{List}
 use Prim.Native.Nat.{ℕ, _≤_}
 use Rattle.instrument.specs.declared.Instrument.{Instrument}
@@ -10,8 +10,9 @@ use Rattle.sections.specs.declared.Read.{Read}
 use Rattle.reader.specs.Contract.{Reads}
 
 module _ (i : Instrument) {l : Limits} (is : l ≡ limitsOf i) where
-  pub readable : (l .bytes ≤ 4294967296) × (l .points ≤ 512) × (l .kinds ≤ 14)
-  readable = let f = limits-fit i is in (f .few-bytes, f .few-points, f .few-kinds)
+  pub readable : {n : ℕ} → modelOf i .points ≤ n → (l .bytes ≤ 4294967296) × (l .points ≤ n) × (l .kinds ≤ 14)
+  readable {n} room =
+      let f = limits-fit i is in (f .few-bytes, subst (λ (l : Limits). l .points ≤ n) (sym is) room, f .few-kinds)
 
   pub reads-as : {s : List ℕ} {r : Read} {cs cs′ ps ps′ ms ms′ ts ts′ : List ℕ}
       → Reads (modelWith l) s r cs cs′ ps ps′ ms ms′ ts ts′ → Reads (modelOf i) s r cs cs′ ps ps′ ms ms′ ts ts′

@@ -29,7 +29,7 @@ pub enum Next {
 pub fn start(
     s: &[u8],
     conditions: &[u32; 256],
-    points: &[u32; 512],
+    points: &[u32],
     methods: &[u32; 64],
     steps: &[u32; 512],
     counts: Counts,
@@ -47,7 +47,7 @@ pub fn start(
 pub fn next_claim(
     s: &[u8],
     conditions: &[u32; 256],
-    points: &[u32; 512],
+    points: &[u32],
     methods: &[u32; 64],
     steps: &[u32; 512],
     counts: Counts,

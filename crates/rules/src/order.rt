@@ -28,7 +28,7 @@ pub struct Counts {
 fn method_subject(
     s: &[u8],
     conditions: &[u32; 256],
-    points: &[u32; 512],
+    points: &[u32],
     methods: &[u32; 64],
     m: usize,
 ) -> Subject
@@ -52,7 +52,7 @@ fn method_subject(
 fn step_subject(
     s: &[u8],
     conditions: &[u32; 256],
-    points: &[u32; 512],
+    points: &[u32],
     methods: &[u32; 64],
     steps: &[u32; 512],
     i: usize,
@@ -87,7 +87,7 @@ fn step_subject(
 pub fn subject_at(
     s: &[u8],
     conditions: &[u32; 256],
-    points: &[u32; 512],
+    points: &[u32],
     methods: &[u32; 64],
     steps: &[u32; 512],
     counts: Counts,

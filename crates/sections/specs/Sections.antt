@@ -96,6 +96,5 @@ pub record Alone (l : Limits) (k limit : ℕ) (table : List ℕ) : Type 0 where
   pub low : points ≤ k
   pub high : k ≤ steps
   pub kinds : l .kinds ≤ lastKind
-  pub few : limit ≤ 512
   pub room : limit ≤ length table
   pub limited : (n : ℕ) → full (modelWith l) k n ≡ leb limit n

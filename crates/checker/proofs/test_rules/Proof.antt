@@ -20,7 +20,7 @@ loop-holds : tie.Need-loop-holds Inv-loop μ-loop
 loop-holds c = (search needs, λ S x. record { left = _; left-at = c .start .ensures S x; leads = λ u t. t })
 
 next-claim-requires : tie.Need-next-claim-requires Inv-loop μ-loop
-next-claim-requires c κs = let (S, x) = c .before .before .before .pre .0 in
+next-claim-requires c κs = let (S, x) = c .before .before .before .before .pre .0 in
     let h = c .loop .inv .1 S x in
     (S, x, (h .left, h .left-at))
 
@@ -39,7 +39,7 @@ sides-of-requires : tie.Need-sides-of-requires Inv-loop μ-loop
 sides-of-requires c κs = let room = c .before .before .before .before .before .before .before .before .before .before .before .loop .inv .0 in (room .stack, room .left, room .right)
 
 test-requires : tie.Need-test-requires Inv-loop μ-loop
-test-requires c κs = let room = c .before .before .before .before .before .before .before .before .before .before .before .before .before .before .before .before .before .before .loop .inv .0 in (c .before .before .before .before .before .before .before .before .before .before .before .before .before .before .before .before .before .before .before .before .before .pre .1, (room .missing-long, room .rows-long))
+test-requires c κs = let room = c .before .before .before .before .before .before .before .before .before .before .before .before .before .before .before .before .before .before .loop .inv .0 in (c .before .before .before .before .before .before .before .before .before .before .before .before .before .before .before .before .before .before .before .before .before .before .pre .1, (room .missing-long, room .rows-long))
 
 enum-known-tested : tie.Need-enum-known-tested Inv-loop μ-loop
 enum-known-tested c = search needs

@@ -18,7 +18,7 @@ abbrev μ-loop : tie.MeasureT-loop
 μ-loop s conditions points methods steps counts last number₀ subject₀ k₀ number subject k = counts .methods + counts .steps - number
 
 add-last : tie.Need-add-last Inv-loop μ-loop
-add-last c = let (S, x, left) = c .before .before .pre in omega (arith, few-subjects x)
+add-last c = let (S, x, left) = c .before .before .before .pre in omega (arith, few-subjects x)
 
 loop-holds : tie.Need-loop-holds Inv-loop μ-loop
 loop-holds c = (omega arith, λ S xs x h. h)
@@ -30,10 +30,10 @@ enum-known-asked : tie.Need-enum-known-asked Inv-loop μ-loop
 enum-known-asked c = search needs
 
 add-t14 : tie.Need-add-t14 Inv-loop μ-loop
-add-t14 c = let (S, x, (xs, h)) = c .before .before .before .before .before .before .before .pre in omega (arith, few-asked (c .before .before .before .before .loop .inv .1 S xs x h))
+add-t14 c = let (S, x, (xs, h)) = c .before .before .before .before .before .before .before .before .pre in omega (arith, few-asked (c .before .before .before .before .loop .inv .1 S xs x h))
 
 returns : tie.Need-returns Inv-loop μ-loop
-returns c = let (S, x, (xs, h)) = c .before .before .before .before .before .before .before .pre in
+returns c = let (S, x, (xs, h)) = c .before .before .before .before .before .before .before .before .pre in
     let inv = c .before .before .before .before .loop .inv in
     let left = inv .1 S xs x h in (
       λ S xs x h.
@@ -54,10 +54,10 @@ returns-2 c = (
 )
 
 add-number : tie.Need-add-number Inv-loop μ-loop
-add-number c = let (S, x, left) = c .before .before .before .before .before .before .before .pre in omega (arith, few-subjects x, c .if1 .left)
+add-number c = let (S, x, left) = c .before .before .before .before .before .before .before .before .pre in omega (arith, few-subjects x, c .if1 .left)
 
 subject-at-requires : tie.Need-subject-at-requires Inv-loop μ-loop
-subject-at-requires c κs = let (S, x, left) = c .before .before .before .before .before .before .before .pre in ((S, x), omega (arith, c .if1 .left))
+subject-at-requires c κs = let (S, x, left) = c .before .before .before .before .before .before .before .before .pre in ((S, x), omega (arith, c .if1 .left))
 
 loop-less : tie.Need-loop-less Inv-loop μ-loop
 loop-less c = omega (arith, c .before .if1 .left)

@@ -12,10 +12,10 @@ element-copy-out-method-at : tie.Need-element-copy-out-method-at
 element-copy-out-method-at c = search needs
 
 cast-method-at : tie.Need-cast-method-at
-cast-method-at c = let (S, steps, x, l) = c .before .before .pre in omega (arith, method-in x (c .before .before .args .m) l .inside)
+cast-method-at c = let (S, steps, x, l) = c .before .before .before .pre in omega (arith, method-in x (c .before .before .before .args .m) l .inside)
 
 method-at-requires : tie.Need-method-at-requires
-method-at-requires c κs = let (S, steps, x, l) = c .before .before .pre in method-in x _ l .inside
+method-at-requires c κs = let (S, steps, x, l) = c .before .before .before .pre in method-in x _ l .inside
 
 enum-known-method : tie.Need-enum-known-method
 enum-known-method c = search needs
@@ -27,13 +27,13 @@ returns : tie.Need-returns
 returns c = λ S steps x l. body-rules x l (c .enum-told .given .1) (c .before .before .method-at .ensures)
 
 method-of-requires : tie.Need-method-of-requires
-method-of-requires c κs = let (S, steps, x, l) = c .before .before .before .before .before .before .pre in (S, method-in x _ l)
+method-of-requires c κs = let (S, steps, x, l) = c .before .before .before .before .before .before .before .pre in (S, method-in x _ l)
 
 point-of-requires : tie.Need-point-of-requires
-point-of-requires c κs = let (S, steps, x, l) = c .before .before .before .before .before .before .before .pre in (S, entry-in x l (c .before .before .method .given .1) (c .before .before .before .before .method-at .ensures))
+point-of-requires c κs = let (S, steps, x, l) = c .before .before .before .before .before .before .before .before .pre in (S, entry-in x l (c .before .before .method .given .1) (c .before .before .before .before .method-at .ensures))
 
 point-of-requires-2 : tie.Need-point-of-requires-2
-point-of-requires-2 c κs = let (S, steps, x, l) = c .before .before .before .before .before .before .before .before .pre in (S, exit-in x l (c .before .before .before .method .given .1) (c .before .before .before .before .before .method-at .ensures))
+point-of-requires-2 c κs = let (S, steps, x, l) = c .before .before .before .before .before .before .before .before .before .pre in (S, exit-in x l (c .before .before .before .method .given .1) (c .before .before .before .before .before .method-at .ensures))
 
 returns-2 : tie.Need-returns-2
 returns-2 c = λ S steps x l.

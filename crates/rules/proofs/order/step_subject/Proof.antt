@@ -12,40 +12,40 @@ element-copy-out-step-at : tie.Need-element-copy-out-step-at
 element-copy-out-step-at c = search needs
 
 cast-step-at : tie.Need-cast-step-at
-cast-step-at c = let (S, x, l) = c .before .before .pre in omega (arith, step-inside x (c .before .before .args .i) l)
+cast-step-at c = let (S, x, l) = c .before .before .before .pre in omega (arith, step-inside x (c .before .before .before .args .i) l)
 
 step-at-requires : tie.Need-step-at-requires
-step-at-requires c κs = let (S, x, l) = c .before .before .pre in step-inside x _ l
+step-at-requires c κs = let (S, x, l) = c .before .before .before .pre in step-inside x _ l
 
 enum-known-step : tie.Need-enum-known-step
 enum-known-step c = search needs
 
 point-of-requires : tie.Need-point-of-requires
-point-of-requires c κs = let (S, x, l) = c .before .before .before .before .before .before .pre in (S, point-in x _ (named x l (c .before .step .given .1) (c .before .before .before .step-at .ensures) .0))
+point-of-requires c κs = let (S, x, l) = c .before .before .before .before .before .before .before .pre in (S, point-in x _ (named x l (c .before .step .given .1) (c .before .before .before .step-at .ensures) .0))
 
 point-of-requires-2 : tie.Need-point-of-requires-2
-point-of-requires-2 c κs = let (S, x, l) = c .before .before .before .before .before .before .before .pre in (S, point-in x _ (named x l (c .before .before .step .given .1) (c .before .before .before .before .step-at .ensures) .1))
+point-of-requires-2 c κs = let (S, x, l) = c .before .before .before .before .before .before .before .before .pre in (S, point-in x _ (named x l (c .before .before .step .given .1) (c .before .before .before .before .step-at .ensures) .1))
 
 enum-known-step-2 : tie.Need-enum-known-step-2
 enum-known-step-2 c = search needs
 
 point-of-requires-3 : tie.Need-point-of-requires-3
-point-of-requires-3 c κs = let (S, x, l) = c .before .before .before .before .before .before .pre in (S, point-in x _ (named x l (c .before .step2 .given .1) (c .before .before .before .step-at .ensures) .0))
+point-of-requires-3 c κs = let (S, x, l) = c .before .before .before .before .before .before .before .pre in (S, point-in x _ (named x l (c .before .step2 .given .1) (c .before .before .before .step-at .ensures) .0))
 
 point-of-requires-4 : tie.Need-point-of-requires-4
-point-of-requires-4 c κs = let (S, x, l) = c .before .before .before .before .before .before .before .pre in (S, point-in x _ (named x l (c .before .before .step2 .given .1) (c .before .before .before .before .step-at .ensures) .1))
+point-of-requires-4 c κs = let (S, x, l) = c .before .before .before .before .before .before .before .before .pre in (S, point-in x _ (named x l (c .before .before .step2 .given .1) (c .before .before .before .before .step-at .ensures) .1))
 
 method-of-requires : tie.Need-method-of-requires
-method-of-requires c κs = let (S, x, l) = c .before .before .before .before .before .before .before .before .pre in (S, method-in x _ (named x l (c .before .before .before .step2 .given .1) (c .before .before .before .before .before .step-at .ensures) .2))
+method-of-requires c κs = let (S, x, l) = c .before .before .before .before .before .before .before .before .before .pre in (S, method-in x _ (named x l (c .before .before .before .step2 .given .1) (c .before .before .before .before .before .step-at .ensures) .2))
 
 enum-known-step-3 : tie.Need-enum-known-step-3
 enum-known-step-3 c = search needs
 
 point-of-requires-5 : tie.Need-point-of-requires-5
-point-of-requires-5 c κs = let (S, x, l) = c .before .before .before .before .before .before .pre in (S, point-in x _ (named x l (c .before .step3 .given .1) (c .before .before .before .step-at .ensures) .0))
+point-of-requires-5 c κs = let (S, x, l) = c .before .before .before .before .before .before .before .pre in (S, point-in x _ (named x l (c .before .step3 .given .1) (c .before .before .before .step-at .ensures) .0))
 
 point-of-requires-6 : tie.Need-point-of-requires-6
-point-of-requires-6 c κs = let (S, x, l) = c .before .before .before .before .before .before .before .pre in (S, point-in x _ (named x l (c .before .before .step3 .given .1) (c .before .before .before .before .step-at .ensures) .1))
+point-of-requires-6 c κs = let (S, x, l) = c .before .before .before .before .before .before .before .before .pre in (S, point-in x _ (named x l (c .before .before .step3 .given .1) (c .before .before .before .before .step-at .ensures) .1))
 
 returns : tie.Need-returns
 returns c = λ S x l.
