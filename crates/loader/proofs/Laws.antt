@@ -2,7 +2,7 @@
 use mathlib.Core.Path.{_≡_, sym, ap, _∙_, subst}
 use mathlib.Core.Option.{some}
 use mathlib.Core.List.{List}
-use Prim.Native.Nat.{ℕ}
+use Prim.Native.Nat.{ℕ, _≤_}
 use lib.ListN.{length}
 use Rattle.sheet.specs.Model.{Model}
 use Rattle.sheet.specs.Record.{Bytes}
@@ -75,8 +75,8 @@ module _ (i : Instrument) {s : List ℕ} where
 
   -- the tables of an instrument's reading
   pub indexed-on : {c : Contents} → ReadWhole (modelOf i) s c → {cs cs′ ps ps′ ms ms′ ts ts′ : List ℕ} → TablesFilled cs cs′ ps ps′ ms ms′ ts ts′ (lastState (modelOf i) s .own)
-      → length cs ≡ 256 → length ps ≡ 512 → length ms ≡ 64 → length ts ≡ 512 → Indexes (sheetOf (modelOf i) s) s cs′ ps′ ms′ ts′
-  indexed-on t w a b d e = indexed t w a b d e (instrument-fits i .few-points) (instrument-fits i .few-events)
+      → length cs ≡ 256 → modelOf i .points ≤ length ps → length ms ≡ 64 → length ts ≡ 512 → Indexes (sheetOf (modelOf i) s) s cs′ ps′ ms′ ts′
+  indexed-on t w a b d e = indexed t w a b d e (instrument-fits i .few-events)
 
   -- the definition's answer keeps the promise
   pub keeps : Bytes s → {r : Report} → r ≡ verdictOf (modelOf i) s → Loads (modelOf i) s r

@@ -1,6 +1,8 @@
 // The word test, on any instrument.
 ghost use mathlib.Core.Path.{_≡_};
-ghost use Rattle.sheet.specs.Model.{large};
+ghost use Prim.Native.Nat.{_≤_};
+ghost use lib.ListN.{length};
+ghost use Rattle.sheet.specs.Model.{large, entry};
 ghost use Rattle.sheet.specs.Decode.{sheetOf};
 ghost use Rattle.verdict.specs.WordTest.{wordTest};
 ghost use Rattle.verdict.specs.Promise.{TestsWord};
@@ -68,19 +70,25 @@ fn answer(
     WordAnswer::No
 }
 
-// The word test of an instrument.
-pub fn word_test_on(instrument: Instrument, s: &[u8], condition: usize, word: &[u8]) -> WordAnswer
+// The word test of an instrument, with a table for its points.
+fn test_with(
+    instrument: Instrument,
+    s: &[u8],
+    points: &mut [u32],
+    condition: usize,
+    word: &[u8],
+) -> WordAnswer
+    requires { ⌜ modelOf instrument .points ≤ length (now points) ⌝ }
     ensures { λ r. ⌜ TestsWord (modelOf instrument) (now (s .entry)) condition (now (word .entry)) (answerOf r) ⌝ }
 {
     let mut conditions: [u32; 256] = [0; 256];
-    let mut points: [u32; 512] = [0; 512];
     let mut methods: [u32; 64] = [0; 64];
     let mut steps: [u32; 512] = [0; 512];
     let got = read_sheet(
         instrument,
         s,
         &mut conditions,
-        &mut points,
+        points,
         &mut methods,
         &mut steps,
     );
@@ -94,5 +102,24 @@ pub fn word_test_on(instrument: Instrument, s: &[u8], condition: usize, word: &[
 pub fn word_test(s: &[u8], condition: usize, word: &[u8]) -> WordAnswer
     ensures { λ r. ⌜ TestsWord large (now (s .entry)) condition (now (word .entry)) (answerOf r) ⌝ }
 {
-    word_test_on(Instrument::Large, s, condition, word)
+    let mut points: [u32; 512] = [0; 512];
+    test_with(Instrument::Large, s, &mut points, condition, word)
+}
+
+// The word test of the entry instrument.
+pub fn word_test_entry(s: &[u8], condition: usize, word: &[u8]) -> WordAnswer
+    ensures { λ r. ⌜ TestsWord entry (now (s .entry)) condition (now (word .entry)) (answerOf r) ⌝ }
+{
+    let mut points: [u32; 64] = [0; 64];
+    test_with(Instrument::Entry, s, &mut points, condition, word)
+}
+
+// The word test of an instrument.
+pub fn word_test_on(instrument: Instrument, s: &[u8], condition: usize, word: &[u8]) -> WordAnswer
+    ensures { λ r. ⌜ TestsWord (modelOf instrument) (now (s .entry)) condition (now (word .entry)) (answerOf r) ⌝ }
+{
+    match instrument {
+        Instrument::Large => word_test(s, condition, word),
+        Instrument::Entry => word_test_entry(s, condition, word),
+    }
 }
