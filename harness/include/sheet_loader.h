@@ -1,5 +1,8 @@
 /* The doors of the sheet loader.
  *
+ * Each door takes the instrument as a number, SHEET_LOADER_LARGE or
+ * SHEET_LOADER_ENTRY; sheet_loader_load_entry is the entry instrument's own.
+ *
  * Slices are lent. The sheet and the word are only read. Where `out` has room
  * for SHEET_LOADER_ROOM numbers, each door writes that many at its front:
  *
@@ -23,8 +26,17 @@ extern "C" {
 
 #define SHEET_LOADER_ROOM 8
 
+/* The instruments: 65,536 bytes and 512 points, or 8,192 bytes and 64 points.
+ * Any other number, 0 too, is no instrument's. */
+#define SHEET_LOADER_LARGE 1
+#define SHEET_LOADER_ENTRY 2
+
 /* No answer has this status. */
 #define SHEET_LOADER_NOT_WRITTEN 0
+
+/* The status where the number is no instrument's, whatever the other
+ * arguments: nothing was loaded, tested or read. The other numbers are 0. */
+#define SHEET_LOADER_UNKNOWN_INSTRUMENT 4
 
 /* Stands for the place of a refusal that has none (12 and 14). */
 #define SHEET_LOADER_NO_PLACE SIZE_MAX
@@ -37,7 +49,12 @@ extern "C" {
 #define SHEET_LOADER_ACCEPTED 1
 #define SHEET_LOADER_REFUSED 2
 #define SHEET_LOADER_UNPROVED 3
-size_t sheet_loader_load(const uint8_t *sheet, size_t sheet_len, size_t *out, size_t out_len);
+size_t sheet_loader_load(size_t instrument, const uint8_t *sheet, size_t sheet_len, size_t *out,
+                         size_t out_len);
+
+/* As sheet_loader_load with SHEET_LOADER_ENTRY, on less stack: it has no room
+ * for the points of the large instrument. */
+size_t sheet_loader_load_entry(const uint8_t *sheet, size_t sheet_len, size_t *out, size_t out_len);
 
 /* Tests whether a condition of a sheet holds a word, one byte an event.
  *   YES
@@ -45,14 +62,16 @@ size_t sheet_loader_load(const uint8_t *sheet, size_t sheet_len, size_t *out, si
  *   NO */
 #define SHEET_LOADER_YES 1
 #define SHEET_LOADER_NO 3
-size_t sheet_loader_word_test(const uint8_t *sheet, size_t sheet_len, size_t condition,
-                              const uint8_t *word, size_t word_len, size_t *out, size_t out_len);
+size_t sheet_loader_word_test(size_t instrument, const uint8_t *sheet, size_t sheet_len,
+                              size_t condition, const uint8_t *word, size_t word_len, size_t *out,
+                              size_t out_len);
 
 /* Reads a sheet, refusals 1 to 9 alone.
  *   READ_WHOLE  conditions, points, methods, steps, certificates
  *   REFUSED     place */
 #define SHEET_LOADER_READ_WHOLE 1
-size_t sheet_loader_read(const uint8_t *sheet, size_t sheet_len, size_t *out, size_t out_len);
+size_t sheet_loader_read(size_t instrument, const uint8_t *sheet, size_t sheet_len, size_t *out,
+                         size_t out_len);
 
 #ifdef __cplusplus
 }

@@ -38,6 +38,10 @@ abbrev pub readStatus : Outcome → ℕ
 readStatus (whole r) = 1
 readStatus (refusal n at r) = 2
 
+-- 4: the number that was given for the instrument is none's
+abbrev pub unknownStatus : ℕ
+unknownStatus = 4
+
 -- Numbers ---------------------------------------------------------------------------------------------------------------
 
 -- the reply of reading alone: the five counts of a sheet that is read whole, or a refusal's number and place
@@ -77,6 +81,10 @@ answerNumbers a = numbersOf (answerStatus a) (answerReply a)
 
 abbrev pub readNumbers : Outcome → List ℕ
 readNumbers o = numbersOf (readStatus o) (readReply o)
+
+-- an unknown instrument has the status alone, whatever the sheet
+abbrev pub unknownNumbers : List ℕ
+unknownNumbers = filled room (unknownStatus ∷ [])
 
 -- Storing -----------------------------------------------------------------------------------------------------
 

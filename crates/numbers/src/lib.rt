@@ -3,7 +3,7 @@ ghost use mathlib.Core.Path.{_≡_};
 ghost use Rattle.format.specs.Refusal.{numberOf, placeOf};
 ghost use Rattle.verdict.specs.Verdict.{refused};
 ghost use Rattle.answers.specs.Answers.{reportOf, answerOf};
-ghost use Rattle.numbers.specs.Numbers.{reportNumbers, answerNumbers};
+ghost use Rattle.numbers.specs.Numbers.{reportNumbers, answerNumbers, unknownNumbers};
 ghost use Rattle.numbers.specs.Stores.{Stores};
 use answers::Place;
 use answers::RuleNumbers;
@@ -31,6 +31,8 @@ const REFUSED: usize = 2;
 const UNPROVED: usize = 3;
 
 const NO: usize = 3;
+
+const UNKNOWN_INSTRUMENT: usize = 4;
 
 // Document 01's number of an unproved answer, and what stands for the place of a refusal that has none.
 const FAULT: usize = 11;
@@ -94,4 +96,11 @@ pub fn answer_numbers(a: WordAnswer) -> [usize; ROOM]
         WordAnswer::No => [NO, 0, 0, 0, 0, 0, 0, 0],
         WordAnswer::Refused(x) => refusal_numbers(x),
     }
+}
+
+// The number that was given for the instrument is none's.
+pub fn unknown_numbers() -> [usize; ROOM]
+    ensures { λ r. ⌜ r ≡ unknownNumbers ⌝ }
+{
+    [UNKNOWN_INSTRUMENT, 0, 0, 0, 0, 0, 0, 0]
 }

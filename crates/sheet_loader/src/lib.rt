@@ -1,19 +1,24 @@
-// Doors for C and Rust: reading a sheet, the loader and the word test on lent slices, the answer as a status and eight numbers.
+// Doors for C and Rust: reading a sheet, the loader and the word test on lent slices, the answer as a status and eight numbers. The instrument is
+// given as a number; one that is none's gets a status of its own.
 // C passes a slice as a pointer and the number of its elements; usize is size_t.
 ghost use mathlib.Core.Path.{_≡_};
+ghost use Rattle.sheet.specs.Model.{entry};
 ghost use Rattle.sheet_loader.specs.Reading.{numbersRead};
-ghost use Rattle.sheet_loader.specs.Doors.{LoadsInto, TestsWordInto, ReadsInto};
-use instrument::Instrument;
-use loader::load;
+ghost use Rattle.sheet_loader.specs.Doors.{LoadsInto, LoadsOn, TestsWordOn, ReadsOn};
+use instrument::Named;
+use instrument::instrument_of;
+use loader::load_entry;
+use loader::load_on;
 use numbers::READ_WHOLE;
 use numbers::ROOM;
 use numbers::answer_numbers;
 use numbers::refusal_numbers;
 use numbers::store;
+use numbers::unknown_numbers;
 use numbers::verdict_numbers;
-use reader::read_sheet;
+use reader::read_on;
 use sections::Read;
-use words::word_test;
+use words::word_test_on;
 
 fn read_numbers(read: Read) -> [usize; ROOM]
     ensures { λ r. ⌜ r ≡ numbersRead read ⌝ }
@@ -37,41 +42,49 @@ fn read_numbers(read: Read) -> [usize; ROOM]
 }
 
 #[no_mangle]
-pub extern "C" fn sheet_loader_read(sheet: &[u8], out: &mut [usize]) -> usize
-    ensures { λ r. ⌜ ReadsInto (now (sheet .entry)) (now (out .entry)) (now (out .exit)) r ⌝ }
+pub extern "C" fn sheet_loader_read(instrument: usize, sheet: &[u8], out: &mut [usize]) -> usize
+    ensures { λ r. ⌜ ReadsOn instrument (now (sheet .entry)) (now (out .entry)) (now (out .exit)) r ⌝ }
 {
-    let mut conditions = [0u32; 256];
-    let mut points = [0u32; 512];
-    let mut methods = [0u32; 64];
-    let mut steps = [0u32; 512];
-    let read = read_sheet(
-        Instrument::Large,
-        sheet,
-        &mut conditions,
-        &mut points,
-        &mut methods,
-        &mut steps,
-    );
-    store(read_numbers(read), out)
+    let named = instrument_of(instrument);
+    match named {
+        Named::Known(i) => store(read_numbers(read_on(i, sheet)), out),
+        Named::Unknown => store(unknown_numbers(), out),
+    }
 }
 
 #[no_mangle]
-pub extern "C" fn sheet_loader_load(sheet: &[u8], out: &mut [usize]) -> usize
-    ensures { λ r. ⌜ LoadsInto (now (sheet .entry)) (now (out .entry)) (now (out .exit)) r ⌝ }
+pub extern "C" fn sheet_loader_load(instrument: usize, sheet: &[u8], out: &mut [usize]) -> usize
+    ensures { λ r. ⌜ LoadsOn instrument (now (sheet .entry)) (now (out .entry)) (now (out .exit)) r ⌝ }
 {
-    let verdict = load(sheet);
-    store(verdict_numbers(verdict), out)
+    let named = instrument_of(instrument);
+    match named {
+        Named::Known(i) => store(verdict_numbers(load_on(i, sheet)), out),
+        Named::Unknown => store(unknown_numbers(), out),
+    }
+}
+
+// The loader of the entry instrument alone. A function has one frame, so a door that takes the instrument as a number has room on the stack for
+// the points of the large one.
+#[no_mangle]
+pub extern "C" fn sheet_loader_load_entry(sheet: &[u8], out: &mut [usize]) -> usize
+    ensures { λ r. ⌜ LoadsInto entry (now (sheet .entry)) (now (out .entry)) (now (out .exit)) r ⌝ }
+{
+    store(verdict_numbers(load_entry(sheet)), out)
 }
 
 #[no_mangle]
 pub extern "C" fn sheet_loader_word_test(
+    instrument: usize,
     sheet: &[u8],
     condition: usize,
     word: &[u8],
     out: &mut [usize],
 ) -> usize
-    ensures { λ r. ⌜ TestsWordInto (now (sheet .entry)) condition (now (word .entry)) (now (out .entry)) (now (out .exit)) r ⌝ }
+    ensures { λ r. ⌜ TestsWordOn instrument (now (sheet .entry)) condition (now (word .entry)) (now (out .entry)) (now (out .exit)) r ⌝ }
 {
-    let answer = word_test(sheet, condition, word);
-    store(answer_numbers(answer), out)
+    let named = instrument_of(instrument);
+    match named {
+        Named::Known(i) => store(answer_numbers(word_test_on(i, sheet, condition, word)), out),
+        Named::Unknown => store(unknown_numbers(), out),
+    }
 }

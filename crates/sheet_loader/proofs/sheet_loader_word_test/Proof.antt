@@ -1,11 +1,17 @@
--- `sheet_loader::sheet_loader_word_test` meets its contract.
+-- `sheet_loader::sheet_loader_word_test` meets its contract, on an instrument and on none.
 use borrow.Author.Needs.{needs}
-use Rattle.sheet_loader.proofs.Doors.{tests-word-into}
+use Rattle.sheet_loader.proofs.Doors.{tests-word-on, tests-word-on-none}
 use Rattle.sheet_loader.proofs.sheet_loader_word_test.Statement.{statement}
 use Rattle.sheet_loader.proofs.sheet_loader_word_test.Tie as tie
 
-word-test-requires : tie.Need-word-test-requires
-word-test-requires c κs = search needs
+instrument-of-requires : tie.Need-instrument-of-requires
+instrument-of-requires c κs = search needs
+
+enum-known-named : tie.Need-enum-known-named
+enum-known-named c = search needs
+
+word-test-on-requires : tie.Need-word-test-on-requires
+word-test-on-requires c κs = search needs
 
 answer-numbers-requires : tie.Need-answer-numbers-requires
 answer-numbers-requires c κs = search needs
@@ -13,16 +19,49 @@ answer-numbers-requires c κs = search needs
 store-requires : tie.Need-store-requires
 store-requires c κs = search needs
 
+enum-told : tie.Need-enum-told
+enum-told c = search needs
+
+unknown-numbers-requires : tie.Need-unknown-numbers-requires
+unknown-numbers-requires c κs = search needs
+
+store-requires-2 : tie.Need-store-requires-2
+store-requires-2 c κs = search needs
+
 same-length : tie.Need-same-length
 same-length c = search needs
 
 returns : tie.Need-returns
 returns c =
     let call = c .before .before .before .before in
-    let x = c .before .before .before .before .before .before .before .before .before .args in
-    tests-word-into (x .sheet .now) (c .before .before .store .ensures) (x .condition) (x .word .now) (call .before .word-test .ensures) (call .answer-numbers .ensures)
+    let known = call .before .before .before in
+    let found = known .before .before in
+    let x = found .before .before .before .before .args in
+    tests-word-on (x .instrument) (found .instrument-of .ensures) (x .sheet .now) (c .before .before .store .ensures) (x .condition) (x .word .now) (known .named .given .1) (call .before .word-test-on .ensures) (call .answer-numbers .ensures)
+
+same-length-2 : tie.Need-same-length-2
+same-length-2 c = search needs
+
+returns-2 : tie.Need-returns-2
+returns-2 c =
+    let call = c .before .before .before .before in
+    let found = call .before .before .before in
+    let x = found .before .before .before .before .args in
+    tests-word-on-none (x .instrument) (found .instrument-of .ensures) (x .sheet .now) (c .before .before .store2 .ensures) (x .condition) (x .word .now) (call .before .enum-told .given .1) (call .unknown-numbers .ensures)
 
 pub sheet-loader-word-test-spec : {M : Type 1} → statement M
 sheet-loader-word-test-spec =
     tie.close
-    (tie.spec word-test-requires answer-numbers-requires store-requires same-length returns)
+    (tie.spec
+    instrument-of-requires
+    enum-known-named
+    word-test-on-requires
+    answer-numbers-requires
+    store-requires
+    enum-told
+    unknown-numbers-requires
+    store-requires-2
+    same-length
+    returns
+    same-length-2
+    returns-2)
