@@ -1,15 +1,24 @@
-// The arguments of a program, the files that they name, and what is said on standard error about them. The kit has no contract for what is read
-// and written, so the functions that only print have none.
+// The arguments of a program, the instrument and the files that they name, and what is said on standard error about them. The kit has no contract
+// for what is read and written, so the functions that only print have none.
 ghost use mathlib.Core.Path.{_≡_};
 ghost use mathlib.Core.Bool.{true};
 ghost use Prim.Native.Nat.{_≤_};
 ghost use lib.ListN.{length};
 ghost use Rattle.input.specs.Input.{ReadInto};
+ghost use Rattle.arguments.specs.Choice.{Chosen};
 use input::Input;
 use input::read_all;
 use input::read_file;
+use instrument::Instrument;
+use instrument::Named;
 use libc::STDERR_FILENO;
 use libc::STDIN_FILENO;
+
+// The instrument that the arguments name, and the number of the first argument behind the option.
+pub struct Choice {
+    pub named: Named,
+    pub next: usize,
+}
 
 // Whether argument i is this text. There is room for 4,096 bytes of it.
 pub fn is_argument(i: usize, text: &[u8]) -> bool
@@ -64,6 +73,37 @@ pub fn wrong_argument(program: &[u8], i: usize, expected: &[u8]) {
     say(b": expected ");
     say(expected);
     say(b"\n");
+}
+
+// The instrument, or a line on standard error that says what was expected ------------------------------------------------
+
+// The instrument that argument i names.
+fn instrument_at(i: usize) -> Named {
+    if is_argument(i, b"large") {
+        Named::Known(Instrument::Large)
+    } else if is_argument(i, b"entry") {
+        Named::Known(Instrument::Entry)
+    } else {
+        Named::Unknown
+    }
+}
+
+// The instrument that `--instrument` names, in front of the other arguments; the large one where the option is not given.
+pub fn chosen_instrument(program: &[u8]) -> Choice
+    ensures { λ r. ⌜ Chosen r ⌝ }
+    ensures { λ r. ⌜ r .next ≤ 3 ⌝ }
+{
+    if !is_argument(1, b"--instrument") {
+        return Choice {
+            named: Named::Known(Instrument::Large),
+            next: 1,
+        };
+    }
+    let named = instrument_at(2);
+    if let Named::Unknown = named {
+        wrong_argument(program, 2, b"an instrument, large or entry");
+    }
+    Choice { named, next: 3 }
 }
 
 // Input, or a line on standard error that says what could not be read ----------------------------------------------------

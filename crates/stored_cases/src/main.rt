@@ -1,4 +1,5 @@
-// Runs the stored cases and prints a line for each: sheets that are read, sheets that are loaded, and words that are tested.
+// Runs the stored cases and prints a line for each: sheets that are read, sheets that are loaded, and words that are tested, on the large
+// instrument and then on the entry instrument.
 use answers::Verdict;
 use cases::Number;
 use cases::next_bytes;
@@ -8,13 +9,13 @@ use cases::next_short;
 use input::first;
 use instrument::Instrument;
 use libc::STDOUT_FILENO;
-use loader::load;
+use loader::load_on;
 use printing::print_answer;
 use printing::print_verdict;
-use reader::read_sheet;
+use reader::read_on;
 use sections::Read;
 use tally::Tally;
-use words::word_test;
+use words::word_test_on;
 
 // What is done with the sheets of a file.
 enum Kind {
@@ -39,19 +40,8 @@ fn print_tally(t: Tally) {
 }
 
 // The refusal, or the five counts of a sheet that is read whole.
-fn print_reading(sheet: &[u8]) {
-    let mut conditions = [0u32; 256];
-    let mut points = [0u32; 512];
-    let mut methods = [0u32; 64];
-    let mut steps = [0u32; 512];
-    let read = read_sheet(
-        Instrument::Large,
-        sheet,
-        &mut conditions,
-        &mut points,
-        &mut methods,
-        &mut steps,
-    );
+fn print_reading(instrument: Instrument, sheet: &[u8]) {
+    let read = read_on(instrument, sheet);
     match read {
         Read::Whole(contents) => print_tally(contents.tally),
         Read::Refused(x) => {
@@ -61,7 +51,7 @@ fn print_reading(sheet: &[u8]) {
 }
 
 // A condition's number, the word's length and the word.
-fn next_word(file: i32, sheet: &[u8]) {
+fn next_word(instrument: Instrument, file: i32, sheet: &[u8]) {
     let condition = next_short(file);
     let Number::Value(k) = condition else {
         return;
@@ -72,24 +62,24 @@ fn next_word(file: i32, sheet: &[u8]) {
     };
     let mut room = [0u8; 65535];
     let got = next_bytes(file, n, &mut room);
-    print_answer(word_test(sheet, k, first(&room, got)));
+    print_answer(word_test_on(instrument, sheet, k, first(&room, got)));
 }
 
 // Behind a sheet, the number of its words, and each word.
-fn print_words(file: i32, sheet: &[u8]) {
+fn print_words(instrument: Instrument, file: i32, sheet: &[u8]) {
     let count = next_number(file);
     let Number::Value(n) = count else {
         return;
     };
     let mut left = n;
     while 0 < left {
-        next_word(file, sheet);
+        next_word(instrument, file, sheet);
         left -= 1;
     }
 }
 
 // False where there is no further case.
-fn next_case(kind: Kind, file: i32) -> bool {
+fn next_case(instrument: Instrument, kind: Kind, file: i32) -> bool {
     let mut room = [0u8; 65600];
     let size = next_sheet(file, &mut room);
     let Number::Value(n) = size else {
@@ -97,20 +87,20 @@ fn next_case(kind: Kind, file: i32) -> bool {
     };
     let sheet = first(&room, n);
     match kind {
-        Kind::Reading => print_reading(sheet),
+        Kind::Reading => print_reading(instrument, sheet),
         Kind::Loading => {
-            print_verdict(load(sheet));
+            print_verdict(load_on(instrument, sheet));
         }
-        Kind::Words => print_words(file, sheet),
+        Kind::Words => print_words(instrument, file, sheet),
     }
     true
 }
 
-fn print_cases(kind: Kind, name: &[u8]) {
+fn print_cases(instrument: Instrument, kind: Kind, name: &[u8]) {
     let file = os::open_read(name);
     let mut left: usize = 100000;
     while 0 < left {
-        if !next_case(kind, file) {
+        if !next_case(instrument, kind, file) {
             return;
         }
         left -= 1;
@@ -118,7 +108,10 @@ fn print_cases(kind: Kind, name: &[u8]) {
 }
 
 fn main() {
-    print_cases(Kind::Reading, b"reading");
-    print_cases(Kind::Loading, b"sheets");
-    print_cases(Kind::Words, b"words");
+    print_cases(Instrument::Large, Kind::Reading, b"reading");
+    print_cases(Instrument::Large, Kind::Loading, b"sheets");
+    print_cases(Instrument::Large, Kind::Words, b"words");
+    print_cases(Instrument::Entry, Kind::Reading, b"entry_reading");
+    print_cases(Instrument::Entry, Kind::Loading, b"entry_sheets");
+    print_cases(Instrument::Entry, Kind::Words, b"entry_words");
 }

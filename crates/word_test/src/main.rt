@@ -1,6 +1,8 @@
-// Tests a word in a condition of a sheet and prints one line. The arguments are the sheet's file, the condition's number and the events. What
-// is wrong with them, and what cannot be read or written, is said on standard error.
+// Tests a word in a condition of a sheet on an instrument and prints one line. The arguments are the sheet's file, the condition's number and the
+// events. What is wrong with them, and what cannot be read or written, is said on standard error.
+ghost use Prim.Native.Nat.{_≤_};
 use arguments::cannot_write;
+use arguments::chosen_instrument;
 use arguments::is_argument;
 use arguments::read_named;
 use arguments::wrong_argument;
@@ -10,22 +12,25 @@ use decimal::number_at;
 use decimal::read_events;
 use input::Input;
 use input::first;
+use instrument::Instrument;
+use instrument::Named;
 use libc::STDERR_FILENO;
 use libc::STDOUT_FILENO;
 use printing::print_answer;
-use words::word_test;
+use words::word_test_on;
 
 fn wrong(i: usize, expected: &[u8]) {
     wrong_argument(b"word_test", i, expected);
 }
 
-// The answer on the word of the events from argument 3 on. There is room for one event more than a word may have; what follows it is not read.
-fn print_test(sheet: &[u8], condition: usize) {
+// The answer on the word of the events from argument `from` on. There is room for one event more than a word may have; what follows it is not
+// read.
+fn print_test(instrument: Instrument, sheet: &[u8], condition: usize, from: usize) {
     let mut word = [0u8; 4097];
-    let events = read_events(3, &mut word);
+    let events = read_events(from, &mut word);
     match events {
         Events::Count(n) => {
-            if !print_answer(word_test(sheet, condition, first(&word, n))) {
+            if !print_answer(word_test_on(instrument, sheet, condition, first(&word, n))) {
                 cannot_write(b"word_test");
             }
         }
@@ -33,24 +38,26 @@ fn print_test(sheet: &[u8], condition: usize) {
     }
 }
 
-// There is room for one byte more than a sheet may have.
-fn print_line() {
+// The sheet's file is argument i, and the others follow it. There is room for one byte more than a sheet may have on any instrument.
+fn print_line(instrument: Instrument, i: usize)
+    requires { ⌜ i ≤ 3 ⌝ }
+{
     let mut room = [0u8; 65537];
-    let sheet = read_named(b"word_test", 1, &mut room);
+    let sheet = read_named(b"word_test", i, &mut room);
     let Input::Bytes(n) = sheet else {
         return;
     };
-    let condition = number_at(2);
+    let condition = number_at(i + 1);
     match condition {
-        Argument::Number(k) => print_test(first(&room, n), k),
-        Argument::Wrong => wrong(2, b"the condition's number"),
+        Argument::Number(k) => print_test(instrument, first(&room, n), k, i + 2),
+        Argument::Wrong => wrong(i + 1, b"the condition's number"),
     }
 }
 
 fn print_help() {
     let written = io::write_all(
         STDOUT_FILENO,
-        b"usage: word_test SHEET CONDITION EVENT...\n\
+        b"usage: word_test [--instrument large|entry] SHEET CONDITION EVENT...\n\
           \n\
           Tests whether a condition of the sheet in the file SHEET holds the word of the events, and prints one line.\n\
           CONDITION is the condition's number, counted from 0; each EVENT is a number from 0 to 31.\n\
@@ -59,6 +66,8 @@ fn print_help() {
           \x20 refused 12          the word is longer than 4,096 events\n\
           \x20 refused 13 at I     the event at the index I is above 31\n\
           \x20 refused 14          there is no such condition\n\
+          The large instrument takes 65,536 bytes and 512 points, the entry instrument 8,192 bytes and 64 points.\n\
+          Where none is named, the sheet is one of the large one.\n\
           What is wrong with an argument, and what cannot be read or written, is said on standard error.\n\
           The exit status is always 0.\n",
     );
@@ -71,19 +80,30 @@ fn misused(i: usize, expected: &[u8]) {
     wrong(i, expected);
     io::write_all(
         STDERR_FILENO,
-        b"usage: word_test SHEET CONDITION EVENT...\n",
+        b"usage: word_test [--instrument large|entry] SHEET CONDITION EVENT...\n",
     );
 }
 
-fn main() {
+// Argument `next` is the first one behind the option.
+fn run(instrument: Instrument, next: usize)
+    requires { ⌜ next ≤ 3 ⌝ }
+{
     let count = os::arg_count();
-    if is_argument(1, b"--help") {
+    if is_argument(next, b"--help") {
         print_help();
-    } else if count < 2 {
-        misused(1, b"the sheet's file");
-    } else if count < 3 {
-        misused(2, b"the condition's number");
+    } else if count <= next {
+        misused(next, b"the sheet's file");
+    } else if count <= next + 1 {
+        misused(next + 1, b"the condition's number");
     } else {
-        print_line();
+        print_line(instrument, next);
+    }
+}
+
+fn main() {
+    let choice = chosen_instrument(b"word_test");
+    let named = choice.named;
+    if let Named::Known(instrument) = named {
+        run(instrument, choice.next);
     }
 }

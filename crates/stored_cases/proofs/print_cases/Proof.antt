@@ -4,10 +4,10 @@ use Rattle.stored_cases.proofs.print_cases.Statement.{statement}
 use Rattle.stored_cases.proofs.print_cases.Tie as tie
 
 abbrev Inv-loop : tie.InvT-loop
-Inv-loop kind name file left₀ left = Unit {0}
+Inv-loop instrument kind name file left₀ left = Unit {0}
 
 abbrev μ-loop : tie.MeasureT-loop
-μ-loop kind name file left₀ left = left
+μ-loop instrument kind name file left₀ left = left
 
 open-read-requires : tie.Need-open-read-requires Inv-loop μ-loop
 open-read-requires c κs = search needs

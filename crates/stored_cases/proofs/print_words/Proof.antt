@@ -4,10 +4,10 @@ use Rattle.stored_cases.proofs.print_words.Statement.{statement}
 use Rattle.stored_cases.proofs.print_words.Tie as tie
 
 abbrev Inv-loop : tie.InvT-loop
-Inv-loop file sheet n left₀ left = Unit {0}
+Inv-loop instrument file sheet n left₀ left = Unit {0}
 
 abbrev μ-loop : tie.MeasureT-loop
-μ-loop file sheet n left₀ left = left
+μ-loop instrument file sheet n left₀ left = left
 
 next-number-requires : tie.Need-next-number-requires Inv-loop μ-loop
 next-number-requires c κs = search needs
