@@ -9,8 +9,13 @@ ROOT = os.path.dirname(os.path.dirname(os.path.abspath(__file__)))
 LOAD = os.path.join(ROOT, 'target', 'bin', 'load')
 WORD_TEST = os.path.join(ROOT, 'target', 'bin', 'word_test')
 MINIMAL = os.path.join(ROOT, 'examples', 'minimal.sheet')
+LONG_WALK = os.path.join(ROOT, 'examples', 'long_walk.sheet')
 CONDITION = os.path.join(ROOT, 'crates', 'word_test', 'data', 'condition.sheet')
 FULL = '/dev/full'
+OPTION = '--instrument'
+LOAD_USAGE = 'usage: load [--instrument large|entry] [FILE]'
+WORD_USAGE = 'usage: word_test [--instrument large|entry] SHEET CONDITION EVENT...'
+NO_INSTRUMENTS = ['small', '', 'Entry', 'LARGE', 'entry ', 'entr', 'entryy', '1', '2', '--help', MINIMAL]
 
 
 def run(program, *arguments, input=b'', **kinds):
@@ -28,6 +33,15 @@ class Programs(unittest.TestCase):
 
     def says(self, message, program, *arguments, **kinds):
         self.assertEqual(run(program, *arguments, **kinds), ('', message + '\n'))
+
+    def wants_an_instrument(self, name, program, *rest):
+        """A word behind the option that names none, or no word, gets a line on standard error only."""
+        expected = 'expected an instrument, large or entry'
+        for word in NO_INSTRUMENTS:
+            self.says(f'{name}: argument 2 is `{word}`: {expected}', program, OPTION, word)
+            self.says(f'{name}: argument 2 is `{word}`: {expected}', program, OPTION, word, *rest)
+        self.says(f'{name}: argument 2 is too long: {expected}', program, OPTION, 'x' * 5000, *rest)
+        self.says(f'{name}: argument 2 is missing: {expected}', program, OPTION)
 
     def written_to_full(self, name, program, *arguments, **kinds):
         with open(FULL, 'wb') as full:
@@ -51,6 +65,36 @@ class Load(Programs):
                 file.flush()
                 self.prints(line, LOAD, file.name)
 
+    def test_instruments(self):
+        for words in [[], [OPTION, 'large'], [OPTION, 'entry']]:
+            self.prints('accepted 6', LOAD, *words, MINIMAL)
+            self.prints('refused 9 at 0', LOAD, *words)
+            with open(MINIMAL, 'rb') as sheet:
+                self.prints('accepted 6', LOAD, *words, input=sheet.read())
+            line = 'refused 6 at 457' if 'entry' in words else 'accepted 198'
+            self.prints(line, LOAD, *words, LONG_WALK)
+            with open(LONG_WALK, 'rb') as sheet:
+                self.prints(line, LOAD, *words, input=sheet.read())
+
+    def test_lengths_on_the_entry_instrument(self):
+        for size, line in [(8191, 'refused 2 at 0'), (8192, 'refused 2 at 0'), (8193, 'refused 1 at 8192'),
+                           (65536, 'refused 1 at 8192'), (65537, 'refused 1 at 8192'), (1 << 20, 'refused 1 at 8192')]:
+            self.prints(line, LOAD, OPTION, 'entry', input=bytes(size))
+            self.prints('refused 1 at 65536' if size > 65536 else 'refused 2 at 0', LOAD, OPTION, 'large', input=bytes(size))
+            with tempfile.NamedTemporaryFile() as file:
+                file.write(bytes(size))
+                file.flush()
+                self.prints(line, LOAD, OPTION, 'entry', file.name)
+
+    def test_no_instrument(self):
+        self.wants_an_instrument('load', LOAD, MINIMAL)
+
+    def test_option_elsewhere(self):
+        """Behind another argument, `--instrument` is no option; a file may have its name."""
+        self.says('load: more than one argument\n' + LOAD_USAGE, LOAD, MINIMAL, OPTION, 'entry')
+        self.says('load: cannot read entry: No such file or directory', LOAD, 'entry')
+        self.says(f'load: cannot read {OPTION}: No such file or directory', LOAD, OPTION, 'entry', OPTION)
+
     def test_input_in_pieces(self):
         with open(MINIMAL, 'rb') as file:
             sheet = file.read()
@@ -61,9 +105,10 @@ class Load(Programs):
         self.assertEqual(load.communicate()[0], b'accepted 6\n')
 
     def test_help(self):
-        out, err = run(LOAD, '--help')
-        self.assertTrue(out.startswith('usage: load [FILE]\n'))
-        self.assertEqual(err, '')
+        for words in [[], [OPTION, 'entry'], [OPTION, 'large']]:
+            out, err = run(LOAD, *words, '--help')
+            self.assertTrue(out.startswith(LOAD_USAGE + '\n'))
+            self.assertEqual(err, '')
 
     def test_what_cannot_be_read(self):
         with tempfile.TemporaryDirectory() as folder:
@@ -77,7 +122,9 @@ class Load(Programs):
         self.says('load: cannot read standard input: Bad file descriptor', LOAD, stdin=None, preexec_fn=lambda: os.close(0))
 
     def test_too_many_arguments(self):
-        self.says('load: more than one argument\nusage: load [FILE]', LOAD, MINIMAL, MINIMAL)
+        for words in [[], [OPTION, 'entry'], [OPTION, 'large']]:
+            for rest in [(MINIMAL, MINIMAL), (MINIMAL, '--help'), ('--help', MINIMAL)]:
+                self.says('load: more than one argument\n' + LOAD_USAGE, LOAD, *words, *rest)
 
     @unittest.skipUnless(os.path.exists(FULL), 'no ' + FULL)
     def test_what_cannot_be_written(self):
@@ -96,13 +143,49 @@ class WordTest(Programs):
             self.prints(line, WORD_TEST, CONDITION, str(condition), *map(str, word))
         self.prints('refused 9 at 0', WORD_TEST, '/dev/null', '0')
 
+    def test_instruments(self):
+        for words in [[], [OPTION, 'large'], [OPTION, 'entry']]:
+            for condition, word, line in [
+                    (0, [], 'yes'), (0, [2, 0], 'yes'), (0, [0, 2], 'no'), (1, [2], 'refused 14'), (0, [2, 32], 'refused 13 at 1'),
+                    (0, [2] + 4095 * [0], 'yes'), (0, [2] + 4096 * [0], 'refused 12')]:
+                self.prints(line, WORD_TEST, *words, CONDITION, str(condition), *map(str, word))
+            for condition, word, line in [
+                    (1, [], 'yes'), (1, [2, 2], 'yes'), (1, [2, 0], 'no'), (2, [2], 'refused 14'), (1, [2, 32], 'refused 13 at 1'),
+                    (1, 4097 * [2], 'refused 12')]:
+                self.prints('refused 6 at 457' if 'entry' in words else line,
+                            WORD_TEST, *words, LONG_WALK, str(condition), *map(str, word))
+
+    def test_lengths_on_the_entry_instrument(self):
+        with open(MINIMAL, 'rb') as sheet:
+            minimal = sheet.read()
+        for size in [8191, 8192, 8193, 65536, 65537]:
+            with tempfile.NamedTemporaryFile() as file:
+                file.write(minimal + b'\x0e' * (size - len(minimal)))
+                file.flush()
+                self.prints('refused 1 at 8192' if size > 8192 else 'yes', WORD_TEST, OPTION, 'entry', file.name, '0')
+                self.prints('refused 1 at 65536' if size > 65536 else 'yes', WORD_TEST, OPTION, 'large', file.name, '0')
+
+    def test_no_instrument(self):
+        self.wants_an_instrument('word_test', WORD_TEST, CONDITION, '0', '2')
+
     def test_help(self):
-        out, err = run(WORD_TEST, '--help')
-        self.assertTrue(out.startswith('usage: word_test SHEET CONDITION EVENT...\n'))
-        self.assertEqual(err, '')
+        for words in [[], [OPTION, 'entry'], [OPTION, 'large']]:
+            out, err = run(WORD_TEST, *words, '--help')
+            self.assertTrue(out.startswith(WORD_USAGE + '\n'))
+            self.assertEqual(err, '')
+
+    def test_wrong_arguments_behind_the_option(self):
+        """The numbers of the arguments go on from the option's."""
+        for word in ['large', 'entry']:
+            self.says("word_test: argument 3 is missing: expected the sheet's file\n" + WORD_USAGE, WORD_TEST, OPTION, word)
+            self.says("word_test: argument 4 is missing: expected the condition's number\n" + WORD_USAGE, WORD_TEST, OPTION, word, CONDITION)
+            self.says("word_test: argument 4 is `x`: expected the condition's number", WORD_TEST, OPTION, word, CONDITION, 'x', '2')
+            self.says('word_test: argument 6 is `x`: expected an event, a number from 0 to 31',
+                      WORD_TEST, OPTION, word, CONDITION, '0', '2', 'x')
+            self.says(f"word_test: argument 2 is `{OPTION}`: expected the condition's number", WORD_TEST, CONDITION, OPTION, word)
 
     def test_wrong_arguments(self):
-        usage = '\nusage: word_test SHEET CONDITION EVENT...'
+        usage = '\n' + WORD_USAGE
         self.says("word_test: argument 1 is missing: expected the sheet's file" + usage, WORD_TEST)
         self.says("word_test: argument 2 is missing: expected the condition's number" + usage, WORD_TEST, CONDITION)
         for text in ['x', '', '-1', '1 ', '0x1']:

@@ -5,14 +5,14 @@ import sys
 import unittest
 from collections import Counter
 from functools import lru_cache
-from itertools import chain, product
+from itertools import chain, islice, product
 from pathlib import Path
 
 from generate import faults
 from generate.draws import Draws
 from generate.refusals import reading_cases
-from generate.special import (EXAMPLES, M, closing_loops, examples, last_cases,
-                              listed_examples, special_cases, starred)
+from generate.special import (ENTRY_EXAMPLES, EXAMPLES, M, closing_loops, examples,
+                              last_cases, listed_examples, special_cases, starred)
 from generate.trees import random_tree
 from generate.plans import recursion, repeated_calls
 from generate.true_sheets import true_sheets
@@ -22,6 +22,7 @@ from reference.certificates import (Fault, first_fault, is_included, moves,
 from reference.conditions import (ANY, EITHER, EMPTY, JOIN, LEAF, STAR, holds,
                                   parse_postfix, places_of, postfix, step)
 from reference.inclusion import missing_word
+from reference.instruments import ENTRY, INSTRUMENTS, LARGE
 from reference.loader import load_line, verdict, word_line, word_line_of
 from reference.reading import Refusal, read_sheet, reading_line
 from reference.rules import all_rules, certificates_needed, rule_count
@@ -689,16 +690,24 @@ class Examples(unittest.TestCase):
                          sheets | texts | {"README.md"})
 
     def test_texts(self):
-        """Each text gives its sheet, and has the line of the table."""
-        listed = {f"{case.label}.txt": case for case in listed_examples()}
-        for case in examples():
-            self.assertEqual((case.data, case.line), listed[case.label][1:],
-                             case.label)
-        self.assertEqual(listed["cut.txt"].data, M[:-1])
+        """Each text gives its sheet, and has the lines of the table and below it."""
+        for instrument in INSTRUMENTS.values():
+            listed = {case.label: case for case in listed_examples(instrument)}
+            for case in examples(instrument):
+                self.assertEqual(case, listed[case.label])
+            self.assertEqual(listed["cut"].data, M[:-1])
 
     def test_lines(self):
-        for case in listed_examples():
-            self.assertEqual(load_line(case.data), case.line, case.label)
+        for instrument in INSTRUMENTS.values():
+            for case in listed_examples(instrument):
+                self.assertEqual(load_line(case.data, instrument), case.line,
+                                 case.label)
+
+    def test_instruments_differ(self):
+        """Just the examples for the entry instrument have two lines."""
+        both = zip(listed_examples(), listed_examples(ENTRY))
+        self.assertEqual({large.label for large, entry in both
+                          if large.line != entry.line}, ENTRY_EXAMPLES)
 
 
 class Documents(unittest.TestCase):
@@ -745,6 +754,12 @@ class Documents(unittest.TestCase):
     def test_sheets_to_try(self):
         rows = re.findall(r"^\| (?!bytes|--)(.*) \| `(.*)` \|$",
                           self.section("Sheets to try"), re.M)
+        entry = [row for row in rows if row[0].endswith("entry instrument")]
+        self.assertEqual(len(entry), 2)
+        for shown, line in entry:
+            zeros = bytes(int(shown.split()[0].replace(",", "")))
+            self.assertEqual(load_line(zeros, ENTRY), line)
+        rows = [row for row in rows if row not in entry]
         self.assertEqual([line for _, line in rows],
                          [case.line for case in starred()])
         for (shown, line), case in zip(rows, starred()):
@@ -779,36 +794,35 @@ class Proofs(unittest.TestCase):
 class Vectors(unittest.TestCase):
     """The stored vectors are what the reference says."""
 
-    def lines(self, name):
-        """The stored lines have those of reading first, then those of sheets and of words."""
-        lines = (STORED / "stdout").read_text().splitlines()
-        read, loaded = (len(list(self.cases(name))) for name in ("reading", "sheets"))
-        return {"reading": lines[:read], "sheets": lines[read:read + loaded],
-                "words": lines[read + loaded:]}[name]
+    FILES = {"reading": LARGE, "sheets": LARGE, "words": LARGE,
+             "entry_reading": ENTRY, "entry_sheets": ENTRY, "entry_words": ENTRY}
 
-    def cases(self, name):
+    @classmethod
+    def setUpClass(cls):
+        """The stored lines have those of one file after those of another."""
+        lines = iter((STORED / "stdout").read_text().splitlines())
+        cls.lines = {name: list(islice(lines, cls.count(name)))
+                     for name in cls.FILES}
+        cls.left = list(lines)
+
+    @classmethod
+    def count(cls, name):
+        if name.endswith("words"):
+            return sum(len(words) for _, words in cls.groups(name))
+        return len(list(cls.cases(name)))
+
+    @staticmethod
+    def cases(name):
         data, at = (STORED / "data" / name).read_bytes(), 0
         while at < len(data):
             size = int.from_bytes(data[at:at + 4], "little")
             yield data[at + 4:at + 4 + size]
             at += 4 + size
 
-    def test_reading(self):
-        self.assertEqual([reading_line(data) for data in self.cases("reading")],
-                         self.lines("reading"))
-
-    def test_sheets(self):
-        self.assertEqual([load_line(data) for data in self.cases("sheets")],
-                         self.lines("sheets"))
-
-    def test_examples(self):
-        """Every sheet of examples/ is a stored case, with its line."""
-        stored = dict(zip(self.cases("sheets"), self.lines("sheets")))
-        for case in listed_examples():
-            self.assertEqual(stored.get(case.data), case.line, case.label)
-
-    def test_words(self):
-        data, at = (STORED / "data" / "words").read_bytes(), 0
+    @staticmethod
+    def groups(name):
+        """Each sheet with its conditions' numbers and words."""
+        data, at = (STORED / "data" / name).read_bytes(), 0
 
         def number(width):
             nonlocal at
@@ -820,19 +834,68 @@ class Vectors(unittest.TestCase):
             at += size
             return data[at - size:at]
 
-        lines = []
         while at < len(data):
-            sheet = read_sheet(part(number(4)))
-            for _ in range(number(4)):
-                condition = number(2)
-                lines.append(word_line_of(sheet, condition, part(number(2))))
-        self.assertEqual(lines, self.lines("words"))
+            sheet = part(number(4))
+            yield sheet, [(number(2), part(number(2)))
+                          for _ in range(number(4))]
+
+    def test_files(self):
+        """No line is left over, and there are no other files."""
+        self.assertEqual(self.left, [])
+        self.assertEqual({path.name for path in (STORED / "data").iterdir()},
+                         set(self.FILES))
+
+    def test_reading(self):
+        for name in ("reading", "entry_reading"):
+            self.assertEqual([reading_line(data, self.FILES[name])
+                              for data in self.cases(name)], self.lines[name])
+
+    def test_sheets(self):
+        for name in ("sheets", "entry_sheets"):
+            self.assertEqual([load_line(data, self.FILES[name])
+                              for data in self.cases(name)], self.lines[name])
+
+    def test_examples(self):
+        """Every sheet of examples/ is a stored case, with its line."""
+        for name in ("sheets", "entry_sheets"):
+            stored = dict(zip(self.cases(name), self.lines[name]))
+            for case in listed_examples(self.FILES[name]):
+                self.assertEqual(stored.get(case.data), case.line, case.label)
+
+    def test_words(self):
+        for name in ("words", "entry_words"):
+            lines = []
+            for data, words in self.groups(name):
+                sheet = read_sheet(data, self.FILES[name])
+                lines += [word_line_of(sheet, *one) for one in words]
+            self.assertEqual(lines, self.lines[name])
 
     def test_refusals_agree(self):
         """The loader gives refusals 1 to 9 as reading does."""
-        for data in self.cases("reading"):
-            if isinstance(result := read_sheet(data), Refusal):
-                self.assertEqual(verdict(data), result)
+        for name in ("reading", "entry_reading"):
+            for data in self.cases(name):
+                result = read_sheet(data, self.FILES[name])
+                if isinstance(result, Refusal):
+                    self.assertEqual(verdict(data, self.FILES[name]), result)
+
+    def test_smaller_instrument(self):
+        """The entry instrument's stored answer on a sheet is refusal 1 or 6, or is
+        the large one's; and so is its answer on the large one's stored sheets."""
+        answers = chain(
+            zip(self.lines["entry_sheets"],
+                (load_line(data) for data in self.cases("entry_sheets"))),
+            zip((load_line(data, ENTRY) for data in self.cases("sheets")),
+                self.lines["sheets"]))
+        found = Counter()
+        for entry, large in answers:
+            self.assertTrue(entry == large or entry == "refused 1 at 8192"
+                            or entry.startswith("refused 6 at "), (entry, large))
+            found[entry.split(" at ")[0] if entry != large else "equal",
+                  large.split()[0]] += 1
+        for entry in ("refused 1", "refused 6"):
+            self.assertGreater(found[entry, "accepted"], 0)
+        for large in ("accepted", "unproved", "refused"):
+            self.assertGreater(found["equal", large], 100)
 
 
 if __name__ == "__main__":

@@ -1,20 +1,22 @@
 """Writes the stored vectors: python3 -m generate.make_vectors [FOLDER]
 
-What the program stored_cases reads (data/reading, data/sheets, data/words) and
-what it must print (stdout), below FOLDER, its crate. The files are the same
-byte for byte each time. A case whose line document 01 gives by construction
-must get that line from the reference.
+What the program stored_cases reads (data/reading, data/sheets, data/words for the
+large instrument, data/entry_reading, data/entry_sheets, data/entry_words for the
+entry instrument) and what it must print (stdout), below FOLDER, its crate. The files
+are the same byte for byte each time. A case whose line document 01 gives by
+construction must get that line from the reference.
 """
 import sys
 import time
 from pathlib import Path
 
+from reference.instruments import ENTRY, LARGE
 from reference.loader import load_line, word_line_of
 from reference.reading import read_sheet, reading_line
 from reference.rules import rule_count
 from sheets.records import encode
 
-from . import faults
+from . import entry, faults
 from .refusals import Case, reading_cases, without_repeats
 from .special import last_cases, special_cases, wide_sides
 from .true_sheets import large_true_sheets, true_sheets
@@ -63,11 +65,11 @@ def all_sheet_cases():
     yield from last_cases()
 
 
-def write_cases(path, cases, line_of):
+def write_cases(path, cases, line_of, instrument):
     """Write the cases; return their lines."""
     parts, lines = [], []
     for case in without_repeats(cases):
-        line = line_of(case.data)
+        line = line_of(case.data, instrument)
         if not faults.agrees(case, line):
             raise AssertionError(f"{case.label}: {case.line!r}, found {line!r}")
         parts += [u32(len(case.data)), case.data]
@@ -76,11 +78,11 @@ def write_cases(path, cases, line_of):
     return lines
 
 
-def write_words(path):
+def write_words(path, groups, instrument):
     """Write the cases of words; return their lines."""
     parts, lines = [], []
-    for group in word_groups():
-        sheet = read_sheet(group.sheet)
+    for group in groups:
+        sheet = read_sheet(group.sheet, instrument)
         parts += [u32(len(group.sheet)), group.sheet, u32(len(group.cases))]
         for condition, word, expected in group.cases:
             line = word_line_of(sheet, condition, word)
@@ -93,16 +95,24 @@ def write_words(path):
     return lines
 
 
+# The files in the order of their lines: what writes one, and from what.
+FILES = {
+    "reading": (write_cases, all_reading_cases, reading_line, LARGE),
+    "sheets": (write_cases, all_sheet_cases, load_line, LARGE),
+    "words": (write_words, word_groups, LARGE),
+    "entry_reading": (write_cases, entry.reading_cases, reading_line, ENTRY),
+    "entry_sheets": (write_cases, entry.sheet_cases, load_line, ENTRY),
+    "entry_words": (write_words, entry.word_groups, ENTRY),
+}
+
+
 def main(arguments):
     folder = Path(arguments[0]) if arguments else FOLDER
     (folder / "data").mkdir(parents=True, exist_ok=True)
     start, lines = time.monotonic(), []
-    for name, make in (
-            ("reading", lambda path: write_cases(path, all_reading_cases(), reading_line)),
-            ("sheets", lambda path: write_cases(path, all_sheet_cases(), load_line)),
-            ("words", write_words)):
+    for name, (write, cases, *rest) in FILES.items():
         path = folder / "data" / name
-        found = make(path)
+        found = write(path, cases(), *rest)
         lines += found
         print(f"{name}: {len(found)} cases, {path.stat().st_size} bytes, "
               f"{time.monotonic() - start:.1f} s")

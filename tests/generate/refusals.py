@@ -6,7 +6,8 @@ gives by construction, or None where only the reference says it.
 from typing import NamedTuple
 
 from reference.conditions import EMPTY, JOIN, LEAF, STAR
-from reference.reading import BODY_LENGTHS, FIELDS, MAX_BYTES, SECTIONS
+from reference.instruments import LARGE
+from reference.reading import BODY_LENGTHS, FIELDS, SECTIONS
 from sheets import records as r
 
 from .draws import Draws
@@ -197,7 +198,7 @@ def primitive_first_cases():
             yield refused("9 primitive first", 9, before, primitive, after)
 
 
-def two_fault_cases():
+def two_fault_cases(instrument):
     """Two faults at one record; the table's order holds."""
     small, point, front = SMALL_BYTES, SMALL[2], b"\x02\x06"
     full = front * 256
@@ -212,8 +213,8 @@ def two_fault_cases():
         yield refused("4 over 5", 4, small, kind)
     yield refused("4 over 5: end of condition after points", 4,
                   full + point, b"\x06")
-    yield refused("4 over 6: 513th point", 4,
-                  front + point * 512 + SMALL[3], point)
+    yield refused(f"4 over 6: point {instrument.points}", 4,
+                  front + point * instrument.points + SMALL[3], point)
     yield refused("4 over 6: 65th method", 4,
                   small + SMALL[3] * 63 + r.pass_step(0, 0), SMALL[3])
     yield refused("4 over 7: point in a condition", 4, b"\x02", point)
@@ -224,10 +225,10 @@ def two_fault_cases():
                   r.primitive(0, 0, 0))
     yield refused("4 over 9: primitive after step", 4,
                   front + point + r.pass_step(0, 0), r.primitive(0, 0, 0))
-    yield from two_fault_limit_cases()
+    yield from two_fault_limit_cases(instrument)
 
 
-def two_fault_limit_cases():
+def two_fault_limit_cases(instrument):
     """Two faults at one record, one of them a limit or at the end."""
     small, point, front = SMALL_BYTES, SMALL[2], b"\x02\x06"
     stars = b"\x02" + b"\x05" * 95
@@ -237,8 +238,8 @@ def two_fault_limit_cases():
     yield refused("5 over 6: empty 257th condition", 5, front * 256, b"\x06")
     yield refused("5 over 6: 257th condition of two items", 5,
                   front * 256 + b"\x02\x02", b"\x06")
-    yield refused("6 over 7: 513th point", 6, front + point * 512,
-                  r.point(1, 0, 0))
+    yield refused(f"6 over 7: point {instrument.points}", 6,
+                  front + point * instrument.points, r.point(1, 0, 0))
     yield refused("6 over 7: 65th method", 6, small + SMALL[3] * 63,
                   r.method(0, 0, 0, 1, 0))
     yield refused("6 over 7: 65th method, a primitive", 6,
@@ -279,14 +280,15 @@ def condition_limit_cases():
                "refused 8 at 513")
 
 
-def count_limit_cases():
-    """512 and 513 points and steps, 64 and 65 methods, names at the edge."""
+def count_limit_cases(instrument):
+    """All points, 512 steps and 64 methods, one more, names at the edge."""
     front, point, method = b"\x02\x06", SMALL[2], SMALL[3]
-    primitive = r.primitive(0, 0, 0)
-    edge = r.method(0, 0, 0, 511, 511)
-    yield Case("512 points", front + point * 512 + edge, "read 1 512 1 0 0")
-    yield refused("513 points", 6, front + point * 512, point, method)
-    yield refused("7 at point 511", 7, front + point * 511, edge)
+    primitive, most = r.primitive(0, 0, 0), instrument.points
+    edge = r.method(0, 0, 0, most - 1, most - 1)
+    yield Case(f"{most} points", front + point * most + edge,
+               f"read 1 {most} 1 0 0")
+    yield refused(f"{most + 1} points", 6, front + point * most, point, method)
+    yield refused(f"7 at point {most - 1}", 7, front + point * (most - 1), edge)
     for last in (method, primitive):
         yield Case("64 methods", SMALL_BYTES + last * 63, "read 1 1 64 0 0")
         yield refused("65 methods", 6, SMALL_BYTES + last * 63, method)
@@ -302,23 +304,23 @@ def count_limit_cases():
             yield refused("513 steps", 6, SMALL_BYTES + one * 512, other)
 
 
-def byte_limit_cases():
-    """65,536 and 65,537 bytes."""
-    small = SMALL_BYTES
-    room = MAX_BYTES - len(small)
-    yield Case("65,536 zeros", bytes(MAX_BYTES), "refused 2 at 0")
-    yield Case("65,537 zeros", bytes(MAX_BYTES + 1), "refused 1 at 65536")
-    yield Case("65,536 bytes of empty certificates", small + b"\x0e" * room,
+def byte_limit_cases(instrument):
+    """All bytes, and one more."""
+    small, most = SMALL_BYTES, instrument.bytes
+    room, too_long = most - len(small), f"refused 1 at {most}"
+    yield Case(f"{most} zeros", bytes(most), "refused 2 at 0")
+    yield Case(f"{most + 1} zeros", bytes(most + 1), too_long)
+    yield Case(f"{most} bytes of empty certificates", small + b"\x0e" * room,
                f"read 1 1 1 0 {room}")
-    yield Case("65,537 bytes, else well read", small + b"\x0e" * (room + 1),
-               "refused 1 at 65536")
+    yield Case(f"{most + 1} bytes, else well read",
+               small + b"\x0e" * (room + 1), too_long)
     pairs, rest = divmod(room - 1, 6)
-    yield Case("65,536 bytes, one long certificate",
+    yield Case(f"{most} bytes, one long certificate",
                small + b"\x0e" * rest + r.pair(0, 1) * pairs + b"\x0e",
                f"read 1 1 1 0 {rest + 1}")
-    yield Case("65,536 bytes, the last record cut",
+    yield Case(f"{most} bytes, the last record cut",
                small + b"\x0e" * (room - 1) + b"\x0d",
-               "refused 3 at 65535")
+               f"refused 3 at {most - 1}")
 
 
 def changed_records(draws):
@@ -366,13 +368,26 @@ def random_cases(seed, count):
                                          range(draws.between(1, 60))))
 
 
-def reading_cases(seed=1, count=500):
-    """All cases for reading, in a fixed order."""
+def record_cases():
+    """The cases that no instrument's limits touch, in a fixed order."""
     for cases in (kind_cases, truncations, first_record_cut, order_cases,
                   base_order_cases, item_cases, name_cases, first_name_cases,
-                  end_cases, primitive_first_cases, two_fault_cases,
-                  condition_limit_cases, count_limit_cases, byte_limit_cases):
+                  end_cases, primitive_first_cases):
         yield from cases()
+
+
+def limit_cases(instrument):
+    """Two faults at one record, and every limit, in a fixed order."""
+    yield from two_fault_cases(instrument)
+    yield from condition_limit_cases()
+    yield from count_limit_cases(instrument)
+    yield from byte_limit_cases(instrument)
+
+
+def reading_cases(seed=1, count=500):
+    """All cases for reading on the large instrument, in a fixed order."""
+    yield from record_cases()
+    yield from limit_cases(LARGE)
     yield from random_cases(seed, count)
 
 

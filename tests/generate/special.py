@@ -3,8 +3,9 @@ import re
 from pathlib import Path
 
 from reference.conditions import ANY, EITHER, EMPTY, JOIN, LEAF, STAR
-from reference.reading import (CALL_STEP, EVENT_STEP, MAX_BYTES, PASS_STEP,
-                               Method, Point, Sheet, Step, read_sheet)
+from reference.instruments import ENTRY, LARGE
+from reference.reading import (CALL_STEP, EVENT_STEP, PASS_STEP, Method, Point,
+                               Sheet, Step, read_sheet)
 from reference.rules import rule_count
 from sheets.assemble import assemble
 from sheets.records import encode, with_certificates
@@ -15,26 +16,36 @@ from .refusals import Case
 from .trees import random_tree
 
 EXAMPLES = Path(__file__).resolve().parent.parent.parent / "examples"
-# Examples that stand behind all other stored cases.
-LATER_EXAMPLES = {"one_round.txt"}
+# Examples that stand behind the other stored cases for the large instrument: those
+# that came later, and those on which the entry instrument has another line.
+LATER_EXAMPLES = {"one_round"}
+ENTRY_EXAMPLES = {"long_walk"}
 ANY_STAR = (STAR, (LEAF, ANY))
 EMPTY_TREE = (EMPTY,)
 M = bytes.fromhex("0206" "07000000000000" "0900000000000000000000"
                   + "0d00010000000e" * 3)
 
 
-def examples():
-    """The texts of examples/; each one's first line has its answer."""
+def examples(instrument=LARGE):
+    """The texts of examples/; each one's first line has its answer, and the second
+    the answer of the entry instrument where that is another."""
     for path in sorted(EXAMPLES.glob("*.txt")):
         text = path.read_text(encoding="utf-8")
-        line = text.splitlines()[0].removeprefix("# loader: ")
-        yield Case(path.name, assemble(text), line)
+        found = dict(re.findall(r"^# (loader|entry instrument): (.*)$", text, re.M))
+        line = found["loader"]
+        if instrument == ENTRY:
+            line = found.get("entry instrument", line)
+        yield Case(path.stem, assemble(text), line)
 
 
-def listed_examples():
-    """The sheets that the table of examples/README.md lists, with its lines."""
+def listed_examples(instrument=LARGE):
+    """The sheets that the table of examples/README.md lists, with its lines; below
+    it stand the lines of the entry instrument that are others."""
     readme = (EXAMPLES / "README.md").read_text(encoding="utf-8")
-    for name, line in re.findall(r"^\| (\w+) \|.*\| `(.*)` \|$", readme, re.M):
+    lines = dict(re.findall(r"^\| (\w+) \|.*\| `(.*)` \|$", readme, re.M))
+    if instrument == ENTRY:
+        lines |= dict(re.findall(r"^- (\w+): `(.*)`$", readme, re.M))
+    for name, line in lines.items():
         yield Case(name, (EXAMPLES / f"{name}.sheet").read_bytes(), line)
 
 
@@ -52,8 +63,8 @@ def starred():
             Case("M cut", M[:-1], "refused 8 at 40"),
             Case("M with trace 1", trace_1, "unproved rule 5 method 0 clause 3"
                  " pair 0 event 0 place 0"),
-            Case("65,536 zeros", bytes(MAX_BYTES), "refused 2 at 0"),
-            Case("65,537 zeros", bytes(MAX_BYTES + 1), "refused 1 at 65536")]
+            Case("65,536 zeros", bytes(LARGE.bytes), "refused 2 at 0"),
+            Case("65,537 zeros", bytes(LARGE.bytes + 1), "refused 1 at 65536")]
 
 
 def accepted(label, sheet):
@@ -118,21 +129,22 @@ def wide_sides():
         yield accepted("wide sides", sheet)
 
 
-def longest():
-    """M with one certificate repeated up to 65,536 bytes, and one byte more."""
-    room = MAX_BYTES - len(M)
+def longest(instrument=LARGE):
+    """M with one pair repeated up to the instrument's bytes, and one byte more."""
+    room = instrument.bytes - len(M)
     pairs, rest = divmod(room, 6)
     unused = b"\x02" + b"\x05" * (rest - 2) + b"\x06"
     data = M[:2] + unused + M[2:20] + M[20:26] * pairs + M[20:]
-    yield Case("65,536 bytes, accepted", data, "accepted 6")
-    yield Case("65,537 bytes", data + b"\x0e", "refused 1 at 65536")
+    yield Case(f"{instrument.bytes} bytes, accepted", data, "accepted 6")
+    yield Case(f"{instrument.bytes + 1} bytes", data + b"\x0e",
+               f"refused 1 at {instrument.bytes}")
 
 
-def large_certificate():
+def large_certificate(joins=8):
     """A condition with many reachable pairs, against itself and its like."""
     both = (LEAF, 3)
     tree = (JOIN, (STAR, both), (LEAF, 1))
-    for _ in range(8):
+    for _ in range(joins):
         tree = (JOIN, tree, both)
     trees = [EMPTY_TREE, ANY_STAR, (EITHER, EMPTY_TREE, tree),
              (EITHER, tree, EMPTY_TREE)]
@@ -143,7 +155,7 @@ def large_certificate():
 
 def truncations():
     """Every beginning of M and of one example, as the loader sees it."""
-    example = next(case for case in examples() if case.label == "close_loop.txt")
+    example = next(case for case in examples() if case.label == "close_loop")
     for data in (M, example.data):
         for length in range(len(data)):
             yield Case(f"beginning of {length} bytes", data[:length])
@@ -213,7 +225,8 @@ def long_certificates():
 def special_cases():
     """All single sheets but those of last_cases."""
     yield from starred()
-    yield from (case for case in examples() if case.label not in LATER_EXAMPLES)
+    yield from (case for case in examples()
+                if case.label not in LATER_EXAMPLES | ENTRY_EXAMPLES)
     yield full_limits()
     yield many_calls()
     yield from wide_sides()
@@ -226,7 +239,10 @@ def special_cases():
 
 def last_cases():
     """What came later: the stored cases before it stay as they are."""
-    yield from listed_examples()
+    yield from (case for case in listed_examples()
+                if case.label not in ENTRY_EXAMPLES)
     for data in (M, (EXAMPLES / "close_loop.sheet").read_bytes()):
         yield from clauses_2_and_3(read_sheet(data))
     yield from long_certificates()
+    yield from (case for case in listed_examples()
+                if case.label in ENTRY_EXAMPLES)

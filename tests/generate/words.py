@@ -339,10 +339,10 @@ def refusal_group():
     return Group(sheet_of(trees), cases)
 
 
-def refused_sheet_groups():
+def refused_sheet_groups(cases):
     """Sheets that reading refuses: 1 to 9 come before 14, 12 and 13."""
     seen = {}
-    for case in reading_cases(count=0):
+    for case in cases:
         if case.line and case.line.startswith("refused"):
             number = case.line.split()[1]
             if len(case.data) < 200 or number == "1":
@@ -372,7 +372,7 @@ def word_groups(seed=31, groups=440, long_words=20):
     """All groups, in a fixed order."""
     yield edge_group()
     yield refusal_group()
-    yield from refused_sheet_groups()
+    yield from refused_sheet_groups(reading_cases(count=0))
     draws = Draws(seed)
     yield long_group(draws, long_trees(), long_words)
     yield long_group(draws, long_random_trees(draws, 16), 8)

@@ -1,13 +1,18 @@
-"""Document 01, "What the loader returns": verdicts, their lines, the word test."""
+"""Document 01, "What the loader returns": verdicts, their lines, the word test.
+
+    python3 -m reference.loader [--instrument large|entry] < sheet
+"""
 import sys
 from typing import NamedTuple
 
 from .certificates import Fault, first_fault
 from .conditions import EVENTS, holds, places_of
+from .instruments import LARGE, chosen_instrument
 from .reading import Refusal, read_sheet
 from .rules import Rule, all_rules, certificates_needed, rule_count
 
 MAX_WORD = 4096
+USAGE = "usage: python3 -m reference.loader [--instrument large|entry] < sheet"
 
 
 class Accepted(NamedTuple):
@@ -19,9 +24,9 @@ class Unproved(NamedTuple):
     fault: Fault
 
 
-def well_formed(data):
+def well_formed(data, instrument=LARGE):
     """The sheet, or the first of refusals 1 to 10."""
-    sheet = read_sheet(data)
+    sheet = read_sheet(data, instrument)
     if isinstance(sheet, Refusal):
         return sheet
     if len(sheet.certificates) != certificates_needed(sheet):
@@ -42,9 +47,9 @@ def first_unproved(sheet):
     return None
 
 
-def verdict(data):
+def verdict(data, instrument=LARGE):
     """What the loader returns for the bytes."""
-    sheet = well_formed(data)
+    sheet = well_formed(data, instrument)
     if isinstance(sheet, Refusal):
         return sheet
     return first_unproved(sheet) or Accepted(rule_count(sheet))
@@ -62,9 +67,9 @@ def line_of(result):
             f" event {fault.event} place {fault.place}")
 
 
-def load_line(data):
+def load_line(data, instrument=LARGE):
     """The one line that the loading program prints."""
-    return line_of(verdict(data))
+    return line_of(verdict(data, instrument))
 
 
 def word_line_of(sheet, condition, word):
@@ -81,10 +86,21 @@ def word_line_of(sheet, condition, word):
     return "yes" if holds(sheet.conditions[condition], word) else "no"
 
 
-def word_line(data, condition, word):
+def word_line(data, condition, word, instrument=LARGE):
     """The word test's line: the sheet, a condition's number and a word."""
-    return word_line_of(read_sheet(data), condition, word)
+    return word_line_of(read_sheet(data, instrument), condition, word)
+
+
+def main(arguments):
+    try:
+        instrument, rest = chosen_instrument(arguments)
+    except ValueError as error:
+        return str(error)
+    if rest:
+        return USAGE
+    print(load_line(sys.stdin.buffer.read(), instrument))
+    return None
 
 
 if __name__ == "__main__":
-    print(load_line(sys.stdin.buffer.read()))
+    sys.exit(main(sys.argv[1:]))

@@ -1,7 +1,9 @@
-"""Document 01, "Records" and refusals 1 to 9 of "What the loader returns"."""
+"""Document 01, "Records" and refusals 1 to 9 of "What the loader returns", on an
+instrument (document 02, Ask 8)."""
 from typing import NamedTuple
 
 from .conditions import EITHER, ITEMS, JOIN, LEAF, STAR, apply_record
+from .instruments import LARGE
 
 END_CONDITION, POINT, PRIMITIVE, METHOD = 6, 7, 8, 9
 EVENT_STEP, CALL_STEP, PASS_STEP, PAIR, END_CERTIFICATE = 10, 11, 12, 13, 14
@@ -12,11 +14,9 @@ SECTIONS = (1, 1, 1, 1, 1, 1, 2, 3, 3, 4, 4, 4, 5, 5)
 FIELDS = {POINT: "ccc", PRIMITIVE: "ccc", METHOD: "cccpp",
           EVENT_STEP: "ppe", CALL_STEP: "ppm", PASS_STEP: "pp"}
 
-MAX_BYTES = 65536
 MAX_CONDITIONS = 256
 MAX_RECORDS = 96
 MAX_LEAVES = 31
-MAX_POINTS = 512
 MAX_METHODS = 64
 MAX_STEPS = 512
 
@@ -101,7 +101,8 @@ def pair_of(record):
 class Reader:
     """What has been read so far, record by record."""
 
-    def __init__(self):
+    def __init__(self, instrument=LARGE):
+        self.instrument = instrument
         self.sheet = Sheet([], [], [], [], [])
         self.section = 1
         self.items = []           # items of the open condition
@@ -135,7 +136,7 @@ class Reader:
         if kind == END_CONDITION:
             return len(sheet.conditions) == MAX_CONDITIONS
         if kind == POINT:
-            return len(sheet.points) == MAX_POINTS
+            return len(sheet.points) == self.instrument.points
         if kind in (PRIMITIVE, METHOD):
             return len(sheet.methods) == MAX_METHODS
         return kind < PAIR and len(sheet.steps) == MAX_STEPS
@@ -204,11 +205,11 @@ class Reader:
             self.sheet.steps.append(Step(record.kind, *values))
 
 
-def read_sheet(data):
+def read_sheet(data, instrument=LARGE):
     """The sheet that the bytes stand for, or the first of refusals 1 to 9."""
-    if len(data) > MAX_BYTES:
-        return Refusal(1, MAX_BYTES)
-    reader, offset = Reader(), 0
+    if len(data) > instrument.bytes:
+        return Refusal(1, instrument.bytes)
+    reader, offset = Reader(instrument), 0
     while offset < len(data):
         record = read_record(data, offset)
         if isinstance(record, Refusal):
@@ -221,9 +222,9 @@ def read_sheet(data):
     return reader.refusal_at_end(len(data)) or reader.sheet
 
 
-def reading_line(data):
+def reading_line(data, instrument=LARGE):
     """One line: the refusal of 1 to 9, or the five counts."""
-    result = read_sheet(data)
+    result = read_sheet(data, instrument)
     if isinstance(result, Refusal):
         return f"refused {result.number} at {result.place}"
     return "read " + " ".join(str(len(part)) for part in result)

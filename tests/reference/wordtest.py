@@ -1,15 +1,21 @@
 """Document 01, the word test as a program.
 
-    python3 -m reference.wordtest SHEET-FILE CONDITION EVENT...
+    python3 -m reference.wordtest [--instrument large|entry] SHEET-FILE CONDITION EVENT...
 """
 import sys
 
+from .instruments import chosen_instrument
 from .loader import word_line
 
-USAGE = "usage: python3 -m reference.wordtest SHEET-FILE CONDITION EVENT..."
+USAGE = ("usage: python3 -m reference.wordtest [--instrument large|entry] "
+         "SHEET-FILE CONDITION EVENT...")
 
 
 def main(arguments):
+    try:
+        instrument, arguments = chosen_instrument(arguments)
+    except ValueError as error:
+        return str(error)
     if len(arguments) < 2:
         return USAGE
     try:
@@ -20,7 +26,7 @@ def main(arguments):
     if condition < 0:
         return "the condition is a number from 0"
     with open(arguments[0], "rb") as file:
-        print(word_line(file.read(), condition, word))
+        print(word_line(file.read(), condition, word, instrument))
     return None
 
 

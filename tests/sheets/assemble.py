@@ -1,7 +1,8 @@
 """Assembler for the sheets of document 01: python3 sheets/assemble.py FILE > sheet
 
 One statement a line; # starts a comment; names are defined before use.
-docs/SHEETS.md has the whole form.
+docs/SHEETS.md has the whole form. `--instrument entry` in front of FILE holds the
+sheet to the limits of the entry instrument.
 
     event NAME = NUMBER
     condition NAME = EXPRESSION
@@ -21,13 +22,15 @@ if not __package__:  # run as a file, from any folder
     sys.path[0] = str(Path(__file__).resolve().parent.parent)
 
 from reference.conditions import LEAF, postfix
-from reference.reading import (CALL_STEP, EVENT_STEP, MAX_BYTES, MAX_CONDITIONS,
-                               MAX_LEAVES, MAX_METHODS, MAX_POINTS, MAX_RECORDS,
-                               MAX_STEPS, PASS_STEP, Method, Point, Sheet, Step)
+from reference.instruments import LARGE, chosen_instrument
+from reference.reading import (CALL_STEP, EVENT_STEP, MAX_CONDITIONS, MAX_LEAVES,
+                               MAX_METHODS, MAX_RECORDS, MAX_STEPS, PASS_STEP,
+                               Method, Point, Sheet, Step)
 
 from sheets.expressions import (NAME, RESERVED, ExpressionError, event_number,
                                 parse_expression)
-from sheets.records import TooManyPairs, encode, with_certificates
+from sheets.records import (TooManyPairs, encode, most_pairs,
+                            with_certificates)
 
 
 class TextError(Exception):
@@ -41,7 +44,8 @@ class TextError(Exception):
 class Assembler:
     """The sheet that the lines so far stand for."""
 
-    def __init__(self):
+    def __init__(self, instrument=LARGE):
+        self.instrument = instrument
         self.sheet = Sheet([], [], [], [], [])
         self.words = {}       # names in expressions: events, conditions' trees
         self.conditions = {}  # numbers by name
@@ -133,7 +137,7 @@ class Assembler:
 
     def point(self, words):
         name, values = self.named(words, ("past", "own", "due"), "point")
-        self.room(self.sheet.points, MAX_POINTS, "points")
+        self.room(self.sheet.points, self.instrument.points, "points")
         self.points[self.new_name(name, self.points)] = len(self.sheet.points)
         self.sheet.points.append(Point(*values))
 
@@ -178,7 +182,7 @@ class Assembler:
         if not self.sheet.methods:
             self.fail("there is no method")
         try:
-            return with_certificates(self.sheet)
+            return with_certificates(self.sheet, most_pairs(self.instrument))
         except TooManyPairs as error:
             rule = error.rule
             lines = self.method_lines if rule.number < 7 else self.step_lines
@@ -186,27 +190,31 @@ class Assembler:
                             f"rule {rule.number} do not fit in a sheet") from None
 
 
-def assemble(text):
+def assemble(text, instrument=LARGE):
     """The bytes of the sheet that the text stands for."""
     if text.startswith("\ufeff"):
         raise TextError(1, "the text starts with a byte order mark (BOM); "
                         "save it without one")
-    assembler = Assembler()
+    assembler = Assembler(instrument)
     for number, line in enumerate(text.splitlines(), 1):
         assembler.statement(number, line)
     data = encode(assembler.finish())
-    if len(data) > MAX_BYTES:
+    if len(data) > instrument.bytes:
         assembler.fail(f"the sheet takes {len(data)} bytes, "
-                       f"more than {MAX_BYTES}")
+                       f"more than {instrument.bytes}")
     return data
 
 
 def main(arguments):
+    try:
+        instrument, arguments = chosen_instrument(arguments)
+    except ValueError as error:
+        return str(error)
     if len(arguments) != 1:
-        return "usage: assemble.py FILE > sheet"
+        return "usage: assemble.py [--instrument large|entry] FILE > sheet"
     try:
         with open(arguments[0], encoding="utf-8") as file:
-            data = assemble(file.read())
+            data = assemble(file.read(), instrument)
     except TextError as error:
         return f"{arguments[0]}:{error.line}: {error}"
     except (OSError, UnicodeDecodeError) as error:

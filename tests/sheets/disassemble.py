@@ -1,6 +1,7 @@
 """Disassembler for the sheets of document 01: python3 sheets/disassemble.py SHEET
 
-Without SHEET, standard input is read.
+Without SHEET, standard input is read. `--instrument entry` in front is for the
+entry instrument.
 Prints a sheet record by record: offset, kind, what it is. The last line is
 the loader's. A sheet that reading refuses is printed up to the refusal.
 """
@@ -11,11 +12,12 @@ from pathlib import Path
 if not __package__:  # run as a file, from any folder
     sys.path[0] = str(Path(__file__).resolve().parent.parent)
 
+from reference.instruments import LARGE, chosen_instrument
 from reference.loader import load_line
 from reference.reading import (CALL_STEP, END_CERTIFICATE, END_CONDITION,
-                               EVENT_STEP, MAX_BYTES, METHOD, PAIR, PASS_STEP,
-                               POINT, PRIMITIVE, Reader, Refusal, fields_of,
-                               pair_of, read_record)
+                               EVENT_STEP, METHOD, PAIR, PASS_STEP, POINT,
+                               PRIMITIVE, Reader, Refusal, fields_of, pair_of,
+                               read_record)
 from reference.conditions import LEAF
 from reference.rules import all_rules
 
@@ -40,8 +42,8 @@ def certificate_owners(sheet):
 class Printer:
     """The lines of a sheet, record by record."""
 
-    def __init__(self):
-        self.reader = Reader()
+    def __init__(self, instrument=LARGE):
+        self.reader = Reader(instrument)
         self.owners = None
 
     def owner(self):
@@ -83,7 +85,7 @@ class Printer:
     def lines(self, data):
         """Every line before the loader's."""
         offset = 0
-        while offset < len(data) <= MAX_BYTES:
+        while offset < len(data) <= self.reader.instrument.bytes:
             record = read_record(data, offset)
             if isinstance(record, Refusal) or self.reader.refusal_at(record):
                 yield f"{offset:6}  {data[offset:offset + 11].hex(' ')}"
@@ -98,14 +100,19 @@ def show_places(places):
     return ",".join(str(place) for place in range(32) if places >> place & 1)
 
 
-def disassemble(data):
+def disassemble(data, instrument=LARGE):
     """All lines for the bytes of a sheet."""
-    return list(Printer().lines(data)) + [load_line(data)]
+    return (list(Printer(instrument).lines(data))
+            + [load_line(data, instrument)])
 
 
 def main(arguments):
+    try:
+        instrument, arguments = chosen_instrument(arguments)
+    except ValueError as error:
+        return str(error)
     if len(arguments) > 1:
-        return "usage: disassemble.py [SHEET]"
+        return "usage: disassemble.py [--instrument large|entry] [SHEET]"
     try:
         if arguments:
             data = Path(arguments[0]).read_bytes()
@@ -114,7 +121,7 @@ def main(arguments):
     except OSError as error:
         return f"{arguments[0] if arguments else 'standard input'}: {error}"
     try:
-        print("\n".join(disassemble(data)), flush=True)
+        print("\n".join(disassemble(data, instrument)), flush=True)
     except BrokenPipeError:
         # Who reads has enough; what is left to write goes nowhere.
         os.dup2(os.open(os.devnull, os.O_WRONLY), sys.stdout.fileno())

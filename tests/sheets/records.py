@@ -1,11 +1,11 @@
 """Document 01, "Records": writing them, and certificates as reachable pairs."""
 from reference.certificates import reachable_pairs
 from reference.conditions import LEAF, postfix
+from reference.instruments import LARGE
 from reference.reading import EVENT_STEP, CALL_STEP, Sheet
 from reference.rules import all_rules
 
-# A pair takes 6 bytes, so no sheet has more.
-MAX_PAIRS = 65536 // 6
+PAIR_BYTES = 6
 
 
 def u16(*values):
@@ -83,6 +83,11 @@ def encode(sheet):
         + [certificate(pairs) for pairs in sheet.certificates])
 
 
+def most_pairs(instrument=LARGE):
+    """A number of pairs that no sheet of the instrument is above."""
+    return instrument.bytes // PAIR_BYTES
+
+
 class TooManyPairs(Exception):
     """The reachable pairs up to a rule do not fit; holds the rule."""
 
@@ -91,7 +96,7 @@ class TooManyPairs(Exception):
         self.rule = rule
 
 
-def with_certificates(sheet, limit=MAX_PAIRS):
+def with_certificates(sheet, limit=most_pairs()):
     """The sheet with all reachable pairs, breadth first, as certificates."""
     certificates, left = [], limit
     for rule in all_rules(sheet):
