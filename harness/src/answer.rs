@@ -1,4 +1,5 @@
 //! What a loader returns, and the lines it prints.
+use crate::instrument::Instrument;
 use std::fmt;
 
 /// A refusal's number and, where it has one, its place.
@@ -60,13 +61,34 @@ pub enum Answer {
     Refused(Refusal),
 }
 
-/// One implementation of the loader.
+impl Verdict {
+    pub fn refusal(&self) -> Option<Refusal> {
+        match self {
+            Verdict::Refused(refusal) => Some(*refusal),
+            _ => None,
+        }
+    }
+}
+
+impl Answer {
+    pub fn refusal(&self) -> Option<Refusal> {
+        match self {
+            Answer::Refused(refusal) => Some(*refusal),
+            _ => None,
+        }
+    }
+}
+
+/// One implementation of the loader. The library takes the two instruments by their
+/// numbers, the others take any limits.
 #[derive(Clone, Copy)]
 pub struct Doors {
     pub name: &'static str,
-    pub load: fn(&[u8]) -> Verdict,
-    pub word_test: fn(&[u8], usize, &[u8]) -> Answer,
-    pub read: fn(&[u8]) -> Result<Counts, Refusal>,
+    pub load: fn(&Instrument, &[u8]) -> Verdict,
+    /// The entry instrument's, which the library has as a door of its own.
+    pub load_entry: fn(&[u8]) -> Verdict,
+    pub word_test: fn(&Instrument, &[u8], usize, &[u8]) -> Answer,
+    pub read: fn(&Instrument, &[u8]) -> Result<Counts, Refusal>,
 }
 
 impl fmt::Display for Refusal {

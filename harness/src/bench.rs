@@ -1,6 +1,7 @@
 //! Timings of the loaders on the same families, in turn, in processor time.
 use crate::answer::Doors;
 use crate::clock;
+use crate::instrument::{Instrument, ENTRY, LARGE};
 use crate::sheets;
 use std::hint::black_box;
 use std::time::Duration;
@@ -48,10 +49,10 @@ fn families() -> Vec<(&'static str, Make)> {
         ("large honest certificate", sheets::large_certificate),
     ];
     for (name, make) in loads {
-        list.push((name, Box::new(move |name| one_load(name, make()))));
+        list.push((name, Box::new(move |name| one_load(name, LARGE, make()))));
     }
     for (name, make) in sheets::HOSTILE {
-        list.push((name, Box::new(move |name| one_load(name, make(usize::MAX)))));
+        list.push((name, Box::new(move |name| one_load(name, LARGE, make(usize::MAX)))));
     }
     let words: [(&str, fn() -> (Vec<u8>, Vec<u8>)); 3] = [
         ("word in the same places", sheets::steady_word),
@@ -64,6 +65,9 @@ fn families() -> Vec<(&'static str, Make)> {
     list.push(("reading alone", Box::new(|name| reading(name, sheets::many_rules()))));
     let records = |name: &str| reading(name, sheets::many_records());
     list.push(("reading alone, most records", Box::new(records)));
+    for (name, make) in sheets::ENTRY_SHEETS {
+        list.push((name, Box::new(move |name| one_load(name, ENTRY, make()))));
+    }
     list
 }
 
@@ -74,7 +78,7 @@ fn small(name: &str) -> Family {
     let parts = small.len();
     let work = Box::new(move |doors: &Doors| {
         for sheet in &small {
-            black_box((doors.load)(black_box(sheet)));
+            black_box((doors.load)(&LARGE, black_box(sheet)));
         }
     });
     Family { name, work, parts }
@@ -83,16 +87,16 @@ fn small(name: &str) -> Family {
 fn reading(name: &str, sheet: Vec<u8>) -> Family {
     let name = format!("{name}, {} bytes", sheet.len());
     let work = Box::new(move |doors: &Doors| {
-        black_box((doors.read)(black_box(&sheet)).is_ok());
+        black_box((doors.read)(&LARGE, black_box(&sheet)).is_ok());
     });
     Family { name, work, parts: 1 }
 }
 
-fn one_load(name: &str, sheet: Vec<u8>) -> Family {
+fn one_load(name: &str, on: Instrument, sheet: Vec<u8>) -> Family {
     let pairs = sheets::pairs(&sheet);
     let name = format!("{name}, {} bytes, {pairs} pairs", sheet.len());
     let work = Box::new(move |doors: &Doors| {
-        black_box((doors.load)(black_box(&sheet)));
+        black_box((doors.load)(&on, black_box(&sheet)));
     });
     Family { name, work, parts: 1 }
 }
@@ -100,7 +104,7 @@ fn one_load(name: &str, sheet: Vec<u8>) -> Family {
 fn one_word(name: &str, (sheet, word): (Vec<u8>, Vec<u8>)) -> Family {
     let name = format!("{name}, {} events on 31 leaves", word.len());
     let work = Box::new(move |doors: &Doors| {
-        black_box((doors.word_test)(black_box(&sheet), 1, black_box(&word)));
+        black_box((doors.word_test)(&LARGE, black_box(&sheet), 1, black_box(&word)));
     });
     Family { name, work, parts: 1 }
 }

@@ -1,24 +1,23 @@
-//! Two loaders on the same random sheets and words.
-use crate::answer::{Answer, Doors, Verdict};
+//! Two loaders on the same random sheets and words, on a smaller and a larger
+//! instrument each, and what request 8 states of the two instruments.
+mod seen;
+
+use crate::answer::{Doors, Verdict};
+use crate::instrument::{Instrument, ENTRY, LARGE};
 use crate::random::Random;
 use crate::sheets::{self, Test};
+use crate::smaller::{Related, Ways};
+use crate::vectors;
+use seen::Seen;
+use std::fmt::Display;
 
 /// Differences that are shown.
 const SHOWN: usize = 5;
 /// Bytes of a sheet that are shown.
 const SHOWN_BYTES: usize = 4_096;
 
-/// How often each kind of answer was seen.
-#[derive(Default)]
-struct Seen {
-    accepted: usize,
-    refused: [usize; 15],
-    /// By rule and clause.
-    unproved: [[usize; 6]; 18],
-    yes: usize,
-    no: usize,
-    word_refused: [usize; 15],
-}
+/// A smaller instrument and a larger one.
+type Pair = [Instrument; 2];
 
 struct Comparison<'a> {
     one: &'a Doors,
@@ -27,108 +26,167 @@ struct Comparison<'a> {
     words: usize,
     differences: usize,
     seen: Seen,
+    /// The second loader's answers on the entry and the large instrument, and on
+    /// instruments with random limits.
+    models: Related,
+    limits: Related,
 }
 
 /// Compares two loaders on a number of sheets; returns the differences.
 pub fn compare(one: &Doors, two: &Doors, sheets: usize, seed: u64) -> usize {
-    let seen = Seen::default();
-    let mut comparison = Comparison { one, two, loads: 0, words: 0, differences: 0, seen };
+    run(one, two, sheets, seed, false)
+}
+
+/// The same, and on two instruments with random limits for each sheet.
+pub fn self_check(one: &Doors, two: &Doors, sheets: usize, seed: u64) -> usize {
+    run(one, two, sheets, seed, true)
+}
+
+fn run(one: &Doors, two: &Doors, sheets: usize, seed: u64, any_limits: bool) -> usize {
+    let mut comparison = Comparison {
+        one,
+        two,
+        loads: 0,
+        words: 0,
+        differences: 0,
+        seen: Seen::default(),
+        models: Related::default(),
+        limits: Related::default(),
+    };
     let mut seeds = Random::new(seed);
     for _ in 0..sheets {
         let mut random = Random::new(seeds.next());
         let sheet = sheets::sheet(&mut random);
-        comparison.sheet(&sheet);
-        for test in sheets::words(&sheet, &mut random) {
-            comparison.word(&sheet, &test);
+        let words = sheets::words(&sheet, &mut random);
+        comparison.models(&sheet, &words);
+        if any_limits {
+            comparison.limits(&sheet, &words, sheets::limits(&sheet, &mut random));
         }
     }
-    comparison.report(seed);
+    comparison.report(seed, any_limits);
     comparison.differences
 }
 
 impl Comparison<'_> {
-    fn sheet(&mut self, sheet: &[u8]) {
+    /// A sheet and its words on the entry and the large instrument.
+    fn models(&mut self, sheet: &[u8], words: &[Test]) {
+        let mut related = std::mem::take(&mut self.models);
+        let [entry, large] = self.pair(sheet, words, [ENTRY, LARGE], &mut related);
+        self.models = related;
+        let points = (self.one.read)(&LARGE, sheet).ok().map(|counts| counts.points);
+        self.seen.near(sheet.len(), points, [&large, &entry]);
+        let alone = (self.two.load_entry)(sheet);
+        if alone != entry {
+            self.differ(sheet, "load", [("load", &entry), ("load_entry", &alone)]);
+        }
+    }
+
+    /// The same on two others.
+    fn limits(&mut self, sheet: &[u8], words: &[Test], pair: Pair) {
+        let mut related = std::mem::take(&mut self.limits);
+        self.pair(sheet, words, pair, &mut related);
+        self.limits = related;
+    }
+
+    /// The second loader's verdicts on two instruments, after all comparisons.
+    fn pair(
+        &mut self,
+        sheet: &[u8],
+        words: &[Test],
+        pair: Pair,
+        related: &mut Related,
+    ) -> [Verdict; 2] {
+        let verdicts = pair.map(|on| self.load(&on, sheet));
+        if !related.verdicts(&pair[0], &verdicts) {
+            self.broken(sheet, "load", pair, [&verdicts[0], &verdicts[1]]);
+        }
+        self.readings(sheet, pair, &mut related.readings);
+        for test in words {
+            self.word(sheet, test, pair, &mut related.words);
+        }
+        verdicts
+    }
+
+    fn load(&mut self, on: &Instrument, sheet: &[u8]) -> Verdict {
         self.loads += 1;
-        let one = (self.one.load)(sheet);
-        let two = (self.two.load)(sheet);
-        self.seen.verdict(&one);
+        let one = (self.one.load)(on, sheet);
+        let two = (self.two.load)(on, sheet);
+        self.seen.verdict(on, &one);
         if one != two {
-            self.differ("load", sheet, &one.to_string(), &two.to_string());
+            self.unlike(sheet, "load", on, [&one, &two]);
         }
-        let one = (self.one.read)(sheet);
-        let two = (self.two.read)(sheet);
-        if one != two {
-            self.differ("read", sheet, &format!("{one:?}"), &format!("{two:?}"));
+        two
+    }
+
+    fn readings(&mut self, sheet: &[u8], pair: Pair, ways: &mut Ways) {
+        let [small, large] = pair.map(|on| {
+            let one = (self.one.read)(&on, sheet);
+            let two = (self.two.read)(&on, sheet);
+            if one != two {
+                self.unlike(sheet, "read", &on, [&vectors::line(&one), &vectors::line(&two)]);
+            }
+            two
+        });
+        if !ways.count(&pair[0], small.err(), small == large) {
+            self.broken(sheet, "read", pair, [&vectors::line(&small), &vectors::line(&large)]);
         }
     }
 
-    fn word(&mut self, sheet: &[u8], test: &Test) {
-        self.words += 1;
-        let one = (self.one.word_test)(sheet, test.condition, &test.word);
-        let two = (self.two.word_test)(sheet, test.condition, &test.word);
-        self.seen.answer(&one);
-        if one != two {
-            let what = format!("condition {}, word {}", test.condition, hex(&test.word));
-            self.differ(&what, sheet, &one.to_string(), &two.to_string());
+    fn word(&mut self, sheet: &[u8], test: &Test, pair: Pair, ways: &mut Ways) {
+        let what = || format!("condition {}, word {}", test.condition, hex(&test.word));
+        let [small, large] = pair.map(|on| {
+            self.words += 1;
+            let one = (self.one.word_test)(&on, sheet, test.condition, &test.word);
+            let two = (self.two.word_test)(&on, sheet, test.condition, &test.word);
+            self.seen.answer(&on, &one);
+            if one != two {
+                self.unlike(sheet, &what(), &on, [&one, &two]);
+            }
+            two
+        });
+        if !ways.count(&pair[0], small.refusal(), small == large) {
+            self.broken(sheet, &what(), pair, [&small, &large]);
         }
     }
 
-    fn differ(&mut self, what: &str, sheet: &[u8], one: &str, two: &str) {
+    /// The loaders' answers differ.
+    fn unlike(&mut self, sheet: &[u8], what: &str, on: &Instrument, [one, two]: [&dyn Display; 2]) {
+        let answers = [(self.one.name, one), (self.two.name, two)];
+        self.differ(sheet, &format!("{what}, {}", limits(on)), answers);
+    }
+
+    /// Request 8's statement is false of the second loader's answers.
+    fn broken(&mut self, sheet: &[u8], what: &str, pair: Pair, [one, two]: [&dyn Display; 2]) {
+        let [small, large] = pair.map(|on| limits(&on));
+        let what = format!("{what}, {} on two instruments", self.two.name);
+        self.differ(sheet, &what, [(&small, one), (&large, two)]);
+    }
+
+    fn differ(&mut self, sheet: &[u8], what: &str, answers: [(&str, &dyn Display); 2]) {
         self.differences += 1;
         if self.differences <= SHOWN {
             println!("difference {}: {what}, sheet of {} bytes", self.differences, sheet.len());
-            println!("  {}: {one}", self.one.name);
-            println!("  {}: {two}", self.two.name);
+            for (whose, answer) in answers {
+                println!("  {whose}: {answer}");
+            }
             println!("  {}", hex(sheet));
         }
     }
 
-    fn report(&self, seed: u64) {
+    fn report(&self, seed: u64, any_limits: bool) {
         println!("{} against {}, seed {seed}", self.one.name, self.two.name);
-        println!("{} sheets loaded and read, {} words tested", self.loads, self.words);
-        println!("{} differences", self.differences);
-        println!();
+        println!("{} loads and readings, {} words tested", self.loads, self.words);
+        println!("{} differences\n", self.differences);
         self.seen.print();
+        self.models.print(ENTRY.name, LARGE.name);
+        if any_limits {
+            self.limits.print("the smaller", "the larger");
+        }
     }
 }
 
-impl Seen {
-    fn verdict(&mut self, verdict: &Verdict) {
-        match verdict {
-            Verdict::Accepted(_) => self.accepted += 1,
-            Verdict::Refused(refusal) => self.refused[refusal.number] += 1,
-            Verdict::Unproved { rule, fault, .. } => self.unproved[*rule][fault.clause] += 1,
-        }
-    }
-
-    fn answer(&mut self, answer: &Answer) {
-        match answer {
-            Answer::Yes => self.yes += 1,
-            Answer::No => self.no += 1,
-            Answer::Refused(refusal) => self.word_refused[refusal.number] += 1,
-        }
-    }
-
-    fn print(&self) {
-        println!("| answer | loads | word tests |");
-        println!("|---|---|---|");
-        println!("| accepted | {} | |", self.accepted);
-        println!("| yes | | {} |", self.yes);
-        println!("| no | | {} |", self.no);
-        for number in 1..15 {
-            let (loads, words) = (self.refused[number], self.word_refused[number]);
-            if number != 11 {
-                println!("| refused {number} | {loads} | {words} |");
-            }
-        }
-        println!();
-        println!("| unproved | clause 1 | clause 2 | clause 3 | clause 4 | clause 5 |");
-        println!("|---|---|---|---|---|---|");
-        for (rule, clauses) in self.unproved.iter().enumerate().skip(1) {
-            let cells: Vec<String> = clauses[1..].iter().map(usize::to_string).collect();
-            println!("| rule {rule} | {} |", cells.join(" | "));
-        }
-    }
+fn limits(on: &Instrument) -> String {
+    format!("{} ({} bytes, {} points)", on.name, on.bytes, on.points)
 }
 
 fn hex(bytes: &[u8]) -> String {

@@ -5,6 +5,7 @@ mod bench;
 mod clock;
 mod compare;
 mod derivatives;
+mod instrument;
 mod library;
 mod naive;
 mod random;
@@ -13,6 +14,7 @@ mod runs;
 mod search;
 mod sheets;
 mod simulate;
+mod smaller;
 mod stack;
 #[cfg(test)]
 mod tests;
@@ -20,18 +22,20 @@ mod tree;
 mod vectors;
 
 use answer::Doors;
+use instrument::{Instrument, LARGE};
 use std::io::Read;
 use std::process::ExitCode;
 
-const USAGE: &str = "commands:
-  compare N --seed S      N sheets: library against reference, or reference against naive
-  self-check N --seed S   N sheets: reference against naive
+const USAGE: &str = "commands; I is large, which stands where none is given, or entry:
+  compare N --seed S      N sheets on both instruments: library against reference, or reference against naive
+  self-check N --seed S   N sheets on both, and on two with random limits: reference against naive
   vectors CRATES          stored cases of the gate's programs
   runs CRATES --seed S    random runs of the stored sheets that are accepted
   bench [WORD]            timings of the families, or of those with WORD in their name
-  search N --seed S       N tries to find the certificate that takes longest
+  search [--instrument I] N --seed S
+                          N tries to find the certificate that takes longest
   stack                   stack used by one call
-  load                    the line for the sheet on standard input";
+  load [--instrument I]   the line for the sheet on standard input";
 
 fn main() -> ExitCode {
     let arguments: Vec<String> = std::env::args().skip(1).collect();
@@ -58,7 +62,7 @@ fn run(words: &[&str]) -> Result<usize, String> {
         }
         ["self-check", rest @ ..] => {
             let (sheets, seed) = numbers(rest)?;
-            Ok(compare::compare(&reference::DOORS, &naive::DOORS, sheets, seed))
+            Ok(compare::self_check(&reference::DOORS, &naive::DOORS, sheets, seed))
         }
         ["vectors", folder] => vectors::run(folder, &loaders()),
         ["runs", folder, rest @ ..] => {
@@ -74,15 +78,19 @@ fn run(words: &[&str]) -> Result<usize, String> {
             Ok(0)
         }
         ["search", rest @ ..] => {
+            let (on, rest) = instrument(rest)?;
             let (tries, seed) = numbers(rest)?;
-            search::search(&library::doors().unwrap_or(reference::DOORS), tries, seed);
+            search::search(&library::doors().unwrap_or(reference::DOORS), &on, tries, seed);
             Ok(0)
         }
         ["stack"] => {
             stack::stack(&loaders());
             Ok(0)
         }
-        ["load"] => load(),
+        ["load", rest @ ..] => match instrument(rest)? {
+            (on, []) => load(&on),
+            _ => Err(USAGE.to_string()),
+        },
         _ => Err(USAGE.to_string()),
     }
 }
@@ -94,6 +102,17 @@ fn loaders() -> Vec<Doors> {
 
 fn number(word: &str) -> Result<u64, String> {
     word.parse().map_err(|_| USAGE.to_string())
+}
+
+/// The instrument, the large one if none is given, and the words behind it.
+fn instrument<'a, 'b>(words: &'b [&'a str]) -> Result<(Instrument, &'b [&'a str]), String> {
+    match words {
+        ["--instrument", word, rest @ ..] => match Instrument::named(word) {
+            Some(on) => Ok((on, rest)),
+            None => Err(format!("{word} is no instrument: large or entry")),
+        },
+        _ => Ok((LARGE, words)),
+    }
 }
 
 /// The seed, 1 if none is given.
@@ -113,11 +132,11 @@ fn numbers(words: &[&str]) -> Result<(usize, u64), String> {
     }
 }
 
-fn load() -> Result<usize, String> {
+fn load(on: &Instrument) -> Result<usize, String> {
     let mut sheet = vec![];
     std::io::stdin().read_to_end(&mut sheet).map_err(|error| error.to_string())?;
     for doors in loaders() {
-        println!("{}: {}", doors.name, (doors.load)(&sheet));
+        println!("{}: {}", doors.name, (doors.load)(on, &sheet));
     }
     Ok(0)
 }

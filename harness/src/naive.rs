@@ -7,12 +7,13 @@ mod matching;
 mod reading;
 
 use crate::answer::{Answer, Counts, Doors, Fault, Refusal, Verdict};
+use crate::instrument::{Instrument, ENTRY};
 use crate::tree::Tree;
 pub use glushkov::Side;
 pub use matching::{holds, holds_empty};
 pub use reading::{read as read_sheet, Act, Sheet};
 
-pub const DOORS: Doors = Doors { name: "naive", load, word_test, read };
+pub const DOORS: Doors = Doors { name: "naive", load, load_entry, word_test, read };
 
 /// What a rule asks.
 #[derive(PartialEq)]
@@ -29,8 +30,8 @@ pub struct Rule {
 
 type Pairs = [(usize, u32)];
 
-pub fn read(bytes: &[u8]) -> Result<Counts, Refusal> {
-    let sheet = reading::read(bytes)?;
+pub fn read(on: &Instrument, bytes: &[u8]) -> Result<Counts, Refusal> {
+    let sheet = reading::read(on, bytes)?;
     Ok(Counts {
         conditions: sheet.conditions.len(),
         points: sheet.points.len(),
@@ -40,8 +41,12 @@ pub fn read(bytes: &[u8]) -> Result<Counts, Refusal> {
     })
 }
 
-pub fn load(bytes: &[u8]) -> Verdict {
-    let sheet = match reading::read(bytes) {
+pub fn load_entry(bytes: &[u8]) -> Verdict {
+    load(&ENTRY, bytes)
+}
+
+pub fn load(on: &Instrument, bytes: &[u8]) -> Verdict {
+    let sheet = match reading::read(on, bytes) {
         Ok(sheet) => sheet,
         Err(refusal) => return Verdict::Refused(refusal),
     };
@@ -171,8 +176,8 @@ fn numbers(set: u32) -> Vec<usize> {
     (0..32).filter(|k| set >> k & 1 == 1).collect()
 }
 
-pub fn word_test(bytes: &[u8], condition: usize, word: &[u8]) -> Answer {
-    let sheet = match reading::read(bytes) {
+pub fn word_test(on: &Instrument, bytes: &[u8], condition: usize, word: &[u8]) -> Answer {
+    let sheet = match reading::read(on, bytes) {
         Ok(sheet) => sheet,
         Err(refusal) => return Answer::Refused(refusal),
     };

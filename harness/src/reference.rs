@@ -8,22 +8,23 @@ mod rules;
 mod search;
 
 use crate::answer::{Answer, Counts, Doors, Refusal, Verdict};
+use crate::instrument::{Instrument, ENTRY};
 use places::Side;
 use reading::Sheet;
 
 const LONGEST_WORD: usize = 4_096;
 
-pub const DOORS: Doors = Doors { name: "reference", load, word_test, read };
+pub const DOORS: Doors = Doors { name: "reference", load, load_entry, word_test, read };
 
 /// Reading alone: refusals 1 to 9, or the tally.
-pub fn read(sheet: &[u8]) -> Result<Counts, Refusal> {
-    Sheet::read(sheet).map(|sheet| sheet.counts)
+pub fn read(on: &Instrument, sheet: &[u8]) -> Result<Counts, Refusal> {
+    Sheet::read(on, sheet).map(|sheet| sheet.counts)
 }
 
 /// The verdict on a sheet.
-pub fn load(sheet: &[u8]) -> Verdict {
+pub fn load(on: &Instrument, sheet: &[u8]) -> Verdict {
     let length = sheet.len();
-    let sheet = match Sheet::read(sheet) {
+    let sheet = match Sheet::read(on, sheet) {
         Ok(sheet) => sheet,
         Err(refusal) => return Verdict::Refused(refusal),
     };
@@ -36,9 +37,13 @@ pub fn load(sheet: &[u8]) -> Verdict {
     }
 }
 
+pub fn load_entry(sheet: &[u8]) -> Verdict {
+    load(&ENTRY, sheet)
+}
+
 /// Whether a condition of the sheet holds a word.
-pub fn word_test(sheet: &[u8], condition: usize, word: &[u8]) -> Answer {
-    let sheet = match Sheet::read(sheet) {
+pub fn word_test(on: &Instrument, sheet: &[u8], condition: usize, word: &[u8]) -> Answer {
+    let sheet = match Sheet::read(on, sheet) {
         Ok(sheet) => sheet,
         Err(refusal) => return Answer::Refused(refusal),
     };

@@ -4,24 +4,30 @@ mod draft;
 mod families;
 mod honest;
 mod hostile;
+mod limits;
 mod mutate;
 mod stray;
 mod words;
 mod worst;
 
+use crate::instrument::{ENTRY, LARGE};
 use crate::naive;
 use crate::random::Random;
 #[cfg(test)]
 pub use draft::{certificate, Draft, Step};
+use families::entry_rules;
 pub use families::{
     changing_word, large_certificate, many_records, many_rules, single_word, small_honest,
     starred_rules, steady_word,
 };
 pub use hostile::HOSTILE;
+pub use limits::limits;
+#[cfg(test)]
+pub use limits::of_length;
 #[cfg(test)]
 pub use stray::{least, row};
 pub use words::{words, Test};
-pub use worst::{Recipe, WORST};
+pub use worst::{Recipe, WORST, WORST_ENTRY};
 
 /// One sheet of a random sort.
 pub fn sheet(random: &mut Random) -> Vec<u8> {
@@ -38,6 +44,7 @@ pub fn sheet(random: &mut Random) -> Vec<u8> {
         }
         60..=61 => honest::large(random).certified(),
         62..=65 => mutate::mutate(&honest::large(random).certified(), random),
+        94..=99 => limits::around_entry(random),
         _ => {
             let mut sheet = honest::honest(random).certified();
             for _ in 0..1 + random.below(2) {
@@ -48,8 +55,15 @@ pub fn sheet(random: &mut Random) -> Vec<u8> {
     }
 }
 
+/// Sheets for the entry instrument, of its full length, all accepted: the honest one
+/// and the hostile one that took the library longest.
+pub const ENTRY_SHEETS: [(&str, fn() -> Vec<u8>); 2] = [
+    ("entry: as many calls as fit, under 35 stars", entry_rules),
+    ("entry, hostile: the worst that a search found", || WORST_ENTRY.of_length(ENTRY.bytes)),
+];
+
 /// The pairs of a well formed sheet.
 pub fn pairs(sheet: &[u8]) -> usize {
-    let certificates = naive::read_sheet(sheet).map_or(vec![], |sheet| sheet.certificates);
+    let certificates = naive::read_sheet(&LARGE, sheet).map_or(vec![], |sheet| sheet.certificates);
     certificates.iter().map(Vec::len).sum()
 }

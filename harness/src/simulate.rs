@@ -1,5 +1,6 @@
 //! Random runs of stored sheets, checked state by state.
 use crate::answer::{Doors, Verdict};
+use crate::instrument::LARGE;
 use crate::naive;
 use crate::random::Random;
 use crate::runs::{random_move, Broken, Languages, Run};
@@ -34,7 +35,7 @@ impl Totals {
 
     /// Random runs of a sheet, each up to its first break.
     pub fn sheet(&mut self, bytes: &[u8], random: &mut Random) {
-        let Ok(sheet) = naive::read_sheet(bytes) else {
+        let Ok(sheet) = naive::read_sheet(&LARGE, bytes) else {
             return;
         };
         self.sheets += 1;
@@ -70,7 +71,7 @@ pub fn simulate(crates: &str, doors: &Doors, seed: u64) -> Result<usize, String>
     let mut totals = Totals::default();
     let mut random = Random::new(seed);
     for sheet in vectors::sheets(&file)? {
-        if matches!((doors.load)(&sheet), Verdict::Accepted(_)) {
+        if matches!((doors.load)(&LARGE, &sheet), Verdict::Accepted(_)) {
             totals.sheet(&sheet, &mut random);
         }
     }

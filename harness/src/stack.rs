@@ -1,6 +1,7 @@
 //! The stack that one call of a loader uses: the stack below the caller is
 //! painted before the call, and the lowest byte that changed is found after.
 use crate::answer::Doors;
+use crate::instrument::{ENTRY, LARGE};
 use crate::sheets;
 use std::hint::black_box;
 use std::thread;
@@ -23,12 +24,26 @@ pub fn stack(all: &[Doors]) {
         for (name, sheet) in &loads {
             let sheet = sheet.clone();
             row(&format!("load, {name}"), doors.name, move || {
-                black_box((doors.load)(black_box(&sheet)));
+                black_box((doors.load)(&LARGE, black_box(&sheet)));
             });
         }
         let (sheet, word) = (word_sheet.clone(), word.clone());
         row("word test, 4,096 events, 31 leaves", doors.name, move || {
-            black_box((doors.word_test)(black_box(&sheet), 1, black_box(&word)));
+            black_box((doors.word_test)(&LARGE, black_box(&sheet), 1, black_box(&word)));
+        });
+        entry(doors);
+    }
+}
+
+/// Rows for the entry instrument: by the function for any instrument, and by its own.
+fn entry(doors: Doors) {
+    for (name, make) in sheets::ENTRY_SHEETS {
+        let (sheet, again) = (make(), make());
+        row(&format!("load, {name}"), doors.name, move || {
+            black_box((doors.load)(&ENTRY, black_box(&sheet)));
+        });
+        row(&format!("load_entry, {name}"), doors.name, move || {
+            black_box((doors.load_entry)(black_box(&again)));
         });
     }
 }

@@ -2,12 +2,14 @@
 mod certificates;
 #[cfg(feature = "library")]
 mod doors;
+mod instruments;
 mod reading;
 mod runs;
 mod tools;
 
 use crate::answer::Doors;
-use crate::{naive, reference};
+use crate::instrument::{Instrument, LARGE};
+use crate::{library, naive, reference};
 
 const BOTH: [Doors; 2] = [reference::DOORS, naive::DOORS];
 
@@ -17,18 +19,35 @@ fn hex(text: &str) -> Vec<u8> {
     digits.chunks(2).map(byte).collect()
 }
 
-/// Both loaders print this line for a sheet.
-fn loads(sheet: &[u8], line: &str) {
-    for doors in BOTH {
-        assert_eq!((doors.load)(sheet).to_string(), line, "{}", doors.name);
+/// Both loaders and, if it is linked, the library.
+fn every() -> Vec<Doors> {
+    BOTH.into_iter().chain(library::doors()).collect()
+}
+
+/// Every loader prints this line for a sheet on an instrument.
+fn loads_on(on: &Instrument, sheet: &[u8], line: &str) {
+    for doors in every() {
+        let found = (doors.load)(on, sheet).to_string();
+        assert_eq!(found, line, "{}, {}", doors.name, on.name);
     }
 }
 
-/// Both loaders print this line for a word.
-fn tests(sheet: &[u8], condition: usize, word: &[u8], line: &str) {
-    for doors in BOTH {
-        assert_eq!((doors.word_test)(sheet, condition, word).to_string(), line, "{}", doors.name);
+/// The same for a word.
+fn tests_on(on: &Instrument, sheet: &[u8], condition: usize, word: &[u8], line: &str) {
+    for doors in every() {
+        let found = (doors.word_test)(on, sheet, condition, word).to_string();
+        assert_eq!(found, line, "{}, {}", doors.name, on.name);
     }
+}
+
+/// Every loader prints this line for a sheet on the large instrument.
+fn loads(sheet: &[u8], line: &str) {
+    loads_on(&LARGE, sheet, line);
+}
+
+/// The same for a word.
+fn tests(sheet: &[u8], condition: usize, word: &[u8], line: &str) {
+    tests_on(&LARGE, sheet, condition, word, line);
 }
 
 const POINT: &str = "07 0000 0000 0000";

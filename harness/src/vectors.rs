@@ -1,5 +1,6 @@
 //! Stored cases and their expected lines.
-use crate::answer::Doors;
+use crate::answer::{Counts, Doors, Refusal};
+use crate::instrument::{Instrument, ENTRY, LARGE};
 use crate::sheets::Test;
 use std::fs;
 use std::path::{Path, PathBuf};
@@ -62,9 +63,9 @@ pub fn groups(file: &[u8]) -> Result<Vec<Group>, String> {
     Ok(found)
 }
 
-/// The line for a sheet that is only read.
-fn reading_line(doors: &Doors, sheet: &[u8]) -> String {
-    match (doors.read)(sheet) {
+/// The line for a sheet that was only read.
+pub fn line(read: &Result<Counts, Refusal>) -> String {
+    match read {
         Ok(counts) => counts.to_string(),
         Err(refusal) => refusal.to_string(),
     }
@@ -81,30 +82,40 @@ pub enum Kind {
 const PROGRAM: &str = "stored_cases";
 
 /// The files that it reads, in the order of the lines that it prints.
-const FILES: [(&str, Kind); 3] =
-    [("reading", Kind::Reading), ("sheets", Kind::Sheets), ("words", Kind::Words)];
+const FILES: [(&str, Instrument, Kind); 6] = [
+    ("reading", LARGE, Kind::Reading),
+    ("sheets", LARGE, Kind::Sheets),
+    ("words", LARGE, Kind::Words),
+    ("entry_reading", ENTRY, Kind::Reading),
+    ("entry_sheets", ENTRY, Kind::Sheets),
+    ("entry_words", ENTRY, Kind::Words),
+];
 
-/// The file of stored sheets, below the folder of crates.
+/// The file of the large instrument's stored sheets, below the folder of crates.
 pub fn sheets_file(crates: &str) -> PathBuf {
     Path::new(crates).join(PROGRAM).join("data").join("sheets")
 }
 
 /// The lines of one loader for a file of cases.
-pub fn lines(doors: &Doors, kind: &Kind, file: &[u8]) -> Result<Vec<String>, String> {
-    match kind {
-        Kind::Reading => Ok(sheets(file)?.iter().map(|sheet| reading_line(doors, sheet)).collect()),
-        Kind::Sheets => {
-            Ok(sheets(file)?.iter().map(|sheet| (doors.load)(sheet).to_string()).collect())
-        }
-        Kind::Words => word_lines(doors, file),
-    }
+pub fn lines(
+    doors: &Doors,
+    on: &Instrument,
+    kind: &Kind,
+    file: &[u8],
+) -> Result<Vec<String>, String> {
+    let answer: fn(&Doors, &Instrument, &[u8]) -> String = match kind {
+        Kind::Reading => |doors, on, sheet| line(&(doors.read)(on, sheet)),
+        Kind::Sheets => |doors, on, sheet| (doors.load)(on, sheet).to_string(),
+        Kind::Words => return word_lines(doors, on, file),
+    };
+    Ok(sheets(file)?.iter().map(|sheet| answer(doors, on, sheet)).collect())
 }
 
-fn word_lines(doors: &Doors, file: &[u8]) -> Result<Vec<String>, String> {
+fn word_lines(doors: &Doors, on: &Instrument, file: &[u8]) -> Result<Vec<String>, String> {
     let mut found = vec![];
     for group in groups(file)? {
         for Test { condition, word } in &group.tests {
-            found.push((doors.word_test)(&group.sheet, *condition, word).to_string());
+            found.push((doors.word_test)(on, &group.sheet, *condition, word).to_string());
         }
     }
     Ok(found)
@@ -129,10 +140,10 @@ fn run_files(program: &Path, doors: &Doors) -> Result<usize, String> {
     let expected = fs::read_to_string(&path).map_err(|error| explained(&path, error))?;
     let mut expected = expected.lines();
     let mut differences = 0;
-    for (name, kind) in &FILES {
+    for (name, on, kind) in &FILES {
         let path = program.join("data").join(name);
         let file = fs::read(&path).map_err(|error| explained(&path, error))?;
-        let found = lines(doors, kind, &file).map_err(|error| explained(&path, error))?;
+        let found = lines(doors, on, kind, &file).map_err(|error| explained(&path, error))?;
         let wrong = compared(name, doors, &found, expected.by_ref().take(found.len()).collect());
         println!("{name}: {}, {} cases, {wrong} differences", doors.name, found.len());
         differences += wrong;

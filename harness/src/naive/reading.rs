@@ -1,5 +1,6 @@
 //! Reading by looking back over the list of records before each record.
 use crate::answer::Refusal;
+use crate::instrument::Instrument;
 use crate::tree::Tree;
 
 const BODY_LENGTHS: [usize; 14] = [4, 0, 0, 0, 0, 0, 6, 6, 10, 5, 6, 4, 5, 0];
@@ -45,13 +46,13 @@ pub struct Sheet {
     pub certificates: Vec<Vec<(usize, u32)>>,
 }
 
-pub fn read(bytes: &[u8]) -> Result<Sheet, Refusal> {
-    if bytes.len() > 65_536 {
-        return Err(Refusal::at(1, 65_536));
+pub fn read(on: &Instrument, bytes: &[u8]) -> Result<Sheet, Refusal> {
+    if bytes.len() > on.bytes {
+        return Err(Refusal::at(1, on.bytes));
     }
     let (records, cut) = split(bytes);
     for (i, record) in records.iter().enumerate() {
-        if let Some(number) = refusal(&records[..i], record) {
+        if let Some(number) = refusal(on, &records[..i], record) {
             return Err(Refusal::at(number, record.offset));
         }
     }
@@ -88,11 +89,16 @@ fn split(bytes: &[u8]) -> (Vec<Record<'_>>, Option<Refusal>) {
 }
 
 /// The first of 4 to 7 and 9 that applies to a record.
-fn refusal(before: &[Record], record: &Record) -> Option<usize> {
-    type Test = fn(&[Record], &Record) -> bool;
-    let tests: [(usize, Test); 5] =
-        [(4, misplaced), (5, malformed), (6, too_many), (7, misnamed), (9, primitive_first)];
-    tests.iter().find(|(_, test)| test(before, record)).map(|(number, _)| *number)
+fn refusal(on: &Instrument, before: &[Record], record: &Record) -> Option<usize> {
+    type Test = fn(&Instrument, &[Record], &Record) -> bool;
+    let tests: [(usize, Test); 5] = [
+        (4, |_, before, record| misplaced(before, record)),
+        (5, |_, before, record| malformed(before, record)),
+        (6, too_many),
+        (7, |_, before, record| misnamed(before, record)),
+        (9, |_, before, record| primitive_first(before, record)),
+    ];
+    tests.iter().find(|(_, test)| test(on, before, record)).map(|(number, _)| *number)
 }
 
 fn section(kind: u8) -> usize {
@@ -132,12 +138,12 @@ fn malformed(before: &[Record], record: &Record) -> bool {
     }
 }
 
-fn too_many(before: &[Record], record: &Record) -> bool {
+fn too_many(on: &Instrument, before: &[Record], record: &Record) -> bool {
     match record.kind {
         1 if count(open_condition(before), &[1]) + 1 > 31 => true,
         1..=5 => open_condition(before).len() + 1 > 96,
         6 => count(before, &[6]) + 1 > 256,
-        7 => count(before, &[7]) + 1 > 512,
+        7 => count(before, &[7]) + 1 > on.points,
         8 | 9 => count(before, &[8, 9]) + 1 > 64,
         10..=12 => count(before, &[10, 11, 12]) + 1 > 512,
         _ => false,

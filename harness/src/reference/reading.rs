@@ -1,13 +1,17 @@
 //! Reading a sheet: refusals 1 to 9, and where its parts are.
 use crate::answer::{Counts, Refusal};
+use crate::instrument::Instrument;
 
-const LONGEST: usize = 65_536;
 const CONDITIONS: usize = 256;
 const RECORDS: usize = 96;
 const LEAVES: usize = 31;
-const POINTS: usize = 512;
 const METHODS: usize = 64;
 const STEPS: usize = 512;
+
+/// The most points with which the last step starts below 65,536, whatever the bytes:
+/// 256 conditions of 221 bytes at most, 64 methods of 11, 511 steps of 7 and 668
+/// points of 7.
+const MOST_POINTS: usize = 668;
 
 /// By kind; there is no kind 0.
 const BODY: [u8; 15] = [0, 4, 0, 0, 0, 0, 0, 6, 6, 10, 5, 6, 4, 5, 0];
@@ -59,11 +63,12 @@ pub struct Step {
 }
 
 impl<'a> Sheet<'a> {
-    pub fn read(bytes: &'a [u8]) -> Result<Sheet<'a>, Refusal> {
-        if bytes.len() > LONGEST {
-            return Err(Refusal::at(1, LONGEST));
+    pub fn read(on: &Instrument, bytes: &'a [u8]) -> Result<Sheet<'a>, Refusal> {
+        assert!(on.points <= MOST_POINTS);
+        if bytes.len() > on.bytes {
+            return Err(Refusal::at(1, on.bytes));
         }
-        let mut reader = Reader::new(bytes);
+        let mut reader = Reader::new(on.points, bytes);
         let mut at = 0;
         while at < bytes.len() {
             let kind = bytes[at];
@@ -131,6 +136,8 @@ impl<'a> Sheet<'a> {
 /// What is known after the records read so far.
 struct Reader<'a> {
     sheet: Sheet<'a>,
+    /// The most points.
+    points: usize,
     section: u8,
     /// Records, leaves and items of the open condition.
     records: usize,
@@ -140,7 +147,7 @@ struct Reader<'a> {
 }
 
 impl<'a> Reader<'a> {
-    fn new(bytes: &'a [u8]) -> Reader<'a> {
+    fn new(points: usize, bytes: &'a [u8]) -> Reader<'a> {
         let sheet = Sheet {
             bytes,
             counts: Counts::default(),
@@ -152,7 +159,7 @@ impl<'a> Reader<'a> {
             methods_at: [0; METHODS],
             steps_at: [0; STEPS],
         };
-        Reader { sheet, section: 0, records: 0, leaves: 0, items: 0, in_certificate: false }
+        Reader { sheet, points, section: 0, records: 0, leaves: 0, items: 0, in_certificate: false }
     }
 
     /// One whole record; an error is the number of its refusal.
@@ -229,7 +236,7 @@ impl<'a> Reader<'a> {
 
     fn point(&mut self, at: usize) -> Result<(), usize> {
         let number = self.sheet.counts.points;
-        if number == POINTS {
+        if number == self.points {
             return Err(6);
         }
         self.names(at + 1, 3, self.sheet.counts.conditions)?;

@@ -1,4 +1,5 @@
 //! A sheet in parts, and its certificates of reachable pairs.
+use crate::instrument::LARGE;
 use crate::naive::{self, Ask, Side};
 use crate::tree::Tree;
 use std::collections::HashSet;
@@ -87,7 +88,7 @@ fn names(out: &mut Vec<u8>, names: &[usize]) {
 
 /// Adds the certificates that the rules of a sheet need.
 pub fn certify(mut bytes: Vec<u8>, most: usize) -> Vec<u8> {
-    let Ok(sheet) = naive::read_sheet(&bytes) else {
+    let Ok(sheet) = naive::read_sheet(&LARGE, &bytes) else {
         return bytes;
     };
     // Rules that ask the same are given the same pairs.

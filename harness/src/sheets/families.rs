@@ -4,12 +4,13 @@ use super::honest::honest;
 use super::hostile::by_entry;
 use super::stray::{least, row};
 use crate::answer::Verdict;
+use crate::instrument::{Instrument, ENTRY, LARGE};
 use crate::random::Random;
 use crate::reference;
 use crate::tree::Tree;
 
 /// The bytes of the longest sheet.
-pub const LONGEST: usize = 65_536;
+pub const LONGEST: usize = LARGE.bytes;
 
 /// Small accepted sheets.
 pub fn small_honest(count: usize) -> Vec<Vec<u8>> {
@@ -17,7 +18,7 @@ pub fn small_honest(count: usize) -> Vec<Vec<u8>> {
     let mut sheets = vec![];
     while sheets.len() < count {
         let sheet = honest(&mut random).certified();
-        let accepted = matches!(reference::load(&sheet), Verdict::Accepted(_));
+        let accepted = matches!(reference::load(&LARGE, &sheet), Verdict::Accepted(_));
         if accepted && sheet.len() < 2_048 {
             sheets.push(sheet);
         }
@@ -27,12 +28,18 @@ pub fn small_honest(count: usize) -> Vec<Vec<u8>> {
 
 /// All 2,818 rules, each on sides of 31 leaves, in a sheet of full length.
 pub fn many_rules() -> Vec<u8> {
-    rules_on(&mostly_dead().star())
+    rules_on(&mostly_dead().star(), &LARGE, 64, 512)
 }
 
 /// The same with as many stars as fit around the leaves: each links all leaves.
 pub fn starred_rules() -> Vec<u8> {
-    rules_on(&starred(mostly_dead(), 35))
+    rules_on(&starred(mostly_dead(), 35), &LARGE, 64, 512)
+}
+
+/// As many calls as fit on the entry instrument: one method and 83 steps on its 64
+/// points, 421 rules. A call has more sides for its bytes than any other subject.
+pub fn entry_rules() -> Vec<u8> {
+    rules_on(&starred(mostly_dead(), 35), &ENTRY, 1, 83)
 }
 
 /// A leaf that holds every event, and thirty that hold none.
@@ -45,15 +52,18 @@ fn starred(tree: Tree, stars: usize) -> Tree {
     (0..stars).fold(tree, |tree, _| tree.star())
 }
 
-/// A sheet of full length with all rules, each on this condition.
-fn rules_on(heavy: &Tree) -> Vec<u8> {
+/// A sheet of an instrument's full length and with all its points, each on this
+/// condition.
+fn rules_on(heavy: &Tree, on: &Instrument, methods: usize, steps: usize) -> Vec<u8> {
     let mut draft = Draft::default();
-    for _ in 0..512 {
+    for _ in 0..on.points {
         draft.point(heavy, heavy, heavy);
     }
-    draft.methods = (0..64).map(|m| vec![0, 0, 0, m, 511 - m]).collect();
-    draft.steps = (0..512).map(|s| Step::Call(s, 511 - s, s % 64)).collect();
-    let mut left = LONGEST - draft.certified().len();
+    let last = on.points - 1;
+    draft.methods = (0..methods).map(|m| vec![0, 0, 0, m, last - m]).collect();
+    let call = |s| Step::Call(s % on.points, last - s % on.points, s % methods);
+    draft.steps = (0..steps).map(call).collect();
+    let mut left = on.bytes - draft.certified().len();
     let mut text = vec![];
     heavy.write(&mut text);
     while left > text.len() + 100 {

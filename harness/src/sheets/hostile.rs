@@ -8,11 +8,14 @@ use super::draft::{certificate, Draft, Step};
 use super::families::LONGEST;
 use super::stray::{least, row};
 use super::worst::WORST;
+use crate::instrument::LARGE;
 use crate::naive;
 use crate::random::Random;
 use crate::tree::Tree;
 
 pub type Pair = (usize, u32);
+
+const PAIR_LENGTH: usize = 6;
 
 /// A draft, and the number of the certificate that is to be long.
 pub type Long = (Draft, usize);
@@ -35,6 +38,13 @@ pub const HOSTILE: [Hostile; 13] = [
     ("hostile: one pair for each follower and event", one_each),
     ("hostile: the worst that a search found", |most| WORST.sheet(most)),
 ];
+
+/// The sheet with as many pairs as fit in so many bytes.
+pub fn fitting(make: impl Fn(usize) -> Vec<u8>, bytes: usize) -> Vec<u8> {
+    let most = bytes / PAIR_LENGTH;
+    let over = make(most).len().saturating_sub(bytes);
+    make(most.saturating_sub(over.div_ceil(PAIR_LENGTH)))
+}
 
 /// The least sheet with another pre, and another past at its point: rule 3 asks
 /// for the one in the other, by certificate 0.
@@ -106,7 +116,7 @@ pub fn spread(
     mut filler: impl FnMut(usize) -> Pair,
 ) -> Vec<u8> {
     let mut out = draft.bytes();
-    let sheet = naive::read_sheet(&draft.certified());
+    let sheet = naive::read_sheet(&LARGE, &draft.certified());
     let mut lists = sheet.map_or(vec![], |sheet| sheet.certificates);
     lists[number] = [&[(0, 1)], first].concat();
     let used: usize = lists.iter().map(|pairs| 6 * pairs.len() + 1).sum();

@@ -1,6 +1,7 @@
 //! Bytes and records at random, and sheets at or over a limit.
 use super::draft::{Draft, Step};
 use crate::answer::Refusal;
+use crate::instrument::LARGE;
 use crate::random::Random;
 use crate::reference;
 use crate::tree::Tree;
@@ -75,7 +76,7 @@ pub fn least() -> Draft {
 /// A sheet at a limit; one over it may have a second fault in that record.
 pub fn at_a_limit(random: &mut Random) -> Vec<u8> {
     let mut sheet = many(random);
-    if let Err(Refusal { number: 6, place: Some(at) }) = reference::read(&sheet) {
+    if let Err(Refusal { number: 6, place: Some(at) }) = reference::read(&LARGE, &sheet) {
         if random.once_in(3) {
             let at = if sheet[at] < 7 { at } else { at + 1 };
             sheet[at] = 3;
@@ -92,12 +93,12 @@ fn many(random: &mut Random) -> Vec<u8> {
         0 => draft.conditions.resize(256 + over, Tree::Empty),
         1 => draft.conditions.push((0..95 + over).fold(Tree::Empty, |tree, _| tree.star())),
         2 => draft.conditions.push(row(31 + over)),
-        3 => draft.points.resize(512 + over, [0; 3]),
+        3 => draft.points.resize(LARGE.points + over, [0; 3]),
         4 => draft.methods.resize(64 + over, vec![0; 3 + 2 * random.below(2)]),
         5 => draft.steps.resize(512 + over, Step::Pass(0, 0)),
         6 => draft.steps.resize(512 + over, Step::Call(0, 0, 0)),
-        7 => return long(draft, 65_536 + over),
-        _ => return vec![random.below(8) as u8; 65_536 + over],
+        7 => return long(draft, LARGE.bytes + over),
+        _ => return vec![random.below(8) as u8; LARGE.bytes + over],
     }
     draft.certified()
 }

@@ -1,4 +1,5 @@
 //! Words to try on a sheet's conditions.
+use crate::instrument::LARGE;
 use crate::naive;
 use crate::random::Random;
 use crate::tree::Tree;
@@ -11,7 +12,7 @@ pub struct Test {
 
 /// A few words for a sheet; half of them are words of a condition of it.
 pub fn words(sheet: &[u8], random: &mut Random) -> Vec<Test> {
-    let conditions = naive::read_sheet(sheet).map_or(vec![], |sheet| sheet.conditions);
+    let conditions = naive::read_sheet(&LARGE, sheet).map_or(vec![], |sheet| sheet.conditions);
     if conditions.is_empty() {
         let word = some_events(random);
         return vec![Test { condition: random.below(3), word }];

@@ -1,5 +1,5 @@
 //! Certificates from numbers, so that a search can change them.
-use super::hostile::{by_call, spread, turning, Order, Pair, TURNS};
+use super::hostile::{by_call, fitting, spread, turning, Order, Pair, TURNS};
 use crate::random::Random;
 use crate::tree::Tree;
 
@@ -55,6 +55,27 @@ pub const WORST: Recipe = Recipe {
     chance: 0,
     order: 1,
     places: 0,
+};
+
+/// The same on the entry instrument, where the pairs that serve leave room for few
+/// others: 48 left places with 23 events each, a pair for each of these, most of them
+/// last, and a right side that is `turning`. A search found it from one that another
+/// search had found at random, and which takes some percent less.
+pub const WORST_ENTRY: Recipe = Recipe {
+    leaves: [24, 24],
+    events: 23,
+    block: 1,
+    change: 2,
+    dead: 7,
+    again: 3,
+    outside: 2,
+    start: 5,
+    density: 2,
+    first: 2,
+    last: 94,
+    chance: 1,
+    order: 0,
+    places: 1,
 };
 
 /// The least and the greatest number for each part of a recipe.
@@ -123,6 +144,11 @@ impl Recipe {
         let order = Order { random: (self.chance == 1).then(|| Random::new(10)), turns };
         let filler = |before| self.filler(before, &serving, &mut random);
         spread(long, [first, among, last], most, order, filler)
+    }
+
+    /// The sheet with as many pairs as fit in so many bytes.
+    pub fn of_length(&self, bytes: usize) -> Vec<u8> {
+        fitting(|most| self.sheet(most), bytes)
     }
 
     fn left(&self) -> [Tree; 2] {

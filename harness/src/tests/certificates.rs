@@ -1,6 +1,7 @@
 //! Rules, places and clauses.
 use super::{loads, tests, BOTH};
 use crate::answer::Verdict;
+use crate::instrument::LARGE;
 use crate::random::Random;
 use crate::sheets::{self, certificate, Draft, Step};
 use crate::tree::Tree;
@@ -158,7 +159,7 @@ fn no_point_conditions_help_the_close() {
             draft.points[point][2] = draft.condition(&tree);
         }
         for doors in BOTH {
-            let verdict = (doors.load)(&draft.certified());
+            let verdict = (doors.load)(&LARGE, &draft.certified());
             assert!(!matches!(verdict, Verdict::Accepted(_)));
         }
     }

@@ -2,9 +2,12 @@
 //! written into slices of every length.
 use super::{hex, least, BODY, PAIR, POINT};
 use crate::library::header::{
-    ACCEPTED, NO, NOT_WRITTEN, NO_PLACE, READ_WHOLE, REFUSED, ROOM, UNPROVED, YES,
+    ACCEPTED, ENTRY, LARGE, NO, NOT_WRITTEN, NO_PLACE, READ_WHOLE, REFUSED, ROOM,
+    UNKNOWN_INSTRUMENT, UNPROVED, YES,
 };
 use crate::library::raw;
+use crate::{sheets, stack};
+use std::hint::black_box;
 use std::io::Write;
 use std::path::{Path, PathBuf};
 use std::process::{Command, Stdio};
@@ -31,8 +34,15 @@ fn gives(door: impl Fn(&mut [usize]) -> usize, status: usize, number: usize, val
     }
 }
 
+/// On both instruments, and by the door that the entry instrument has alone.
 fn load(sheet: &[u8], status: usize, number: usize, values: &[usize]) {
-    gives(|out| raw::load(sheet, out), status, number, values);
+    gives(|out| raw::load(LARGE, sheet, out), status, number, values);
+    load_entry(sheet, status, number, values);
+}
+
+fn load_entry(sheet: &[u8], status: usize, number: usize, values: &[usize]) {
+    gives(|out| raw::load(ENTRY, sheet, out), status, number, values);
+    gives(|out| raw::load_entry(sheet, out), status, number, values);
 }
 
 /// M with a condition that does not hold the empty word, and the trace 1.
@@ -54,6 +64,13 @@ fn the_statuses_differ() {
         assert!(a != b && b != c && c != a && !answers.contains(&NOT_WRITTEN));
     }
     assert!(READ_WHOLE != REFUSED && READ_WHOLE != NOT_WRITTEN);
+    let known = [NOT_WRITTEN, ACCEPTED, REFUSED, UNPROVED, YES, NO, READ_WHOLE];
+    assert!(!known.contains(&UNKNOWN_INSTRUMENT));
+}
+
+#[test]
+fn the_instruments_differ() {
+    assert!(LARGE != ENTRY && !UNKNOWN.contains(&LARGE) && !UNKNOWN.contains(&ENTRY));
 }
 
 #[test]
@@ -61,15 +78,86 @@ fn loading() {
     load(&least(), ACCEPTED, 0, &[6]);
     load(&[], REFUSED, 9, &[0]);
     load(&hex("02 06 FF"), REFUSED, 2, &[2]);
-    load(&[0; 65_537], REFUSED, 1, &[65_536]);
     load(&unproved(), UNPROVED, 11, &[5, 0, 3, 0, 0, 0]);
+    gives(|out| raw::load(LARGE, &[0; 65_537], out), REFUSED, 1, &[65_536]);
+    load_entry(&[0; 8_193], REFUSED, 1, &[8_192]);
+    load_entry(&[0; 65_537], REFUSED, 1, &[8_192]);
+    load(&[0; 8_192], REFUSED, 2, &[0]);
+    let points = hex(&format!("02 06 {} {BODY}", POINT.repeat(65)));
+    load_entry(&points, REFUSED, 6, &[450]);
+    gives(|out| raw::load(LARGE, &points, out), REFUSED, 10, &[468]);
+}
+
+/// Numbers of no instrument.
+const UNKNOWN: [usize; 13] = [
+    0,
+    3,
+    4,
+    5,
+    8,
+    255,
+    256,
+    257,
+    65_538,
+    LARGE | 1 << 32,
+    ENTRY | 1 << 32,
+    usize::MAX - 1,
+    usize::MAX,
+];
+
+/// No sheet, word or condition gets another answer than that the instrument is
+/// unknown.
+#[test]
+fn unknown_instruments() {
+    let sheets = [
+        least(),
+        unproved(),
+        condition(),
+        vec![],
+        hex("02 06 FF"),
+        least()[..20].to_vec(),
+        sheets::many_rules(),
+        vec![0; 65_537],
+        vec![1; 100_000],
+    ];
+    for number in UNKNOWN {
+        for sheet in &sheets {
+            gives(|out| raw::load(number, sheet, out), UNKNOWN_INSTRUMENT, 0, &[]);
+            gives(|out| raw::read(number, sheet, out), UNKNOWN_INSTRUMENT, 0, &[]);
+            for (condition, word) in
+                [(0, &[2, 0][..]), (0, &[]), (0, &[0, 2]), (9, &[]), (0, &[99]), (0, &[0; 4_097])]
+            {
+                let test = |out: &mut [usize]| raw::word_test(number, sheet, condition, word, out);
+                gives(test, UNKNOWN_INSTRUMENT, 0, &[]);
+            }
+        }
+    }
+}
+
+/// The door of the entry instrument alone has no room for the large one's points.
+/// Without optimisation the wrapper's own frames are not what they are in use.
+#[cfg(not(debug_assertions))]
+#[test]
+fn stack_of_the_entry_instrument() {
+    type Door = fn(&[u8], &mut [usize]) -> usize;
+    let doors: [Door; 2] = [raw::load_entry, |sheet, out| raw::load(ENTRY, sheet, out)];
+    for (name, make) in sheets::ENTRY_SHEETS {
+        let [alone, numbered] = doors.map(|door| {
+            let sheet = make();
+            let call = move || assert_eq!(door(black_box(&sheet), &mut [0; ROOM]), ACCEPTED);
+            stack::used(call).unwrap()
+        });
+        assert!(alone + 1_500 <= numbered, "{name}: {alone} {numbered}");
+    }
 }
 
 #[test]
 fn testing_words() {
     let sheet = condition();
     let tests = |condition: usize, word: &[u8], status, number, values: &[usize]| {
-        gives(|out| raw::word_test(&sheet, condition, word, out), status, number, values);
+        for on in [LARGE, ENTRY] {
+            gives(|out| raw::word_test(on, &sheet, condition, word, out), status, number, values);
+        }
     };
     tests(0, &[2, 0], YES, 0, &[]);
     tests(0, &[], YES, 0, &[]);
@@ -79,14 +167,25 @@ fn testing_words() {
     tests(0, &[2, 32], REFUSED, 13, &[1]);
     tests(1, &[2], REFUSED, 14, &[NO_PLACE]);
     tests(usize::MAX, &[2], REFUSED, 14, &[NO_PLACE]);
-    gives(|out| raw::word_test(&[15], 0, &[], out), REFUSED, 2, &[0]);
+    for on in [LARGE, ENTRY] {
+        gives(|out| raw::word_test(on, &[15], 0, &[], out), REFUSED, 2, &[0]);
+    }
+    let long = [0; 8_193];
+    gives(|out| raw::word_test(LARGE, &long, 0, &[], out), REFUSED, 2, &[0]);
+    gives(|out| raw::word_test(ENTRY, &long, 0, &[], out), REFUSED, 1, &[8_192]);
 }
 
 #[test]
 fn reading() {
-    gives(|out| raw::read(&least(), out), READ_WHOLE, 0, &[1, 1, 1, 0, 3]);
-    gives(|out| raw::read(&unproved(), out), READ_WHOLE, 0, &[2, 1, 1, 0, 3]);
-    gives(|out| raw::read(&hex("02 06 03"), out), REFUSED, 5, &[2]);
+    for on in [LARGE, ENTRY] {
+        gives(|out| raw::read(on, &least(), out), READ_WHOLE, 0, &[1, 1, 1, 0, 3]);
+        gives(|out| raw::read(on, &unproved(), out), READ_WHOLE, 0, &[2, 1, 1, 0, 3]);
+        gives(|out| raw::read(on, &hex("02 06 03"), out), REFUSED, 5, &[2]);
+    }
+    let points = hex(&format!("02 06 {} {BODY}", POINT.repeat(65)));
+    gives(|out| raw::read(LARGE, &points, out), READ_WHOLE, 0, &[1, 65, 1, 0, 0]);
+    gives(|out| raw::read(ENTRY, &points, out), REFUSED, 6, &[450]);
+    gives(|out| raw::read(ENTRY, &points[..450], out), REFUSED, 9, &[450]);
 }
 
 /// A C program over the header gives the same. Skipped where there is no C compiler.
@@ -94,9 +193,11 @@ fn reading() {
 fn from_c() {
     for standard in ["c89", "c99"] {
         let Some(program) = compiled(standard) else { return };
-        from_c_prints(&program, &least(), "accepted 0 6 0 0 0 0 0\nnot written\n");
-        from_c_prints(&program, &[15], "refused 2 0 0 0 0 0 0\nnot written\n");
-        from_c_prints(&program, &unproved(), "unproved 11 5 0 3 0 0 0\nnot written\n");
+        from_c_prints(&program, &least(), ["accepted 0 6 0 0 0 0 0"; 2]);
+        from_c_prints(&program, &[15], ["refused 2 0 0 0 0 0 0"; 2]);
+        from_c_prints(&program, &unproved(), ["unproved 11 5 0 3 0 0 0"; 2]);
+        let lines = ["refused 2 0 0 0 0 0 0", "refused 1 8192 0 0 0 0 0"];
+        from_c_prints(&program, &[0; 8_193], lines);
         std::fs::remove_file(program).unwrap();
     }
 }
@@ -115,10 +216,13 @@ fn compiled(standard: &str) -> Option<PathBuf> {
     Some(program)
 }
 
-fn from_c_prints(program: &Path, sheet: &[u8], lines: &str) {
+/// The program prints these answers of the large and of the entry instrument.
+fn from_c_prints(program: &Path, sheet: &[u8], [large, entry]: [&str; 2]) {
     let mut child =
         Command::new(program).stdin(Stdio::piped()).stdout(Stdio::piped()).spawn().unwrap();
     child.stdin.take().unwrap().write_all(sheet).unwrap();
     let output = child.wait_with_output().unwrap();
-    assert_eq!(String::from_utf8(output.stdout).unwrap(), lines);
+    let lines = format!("large: {large}\nentry: {entry}\nentry alone: {entry}\nnot written\n");
+    let unknown = "0: unknown instrument 0 0 0 0 0 0 0\n";
+    assert_eq!(String::from_utf8(output.stdout).unwrap(), lines + unknown);
 }

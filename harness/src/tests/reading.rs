@@ -1,6 +1,7 @@
 //! Refusals and their order.
 use super::{hex, least, loads, tests, BODY, BOTH, PAIR, POINT};
 use crate::answer::Counts;
+use crate::instrument::LARGE;
 
 fn refused(text: &str, line: &str) {
     loads(&hex(text), line);
@@ -157,6 +158,6 @@ fn word_test_order() {
 fn tally() {
     let counts = Counts { conditions: 1, points: 1, methods: 1, steps: 0, certificates: 3 };
     for doors in BOTH {
-        assert_eq!((doors.read)(&least()), Ok(counts));
+        assert_eq!((doors.read)(&LARGE, &least()), Ok(counts));
     }
 }

@@ -1,5 +1,6 @@
 //! Runs, demand 3 and Ask 12.
 use crate::derivatives::missing_word;
+use crate::instrument::LARGE;
 use crate::naive::{self, holds};
 use crate::random::Random;
 use crate::runs::{Broken, Languages, Move, Run};
@@ -10,7 +11,7 @@ use std::fs;
 
 fn example(name: &str) -> naive::Sheet {
     let path = format!("{}/../examples/{name}.sheet", env!("CARGO_MANIFEST_DIR"));
-    naive::read_sheet(&fs::read(path).unwrap()).unwrap()
+    naive::read_sheet(&LARGE, &fs::read(path).unwrap()).unwrap()
 }
 
 fn step(number: usize) -> Move {
@@ -123,7 +124,7 @@ fn breaks_are_found() {
     let mut totals = Totals::default();
     let mut random = Random::new(3);
     for sheet in vectors::sheets(&fs::read(path).unwrap()).unwrap() {
-        let line = naive::load(&sheet).to_string();
+        let line = naive::load(&LARGE, &sheet).to_string();
         if line.starts_with("unproved") && line.contains("clause 3") {
             totals.sheet(&sheet, &mut random);
         }

@@ -1,13 +1,24 @@
 //! The tools themselves.
 use super::{hex, least, BOTH};
 use crate::answer::Verdict;
+use crate::instrument::{ENTRY, LARGE};
 use crate::random::Random;
 use crate::tree::Tree;
 use crate::{compare, naive, reference, sheets, stack, vectors};
 
 #[test]
 fn a_short_comparison_finds_nothing() {
-    assert_eq!(compare::compare(&BOTH[0], &BOTH[1], 400, 11), 0);
+    assert_eq!(compare::self_check(&BOTH[0], &BOTH[1], 400, 11), 0);
+}
+
+#[test]
+fn timed_entry_sheets_are_accepted() {
+    let [(_, honest), (_, hostile)] = sheets::ENTRY_SHEETS;
+    let (honest, hostile) = (honest(), hostile());
+    assert_eq!((honest.len(), sheets::pairs(&honest)), (8_192, 1_085));
+    assert_eq!((hostile.len(), sheets::pairs(&hostile)), (8_191, 1_299));
+    assert_eq!(reference::load(&ENTRY, &honest), Verdict::Accepted(421));
+    assert_eq!(reference::load(&ENTRY, &hostile), Verdict::Accepted(11));
 }
 
 #[test]
@@ -16,15 +27,15 @@ fn timed_sheets_are_accepted() {
     for sheet in &rules {
         assert_eq!(sheet.len(), 65_536);
         assert_eq!(sheets::pairs(sheet), 7_040);
-        assert_eq!(reference::load(sheet), Verdict::Accepted(2_818));
+        assert_eq!(reference::load(&LARGE, sheet), Verdict::Accepted(2_818));
     }
     let large = sheets::large_certificate();
     assert_eq!(sheets::pairs(&large), 10_371);
-    assert_eq!(reference::load(&large), Verdict::Accepted(6));
-    let counts = reference::read(&sheets::many_records()).unwrap();
+    assert_eq!(reference::load(&LARGE, &large), Verdict::Accepted(6));
+    let counts = reference::read(&LARGE, &sheets::many_records()).unwrap();
     assert_eq!(counts.certificates, 65_516);
     for (sheet, word) in [sheets::steady_word(), sheets::changing_word(), sheets::single_word()] {
-        assert_eq!(reference::word_test(&sheet, 1, &word).to_string(), "yes");
+        assert_eq!(reference::word_test(&LARGE, &sheet, 1, &word).to_string(), "yes");
     }
 }
 
@@ -38,7 +49,7 @@ fn hostile_sheets_are_accepted() {
     for (name, make) in sheets::HOSTILE {
         let sheet = make(usize::MAX);
         assert!((65_531..=65_536).contains(&sheet.len()), "{name}");
-        assert!(matches!(reference::load(&sheet), Verdict::Accepted(_)), "{name}");
+        assert!(matches!(reference::load(&LARGE, &sheet), Verdict::Accepted(_)), "{name}");
     }
 }
 
@@ -50,12 +61,12 @@ fn short_hostile_sheets() {
     let mut unproved = 0;
     for (name, make) in &sheets::HOSTILE[..10] {
         let sheet = make(80);
-        assert!(matches!(naive::load(&sheet), Verdict::Accepted(_)), "{name}");
+        assert!(matches!(naive::load(&LARGE, &sheet), Verdict::Accepted(_)), "{name}");
         for _ in 0..4 {
             let mut changed = sheet.clone();
             changed[sheet.len() - 1 - random.below(400)] ^= 1 << random.below(8);
-            let verdict = naive::load(&changed);
-            assert_eq!(reference::load(&changed), verdict, "{name}");
+            let verdict = naive::load(&LARGE, &changed);
+            assert_eq!(reference::load(&LARGE, &changed), verdict, "{name}");
             unproved += matches!(verdict, Verdict::Unproved { .. }) as usize;
         }
     }
@@ -88,7 +99,7 @@ fn stored_sheets() {
     let length = (sheet.len() as u32).to_le_bytes();
     let file = [&length[..], &sheet, &[0; 4], &[1, 0, 0, 0, 15]].concat();
     for doors in &BOTH {
-        let lines = vectors::lines(doors, &vectors::Kind::Sheets, &file).unwrap();
+        let lines = vectors::lines(doors, &LARGE, &vectors::Kind::Sheets, &file).unwrap();
         assert_eq!(lines, ["accepted 6", "refused 9 at 0", "refused 2 at 0"]);
     }
     assert!(vectors::sheets(&file[..20]).is_err());
@@ -102,7 +113,7 @@ fn stored_words() {
     let group = [&length[..], &sheet, &cases].concat();
     let file = [&group[..], &hex("00000000 01000000 0000 0000")].concat();
     for doors in &BOTH {
-        let lines = vectors::lines(doors, &vectors::Kind::Words, &file).unwrap();
+        let lines = vectors::lines(doors, &LARGE, &vectors::Kind::Words, &file).unwrap();
         assert_eq!(lines, ["yes", "no", "refused 14", "refused 13 at 1", "refused 9 at 0"]);
     }
 }

@@ -1,0 +1,145 @@
+//! Sheets around the limits of the entry instrument, and limits around a sheet.
+use super::draft::{certificate, Draft, Step};
+use super::honest::honest;
+use super::mutate::mutate;
+use crate::answer::Refusal;
+use crate::instrument::{Instrument, ENTRY, LARGE};
+use crate::random::Random;
+use crate::tree::Tree;
+use crate::{naive, reference};
+
+/// A sheet with about as many points as the entry instrument takes, about as many
+/// bytes, or both; now and then at fault.
+pub fn around_entry(random: &mut Random) -> Vec<u8> {
+    let (many_points, many_bytes) = (!random.once_in(3), !random.once_in(3));
+    let points = near(ENTRY.points, random);
+    let mut draft = match (many_points, random.below(3)) {
+        (true, 0) => crowded(points, random),
+        _ => honest(random),
+    };
+    if many_points {
+        more_points(&mut draft, points, random);
+    }
+    let mut sheet = match many_bytes {
+        true => of_length(&draft, near(ENTRY.bytes, random), random),
+        false => draft.certified(),
+    };
+    match random.below(6) {
+        0 => mutate(&sheet, random),
+        1 => {
+            misname(&mut sheet, random);
+            sheet
+        }
+        _ => sheet,
+    }
+}
+
+/// A number around a limit, seldom one far above.
+fn near(limit: usize, random: &mut Random) -> usize {
+    match random.below(8) {
+        0 => limit + random.below(limit),
+        _ => limit - 2 + random.below(4),
+    }
+}
+
+/// A draft whose points hold every word, with steps between any of them.
+fn crowded(points: usize, random: &mut Random) -> Draft {
+    let any = Tree::any();
+    let mut draft = Draft::default();
+    for _ in 0..points {
+        draft.point(&any, &any, &any);
+    }
+    for _ in 0..1 + random.below(3) {
+        draft.methods.push(vec![0, 0, 0, random.below(points), random.below(points)]);
+    }
+    for _ in 0..random.below(60) {
+        let (from, to) = (random.below(points), random.below(points));
+        let called = random.below(draft.methods.len());
+        draft.steps.push(match random.below(3) {
+            0 => Step::Event(from, to, random.below(32) as u8),
+            1 => Step::Call(from, to, called),
+            _ => Step::Pass(from, to),
+        });
+    }
+    draft
+}
+
+/// Adds points that nothing names, up to a number, and puts all in another order.
+fn more_points(draft: &mut Draft, points: usize, random: &mut Random) {
+    let conditions = draft.conditions.len();
+    while draft.points.len() < points {
+        draft.points.push([0; 3].map(|_| random.below(conditions)));
+    }
+    let mut number: Vec<usize> = (0..draft.points.len()).collect();
+    random.shuffle(&mut number);
+    for (old, point) in draft.points.clone().into_iter().enumerate() {
+        draft.points[number[old]] = point;
+    }
+    for point in draft.methods.iter_mut().flat_map(|names| names.iter_mut().skip(3)) {
+        *point = number[*point];
+    }
+    for step in &mut draft.steps {
+        let (Step::Event(p, q, _) | Step::Call(p, q, _) | Step::Pass(p, q)) = step;
+        (*p, *q) = (number[*p], number[*q]);
+    }
+}
+
+/// The sheet of a draft, brought to a length by pairs that are written again and a
+/// condition that nothing names; what the draft has it accepted or not. A sheet that
+/// is too long for that, or by one byte too short, stays as it is.
+pub fn of_length(draft: &Draft, length: usize, random: &mut Random) -> Vec<u8> {
+    let sheet = draft.certified();
+    let left = length.saturating_sub(sheet.len());
+    let Ok(parts) = naive::read_sheet(&LARGE, &sheet) else { return sheet };
+    if left < 2 {
+        return sheet;
+    }
+    // The condition takes two bytes or more.
+    let pairs = (left / 6).saturating_sub((left % 6 == 1) as usize);
+    let mut draft = draft.clone();
+    if let Some(stars) = (left - 6 * pairs).checked_sub(2) {
+        draft.conditions.push((0..stars).fold(Tree::Empty, |tree, _| tree.star()));
+    }
+    let mut lists = parts.certificates;
+    let count = lists.len();
+    for _ in 0..pairs {
+        let list = &mut lists[random.below(count)];
+        let again = list[random.below(list.len())];
+        list.insert(1 + random.below(list.len()), again);
+    }
+    let mut out = draft.bytes();
+    lists.iter().for_each(|pairs| certificate(&mut out, pairs));
+    out
+}
+
+/// A name that does not exist, in the first point that is too many or beside it.
+fn misname(sheet: &mut [u8], random: &mut Random) {
+    if let Err(Refusal { number: 6, place: Some(at) }) = reference::read(&ENTRY, sheet) {
+        let at = at - 7 + 7 * random.below(3);
+        if sheet.get(at) == Some(&7) {
+            sheet[at + 1 + 2 * random.below(3)] = 255;
+        }
+    }
+}
+
+/// The most points of an instrument with random limits.
+const MOST_POINTS: usize = 600;
+
+/// Two instruments with limits around what a sheet has, the first no larger.
+pub fn limits(sheet: &[u8], random: &mut Random) -> [Instrument; 2] {
+    let points = naive::read(&LARGE, sheet).map_or(random.below(5), |counts| counts.points);
+    let mut bytes = [0; 2].map(|_| about(sheet.len(), random));
+    let mut points = [0; 2].map(|_| about(points, random).min(MOST_POINTS));
+    bytes.sort();
+    points.sort();
+    [0, 1].map(|i| Instrument::of(bytes[i], points[i]))
+}
+
+fn about(number: usize, random: &mut Random) -> usize {
+    match random.below(6) {
+        0 => random.below(2 * number + 2),
+        1 => number.saturating_sub(1),
+        2 => number + 1,
+        _ => number,
+    }
+}
