@@ -1,17 +1,17 @@
 -- Two instruments, of which one takes no more bytes and points than the other and is equal to it otherwise: it refuses with 1 or 6, or reads what the
 -- other reads. So in whatever state reading starts.
 use mathlib.Core.Path.{_≡_, refl, sym, _∙_, subst}
-use mathlib.Core.Bool.{Bool, true, false, not, cond, _&&_, _||_}
+use mathlib.Core.Bool.{Bool, true, false, cond, _&&_, _||_}
 use mathlib.Core.List.{List}
-use Prim.Native.Nat.{ℕ, zero, suc}
+use Prim.Native.Nat.{ℕ, zero, suc, _≤_}
 use native.Mathlib.Nat.{le-trans, lt-of-lt-of-le}
 use lib.ListN.{length}
 use lib.Dec.{T, eqb, ltb, leb}
 use borrow.Author.Tests.{leb-false, lt-leb, ltb-false, le-ltb}
 use Rattle.sheet.specs.Model.{Model, NoLarger}
-use Rattle.sheet.specs.Kind.{conditions, methods, Role, symbol, a-pair, counts, kindOf}
+use Rattle.sheet.specs.Kind.{conditions, Role, symbol, a-pair, counts, kindOf}
 use Rattle.sheet.specs.Record.{Record, byteAt, recordAt, nextAt}
-use Rattle.sheet.specs.Reading.{Reading, tally, full, wrongItems, isPrimitive, overLimit, allExist, _when_else_, refusalOf, pastAt, Outcome, refusal, readOn, readFrom}
+use Rattle.sheet.specs.Reading.{Reading, tally, full, wrongItems, overLimit, _when_else_, refusalOf, pastAt, Outcome, refusal, readOn, readFrom}
 -- checked before the proofs
 use Rattle.sheet.proofs.Examples
 
@@ -39,51 +39,43 @@ by-limit false false false true over over′ n h = same
 by-limit false false false false true over′ n h = six
 by-limit false false false false false over′ n h = subst (λ (b : Bool). SixOrSame n (6 when b else n)) (sym (h refl)) same
 
-module _ (M M′ : Model) (N : NoLarger M M′) where
-  -- where the smaller one has room, the larger one has
-  room-left : (section n : ℕ) → full M section n ≡ false → full M′ section n ≡ false
+-- where a model has room, one that takes as many points or more has
+module _ (I I′ : Model) (l : I .points ≤ I′ .points) where
+  room-left : (section n : ℕ) → full I section n ≡ false → full I′ section n ≡ false
   room-left zero n h = refl
   room-left (suc zero) n h = h
-  room-left (suc (suc zero)) n h = lt-leb (M′ .points) n (lt-of-lt-of-le (leb-false (M .points) n h) (N .points))
+  room-left (suc (suc zero)) n h = lt-leb (I′ .points) n (lt-of-lt-of-le (leb-false (I .points) n h) l)
   room-left (suc (suc (suc zero))) n h = h
   room-left (suc (suc (suc (suc zero)))) n h = h
   room-left (suc (suc (suc (suc (suc k))))) n h = refl
 
-  within-limit : (r : Reading) (x : Record) (section : ℕ) (k : Role) → overLimit M r x section k ≡ false → overLimit M′ r x section k ≡ false
+  within-limit : (r : Reading) (x : Record) (section : ℕ) (k : Role) → overLimit I r x section k ≡ false → overLimit I′ r x section k ≡ false
   within-limit r x section (symbol takes make) h = h
   within-limit r x section a-pair h = h
   within-limit r x section counts h = room-left section (tally r section) h
 
+module _ (M M′ : Model) (N : NoLarger M M′) where
   module _ (s : List ℕ) where
-    -- the refusal of a record, by the highest kind, whether a limit is passed, and the number of events
-    abbrev numberBy : ℕ → Reading → ℕ → Bool → ℕ → ℕ
-    numberBy at r kinds over events =
-        let x = recordAt s at in
-        let k = kindOf (byteAt s at) in
-        2 when eqb (byteAt s at) 0 || ltb kinds (byteAt s at)
-        else 3 when ltb (length s) (nextAt s at)
-        else 4 when ltb (k .section) (r .section) || (eqb (r .opened .section) conditions && ltb conditions (k .section))
-        else 5 when wrongItems (k .section) (k .role) (length (r .opened .items))
-        else 6 when over
-        else 7 when not (allExist events (tally r) (k .fields) (x .values))
-        else 9 when isPrimitive x && eqb (length (r .own methods)) 0
-        else 0
-
     module _ (at : ℕ) (r : Reading) where
       abbrev overFor : Model → Bool
       overFor I = overLimit I r (recordAt s at) (kindOf (byteAt s at) .section) (kindOf (byteAt s at) .role)
 
-      same-otherwise : SixOrSame (refusalOf M s at r) (numberBy at r (M .kinds) (overFor M′) (M .events))
+      -- the larger one, with other kinds and events
+      abbrev with : ℕ → ℕ → Model
+      with kinds events = record { bytes = M′ .bytes; points = M′ .points; events = events; kinds = kinds }
+
+      same-otherwise : SixOrSame (refusalOf M s at r) (refusalOf (with (M .kinds) (M .events)) s at r)
       same-otherwise =
+          let M″ = with (M .kinds) (M .events) in
           by-limit (eqb (byteAt s at) 0 || ltb (M .kinds) (byteAt s at)) (ltb (length s) (nextAt s at))
           (ltb (kindOf (byteAt s at) .section) (r .section) || (eqb (r .opened .section) conditions && ltb conditions (kindOf (byteAt s at) .section)))
-          (wrongItems (kindOf (byteAt s at) .section) (kindOf (byteAt s at) .role) (length (r .opened .items))) (overFor M) (overFor M′) _
-          (within-limit r (recordAt s at) (kindOf (byteAt s at) .section) (kindOf (byteAt s at) .role))
+          (wrongItems (kindOf (byteAt s at) .section) (kindOf (byteAt s at) .role) (length (r .opened .items))) (overFor M) (overFor M″) _
+          (within-limit M M″ (N .points) r (recordAt s at) (kindOf (byteAt s at) .section) (kindOf (byteAt s at) .role))
 
       numbers : SixOrSame (refusalOf M s at r) (refusalOf M′ s at r)
       numbers =
-          subst (λ (kinds : ℕ). SixOrSame (refusalOf M s at r) (numberBy at r kinds (overFor M′) (M′ .events))) (N .kinds)
-          (subst (λ (events : ℕ). SixOrSame (refusalOf M s at r) (numberBy at r (M .kinds) (overFor M′) events)) (N .events) same-otherwise)
+          subst (λ (kinds : ℕ). SixOrSame (refusalOf M s at r) (refusalOf (with kinds (M′ .events)) s at r)) (N .kinds)
+          (subst (λ (events : ℕ). SixOrSame (refusalOf M s at r) (refusalOf (with (M .kinds) events) s at r)) (N .events) same-otherwise)
 
     -- All records -----------------------------------------------------------------------------------------------------------
 

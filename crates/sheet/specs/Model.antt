@@ -17,7 +17,7 @@ large = record { bytes = 65536; points = 512; events = 32; kinds = 14 }
 abbrev pub entry : Model
 entry = record { bytes = 8192; points = 64; events = large .events; kinds = large .kinds }
 
--- M takes no more bytes and points than M′, and is equal to it otherwise
+-- M takes no more bytes and points than M′, and is equal to it otherwise: Ask 8, "over both limits as parameters"
 pub record NoLarger (M M′ : Model) : Type 0 where
   pub bytes : M .bytes ≤ M′ .bytes
   pub points : M .points ≤ M′ .points

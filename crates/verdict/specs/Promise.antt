@@ -80,6 +80,7 @@ pub data LikeLarger {A : Type 0} (reply : A → Reply) (M : Model) (a b : A) : T
   too-long : reply a ≡ 1 giving (M .bytes ∷ []) → LikeLarger reply M a b
   -- "6 comes at the 65th point"; what the larger one makes of the sheet is not said
   over-limit : {at : ℕ} → reply a ≡ 6 giving (at ∷ []) → LikeLarger reply M a b
+  -- "accepted by the large one with an equal count", and so every other answer
   the-same : a ≡ b → LikeLarger reply M a b
 
 -- Request 8, of the loader
