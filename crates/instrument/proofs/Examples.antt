@@ -1,11 +1,13 @@
--- The instruments by evaluation: the longest sheet that each reads, and one byte more; as many points as the entry instrument takes, and one more.
+-- The instruments by evaluation: the longest sheet that each reads, and one byte more; as many points as the entry instrument takes, and one more;
+-- which number names which.
 use mathlib.Core.Path.{_≡_, refl}
-use mathlib.Core.List.{List, [], _∷_, _++_}
+use mathlib.Core.List.{List, [], _∷_, _++_, map}
 use Prim.Native.Nat.{ℕ, zero, suc}
 use lib.ListN.{replicate}
 use Rattle.sheet.specs.Reading.{fresh, Outcome, whole, refusal, readSheet}
 use Rattle.instrument.specs.declared.Instrument.the-variants.{Large, Entry}
-use Rattle.instrument.specs.Model.{modelOf}
+use Rattle.instrument.specs.declared.Named.the-variants.{Known, Unknown}
+use Rattle.instrument.specs.Model.{modelOf, instrumentOf}
 
 -- "65,536 bytes 00: `refused 2 at 0`; 65,537: `refused 1 at 65536`"
 longest-read : readSheet (modelOf Large) (replicate 65536 0) ≡ refusal 2 0 fresh
@@ -56,3 +58,7 @@ too-many-points = refl
 read-by-large : numberAndPlace (readSheet (modelOf Large) (withPoints 65)) ≡ []
 unfolding readSheet
 read-by-large = refl
+
+-- the numbers that name an instrument, and numbers beside them
+named : map instrumentOf (0 ∷ 1 ∷ 2 ∷ 3 ∷ 4294967297 ∷ []) ≡ Unknown ∷ Known Large ∷ Known Entry ∷ Unknown ∷ Unknown ∷ []
+named = refl

@@ -1,5 +1,5 @@
 -- What status 1 says, from the contracts of the doors alone: the number is an instrument's, and on it every run of the sheet is safe; the word is
--- one of the condition.
+-- one of the condition. And that the status of an unknown instrument is no answer's.
 use mathlib.Core.Path.{_≡_, refl, sym}
 use mathlib.Core.Bool.{Bool, true, false, cond}
 use mathlib.Core.List.{List}
@@ -10,6 +10,7 @@ use lib.Dec.{leb}
 use Rattle.condition.specs.Condition.{Holds}
 use Rattle.sheet.specs.Model.{Model}
 use Rattle.sheet.specs.Sheet.{condition}
+use Rattle.sheet.specs.Reading.{Outcome, whole, refusal}
 use Rattle.sheet.specs.Decode.{sheetOf}
 use Rattle.runs.specs.Runs.{Move, run, Safe}
 use Rattle.verdict.specs.Verdict.{Report, accepted, refused, unproved}
@@ -18,7 +19,7 @@ use Rattle.instrument.specs.declared.Instrument.{Instrument}
 use Rattle.instrument.specs.declared.Named.{Named}
 use Rattle.instrument.specs.declared.Named.the-variants.{Known, Unknown}
 use Rattle.instrument.specs.Model.{modelOf, instrumentOf}
-use Rattle.numbers.specs.Numbers.{room, unwritten, reportStatus, answerStatus, unknownStatus, returned}
+use Rattle.numbers.specs.Numbers.{room, unwritten, reportStatus, answerStatus, readStatus, unknownStatus, returned}
 use Rattle.sheet_loader.specs.Doors.{LoadsInto, TestsWordInto, UnknownInto, OnNamed, LoadsOn, TestsWordOn}
 
 -- a status that is returned and is not that of a slice without room is the answer's
@@ -46,6 +47,21 @@ module _ {M : Model} {s before after : List ℕ} where
 
   pub the-word-is-held : {c : ℕ} {w : List ℕ} → TestsWordInto M s c w before after 1 → Holds (condition (sheetOf M s) c) w
   the-word-is-held x = x .promised .right true (is-yes _ (answered _ before (x .status))) .0 tt
+
+-- The status of an unknown instrument is no answer's
+of-no-report : (v : Report) → reportStatus v ≡ unknownStatus → ⊥
+of-no-report (accepted n) e = omega (arith, e)
+of-no-report (refused n at) e = omega (arith, e)
+of-no-report (unproved r k f) e = omega (arith, e)
+
+of-no-word : (a : Answer) → answerStatus a ≡ unknownStatus → ⊥
+of-no-word (tested true) e = omega (arith, e)
+of-no-word (tested false) e = omega (arith, e)
+of-no-word (untested n at) e = omega (arith, e)
+
+of-no-reading : (o : Outcome) → readStatus o ≡ unknownStatus → ⊥
+of-no-reading (whole r) e = omega (arith, e)
+of-no-reading (refusal n at r) e = omega (arith, e)
 
 -- On the instrument of a number: an unknown one never has status 1
 module _ (n : ℕ) (s before after : List ℕ) where

@@ -43,11 +43,14 @@ abbrev pub OnNamed : Named → (Model → Type 0) → Type 0 → Type 0
 OnNamed (Known i) P Q = P (modelOf i)
 OnNamed Unknown P Q = Q
 
+-- the loader's door
 abbrev pub LoadsOn : ℕ → (s before after : List ℕ) → ℕ → Type 0
 LoadsOn n s before after result = OnNamed (instrumentOf n) (λ M. LoadsInto M s before after result) (UnknownInto before after result)
 
+-- the word test's
 abbrev pub TestsWordOn : ℕ → List ℕ → ℕ → (word before after : List ℕ) → ℕ → Type 0
 TestsWordOn n s c word before after result = OnNamed (instrumentOf n) (λ M. TestsWordInto M s c word before after result) (UnknownInto before after result)
 
+-- the reader's
 abbrev pub ReadsOn : ℕ → (s before after : List ℕ) → ℕ → Type 0
 ReadsOn n s before after result = OnNamed (instrumentOf n) (λ M. ReadsInto M s before after result) (UnknownInto before after result)
