@@ -4,7 +4,7 @@ use mathlib.Core.Path.{_≡_, refl}
 use mathlib.Core.List.{List, [], _∷_, _++_, map}
 use Prim.Native.Nat.{ℕ, zero, suc}
 use lib.ListN.{replicate}
-use Rattle.sheet.specs.Reading.{fresh, Outcome, whole, refusal, readSheet}
+use Rattle.sheet.specs.Reading.{fresh, ReadResult, whole, refusal, readSheet}
 use Rattle.instrument.specs.declared.Instrument.the-variants.{Large, Entry}
 use Rattle.instrument.specs.declared.Named.the-variants.{Known, Unknown}
 use Rattle.instrument.specs.Model.{modelOf, instrumentOf}
@@ -41,7 +41,7 @@ abbrev withPoints : ℕ → List ℕ
 withPoints n = (0x02 ∷ 0x06 ∷ []) ++ (points n ++ (0x09 ∷ replicate 10 0))
 
 -- the number and the place of the refusal, neither where there is none
-abbrev numberAndPlace : Outcome → List ℕ
+abbrev numberAndPlace : ReadResult → List ℕ
 numberAndPlace (whole r) = []
 numberAndPlace (refusal n at r) = n ∷ at ∷ []
 

@@ -45,18 +45,18 @@ module _ {M : Model} {s : List ℕ} {c : Contents} (t : ReadWhole M s c) where
 
   -- 10
   pub miscounted : (c .tally .certificates ≡ certificatesNeeded (rules S) → ⊥) → refused 10 (some (length s)) ≡ verdictOf M s
-  miscounted n = sym (verdict-miscounted M s _ (t .outcome) (λ e. n (certificates-are t ∙ e)))
+  miscounted n = sym (verdict-miscounted M s _ (t .result) (λ e. n (certificates-are t ∙ e)))
 
   module _ (enough : c .tally .certificates ≡ certificatesNeeded (rules S)) {got : Tested} (tries : Tries (M .events) s (rules S) (c .certificates) got) where
     -- what the trial of the rules comes to
     judged-by : (x : Tested) → got ≡ x → reportOn (accepted (count S)) (trialOf x) ≡ verdictOf M s
     judged-by x is =
-        let (from, end, chain) = certificates-chained M s _ (t .outcome) in
+        let (from, end, chain) = certificates-chained M s _ (t .result) in
         let (end, chain) = chained-from chain (length s) in
         sym (ap (λ (x : Tested). reportOn (accepted (count S)) (trialOf x)) is)
         ∙ ap (reportOn (accepted (count S))) (tries .comes-to)
         ∙ ap (λ (q : ℕ). reportOn (accepted (count S)) (tryRules (M .events) s (rules S) q)) (t .certificates)
-        ∙ sym (verdict-tried M s _ (t .outcome) end _ chain (sym (certificates-are t) ∙ enough))
+        ∙ sym (verdict-tried M s _ (t .result) end _ chain (sym (certificates-are t) ∙ enough))
 
     pub accepted-by : {at : ℕ} → got ≡ Passed at → (n : ℕ) → n ≡ length (rules S) → accepted n ≡ verdictOf M s
     accepted-by is n e = ap (λ (n : ℕ). accepted n) (e ∙ counted S) ∙ judged-by (Passed _) is
@@ -66,7 +66,7 @@ module _ {M : Model} {s : List ℕ} {c : Contents} (t : ReadWhole M s c) where
 
 -- 1 to 9
 pub refused-by : (M : Model) (s : List ℕ) {x : Refusal} → Refuses M s x → refused (numberOf x) (placeOf x) ≡ verdictOf M s
-refused-by M s {x} h = ap (refused (numberOf x)) (h .placed) ∙ sym (verdict-refused M s _ _ _ (h .outcome))
+refused-by M s {x} h = ap (refused (numberOf x)) (h .placed) ∙ sym (verdict-refused M s _ _ _ (h .result))
 
 module _ (i : Instrument) {s : List ℕ} where
   -- events by an instrument's limits are those of its model

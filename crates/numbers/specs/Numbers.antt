@@ -6,7 +6,7 @@ use mathlib.Core.List.{List, [], _∷_, _++_}
 use lib.ListN.{length, drop}
 use lib.Dec.{leb}
 use Rattle.sheet.specs.Kind.{conditions, points, methods, steps, certificates}
-use Rattle.sheet.specs.Reading.{tally, Outcome, whole, refusal}
+use Rattle.sheet.specs.Reading.{tally, ReadResult, whole, refusal}
 use Rattle.verdict.specs.Verdict.{Report, accepted, refused, unproved}
 use Rattle.verdict.specs.WordTest.{Answer, tested, untested}
 use Rattle.verdict.specs.Reply.{Reply, replyOf, answerReply}
@@ -34,7 +34,7 @@ answerStatus (tested false) = 3
 answerStatus (untested n at) = 2
 
 -- 1 read whole, 2 refused
-abbrev pub readStatus : Outcome → ℕ
+abbrev pub readStatus : ReadResult → ℕ
 readStatus (whole r) = 1
 readStatus (refusal n at r) = 2
 
@@ -48,7 +48,7 @@ unknownStatus = 4
 abbrev pub tallyReply : (ℕ → ℕ) → Reply
 tallyReply count = record { number = none; values = count conditions ∷ count points ∷ count methods ∷ count steps ∷ count certificates ∷ [] }
 
-abbrev pub readReply : Outcome → Reply
+abbrev pub readReply : ReadResult → Reply
 readReply (whole r) = tallyReply (tally r)
 readReply (refusal n at r) = replyOf (refused n (some at))
 
@@ -79,7 +79,7 @@ reportNumbers r = numbersOf (reportStatus r) (replyOf r)
 abbrev pub answerNumbers : Answer → List ℕ
 answerNumbers a = numbersOf (answerStatus a) (answerReply a)
 
-abbrev pub readNumbers : Outcome → List ℕ
+abbrev pub readNumbers : ReadResult → List ℕ
 readNumbers o = numbersOf (readStatus o) (readReply o)
 
 -- an unknown instrument has the status alone, whatever the sheet

@@ -42,14 +42,14 @@ module _ {M : Model} {s : List ℕ} {c : Contents} (t : ReadWhole M s c) where
   offsets k = startsOf (lastState M s .own k)
 
   there : Located M S s offsets
-  there = located M s _ (t .outcome)
+  there = located M s _ (t .result)
 
   -- How many there are, by the tally --------------------------------------------------------------------------------------
 
   as-counted : (k : ℕ) → countOf (c .tally) k ≡ length (offsets k)
   as-counted k =
       sym (t .tally k)
-      ∙ own-tally M s _ (t .outcome) k
+      ∙ own-tally M s _ (t .result) k
       ∙ sym (length-map (lastState M s .own k) (λ (x : Counted). startOf (x .opened) (x .last .at)))
 
   pub conditions-are : c .tally .conditions ≡ length (S .conditions)
@@ -71,11 +71,11 @@ module _ {M : Model} {s : List ℕ} {c : Contents} (t : ReadWhole M s c) where
     conditions-held = held (offsets conditions) cs _ (omega (arith, there .conditions-counted, there .few-conditions)) (w .conditions)
 
     pub conditions-in : ConditionsIn S s cs′
-    conditions-in = read-conditions M s _ (t .outcome) conditions-held
+    conditions-in = read-conditions M s _ (t .result) conditions-held
 
     pub indexed : M .points ≤ length ps → length ms ≡ 64 → length ts ≡ 512 → M .events ≤ 64 → Indexes S s cs′ ps′ ms′ ts′
     indexed a b d events =
-        read-indexes M s _ (t .outcome) (omega (arith, ap length (w .points), overwritten-length (offsets points) ps)) events conditions-held
+        read-indexes M s _ (t .result) (omega (arith, ap length (w .points), overwritten-length (offsets points) ps)) events conditions-held
         (held (offsets points) ps _ (omega (arith, there .points-counted, there .few-points)) (w .points))
         (held (offsets methods) ms _ (omega (arith, there .methods-counted, there .few-methods)) (w .methods))
         (held (offsets steps) ts _ (omega (arith, there .steps-counted, there .few-steps)) (w .steps))

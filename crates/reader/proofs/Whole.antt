@@ -6,7 +6,7 @@ use native.Mathlib.Omega.{arith}
 use lib.ListN.{length}
 use lib.Dec.{eqb}
 use Rattle.sheet.specs.Model.{Model}
-use Rattle.sheet.specs.Reading.{Counted, Reading, fresh, tally, startsOf, Outcome, stateOf, readFrom, readSheet}
+use Rattle.sheet.specs.Reading.{Counted, Reading, fresh, tally, startsOf, ReadResult, stateOf, readFrom, readSheet}
 use Rattle.format.specs.declared.Refusal.{Refusal}
 use Rattle.format.specs.declared.Refusal.the-variants.{TooLong}
 use Rattle.tally.specs.declared.Tally.{Tally}
@@ -35,27 +35,27 @@ none-counted (suc (suc (suc (suc (suc (suc k)))))) = refl
 -- 1
 pub refused-length : (M : Model) (s : List ℕ) {c p m e : List ℕ} → M .bytes < length s → Reads M s (read.Refused (TooLong (M .bytes))) c c p p m m e e
 refused-length M s {c} {p} {m} {e} h =
-    let outcome = read-is M s ∙ too-long M s fresh h in
-    let last : lastState M s ≡ fresh = ap stateOf outcome in
+    let result = read-is M s ∙ too-long M s fresh h in
+    let last : lastState M s ≡ fresh = ap stateOf result in
     record {
-      answer = subst (λ (r : Reading). Ends (readSheet M s) r (TooLong (M .bytes))) (sym last) (record { place = M .bytes; placed = refl; outcome = outcome });
+      answer = subst (λ (r : Reading). Ends (readSheet M s) r (TooLong (M .bytes))) (sym last) (record { place = M .bytes; placed = refl; result = result });
       tables =
           subst (λ (r : Reading). TablesFilled c c p p m m e e (r .own)) (sym last) (record { conditions = refl; points = refl; methods = refl; steps = refl });
     }
 
--- what a reader of section k says, whatever the outcome and the state in which it begins, where section j is to come
+-- what a reader of section k says, whatever the result and the state in which it begins, where section j is to come
 abbrev Reader : Model → List ℕ → ℕ → ℕ → Section → Section → List ℕ → List ℕ → Type 0
-Reader M s j k a b before after = (o : Outcome) (u : Reading) → Told M s o j a u → u .own k ≡ [] → Filled M s o (suc k) b k u before after
+Reader M s j k a b before after = (o : ReadResult) (u : Reading) → Told M s o j a u → u .own k ≡ [] → Filled M s o (suc k) b k u before after
 
 module _ {M : Model} {s : List ℕ} {t₀ : Tally} {a₁ a₂ a₃ a₄ : Section} {c₀ c p₀ p m₀ m e₀ e : List ℕ} (fits : length s ≤ M .bytes) (start : t₀ ≡ nothingCounted)
     (r₁ : Reader M s 0 1 (Done 0 t₀) a₁ c₀ c) (r₂ : Reader M s 2 2 a₁ a₂ p₀ p) (r₃ : Reader M s 3 3 a₂ a₃ m₀ m) (r₄ : Reader M s 4 4 a₃ a₄ e₀ e) where
-  abbrev o : Outcome
+  abbrev o : ReadResult
   o = readSheet M s
 
   begins-here : Told M s o 0 (Done 0 t₀) fresh
   begins-here = (
     record {
-      comes = subst (λ (o : Outcome). Comes M s o 0 fresh) (sym (read-is M s)) (begins M s fresh fits);
+      comes = subst (λ (o : ReadResult). Comes M s o 0 fresh) (sym (read-is M s)) (begins M s fresh fits);
       section = omega arith;
       closed = refl;
       begun = λ before low. absurd (omega arith);
@@ -117,7 +117,7 @@ module _ {M : Model} {s : List ℕ} {t₀ : Tally} {a₁ a₂ a₃ a₄ : Sectio
   pub stops : {x : Refusal} → a₄ ≡ Refused x → Reads M s (read.Refused x) c₀ c p₀ p m₀ m e₀ e
   stops {x} is =
       let ends : Ends o u x = subst (λ (a : Section). Told M s o 5 a u) is (f₄ .told) in
-      ends-in u (ap stateOf (ends .outcome)) (λ j ne. refl) (λ last. subst (λ (l : Reading). Ends o l x) (sym last) ends)
+      ends-in u (ap stateOf (ends .result)) (λ j ne. refl) (λ last. subst (λ (l : Reading). Ends o l x) (sym last) ends)
 
   module _ {at : ℕ} {t : Tally} (is : a₄ ≡ Done at t) where
     comes-there : Told M s o 5 (Done at t) u
@@ -133,7 +133,7 @@ module _ {M : Model} {s : List ℕ} {t₀ : Tally} {a₁ a₂ a₃ a₄ : Sectio
     no-method = ap (λ (n : ℕ). eqb n 0) (sym (counted 3))
 
     -- .. in the certificates, or with them
-    pub concludes : {r : Read} → ((o : Outcome) (u : Reading) → Told M s o 5 (Done at t) u → u .own 5 ≡ [] → eqb (length (u .own 3)) 0 ≡ eqb (t .methods) 0 → Concluded s o u r)
+    pub concludes : {r : Read} → ((o : ReadResult) (u : Reading) → Told M s o 5 (Done at t) u → u .own 5 ≡ [] → eqb (length (u .own 3)) 0 ≡ eqb (t .methods) 0 → Concluded s o u r)
         → Reads M s r c₀ c p₀ p m₀ m e₀ e
     concludes {r} read-on = go r (read-on o u comes-there no-certificates no-method)
       where
@@ -141,7 +141,7 @@ module _ {M : Model} {s : List ℕ} {t₀ : Tally} {a₁ a₂ a₃ a₄ : Sectio
         go (read.Whole x) w =
             ends-in (w .state) (ap stateOf (w .answers .0)) (w .others)
             (λ last.
-            let (outcome, counts, first) = subst (λ (l : Reading). Answers s o (read.Whole x) l) (sym last) (w .answers) in
-            record { outcome = outcome; tally = counts; certificates = first })
+            let (result, counts, first) = subst (λ (l : Reading). Answers s o (read.Whole x) l) (sym last) (w .answers) in
+            record { result = result; tally = counts; certificates = first })
         go (read.Refused x) w =
-            ends-in (w .state) (ap stateOf (w .answers .outcome)) (w .others) (λ last. subst (λ (l : Reading). Ends o l x) (sym last) (w .answers))
+            ends-in (w .state) (ap stateOf (w .answers .result)) (w .others) (λ last. subst (λ (l : Reading). Ends o l x) (sym last) (w .answers))

@@ -22,7 +22,7 @@ Refuses M s x = Ends (readSheet M s) (lastState M s) x
 
 -- reading takes the whole sheet; c has the tally at the end, and where the first certificate starts: at the length, if there is none
 pub record ReadWhole (M : Model) (s : List ℕ) (c : Contents) : Type 0 where
-  pub outcome : readSheet M s ≡ whole (lastState M s)
+  pub result : readSheet M s ≡ whole (lastState M s)
   pub tally : Counts (lastState M s) (c .tally)
   pub certificates : c .certificates ≡ getD (startsOf (lastState M s .own certificates)) 0 (length s)
 

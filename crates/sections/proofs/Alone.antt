@@ -10,7 +10,7 @@ use borrow.Author.Tests.{ne-eqb, eq-eqb}
 use Rattle.sheet.specs.Model.{Model}
 use Rattle.sheet.specs.Kind.{Role, symbol, a-pair, counts, kindOf, sectionOf}
 use Rattle.sheet.specs.Record.{byteAt, recordAt}
-use Rattle.sheet.specs.Reading.{Opened, Counted, Reading, tally, startOf, startsOf, wrongItems, full, overLimit, allExist, pastAt, Outcome}
+use Rattle.sheet.specs.Reading.{Opened, Counted, Reading, tally, startOf, startsOf, wrongItems, full, overLimit, allExist, pastAt, ReadResult}
 use Rattle.sheet.proofs.Order.{is-4, is-5, is-6, all-named, is-9, six, seven, nine, takes}
 use Rattle.format.specs.declared.Refusal.{Refusal}
 use Rattle.format.specs.declared.Refusal.the-variants.{WrongSection, OverLimit, UnknownName, NoFirstBody}
@@ -58,7 +58,7 @@ begin {k} {r} table e =
     }
 
 -- reading has ended before the section
-pub passes : {M : Model} {s : List ℕ} {o : Outcome} {k next : ℕ} {a : Section} {x : Refusal} {r : Reading} {table : List ℕ} → a ≡ Refused x → Told M s o k a r → r .own k ≡ []
+pub passes : {M : Model} {s : List ℕ} {o : ReadResult} {k next : ℕ} {a : Section} {x : Refusal} {r : Reading} {table : List ℕ} → a ≡ Refused x → Told M s o k a r → r .own k ≡ []
     → Filled M s o next a k r table table
 passes {M} {s} {o} {k} {next} {r = r} {table} is told none =
     record { state = r; told = subst (λ (a : Section). Told M s o next a r) (sym is) (subst (λ (a : Section). Told M s o k a r) is told); grown = begin table none }
@@ -78,7 +78,7 @@ none-yet k r u t₀ t same none h₀ h = go (length (u .own k)) counted
     go zero e = sym (eq-eqb (countOf t k) (countOf t₀ k) (omega (arith, at-first)))
     go (suc n) e = eqb·suc-zero n ∙ sym (ne-eqb (countOf t k) (countOf t₀ k) (λ (same : countOf t k ≡ countOf t₀ k). omega (arith, at-first)))
 
-module _ {l : Limits} {s : List ℕ} {o : Outcome} {k at limit : ℕ} {t : Tally} {r : Reading} {table₀ table room : List ℕ} (a : Alone l k limit room)
+module _ {l : Limits} {s : List ℕ} {o : ReadResult} {k at limit : ℕ} {t : Tally} {r : Reading} {table₀ table room : List ℕ} (a : Alone l k limit room)
     (h : Filled (modelWith l) s o k (Done at t) k r table₀ table) where
   abbrev M : Model
   M = modelWith l

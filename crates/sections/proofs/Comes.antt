@@ -1,4 +1,4 @@
--- Reading comes to an offset: at the start, and past each record that is taken; and what is known of the outcome where it ends.
+-- Reading comes to an offset: at the start, and past each record that is taken; and what is known of the result where it ends.
 use mathlib.Core.Path.{_≡_, refl, sym, ap, _∙_, subst}
 use mathlib.Core.Bool.{false}
 use mathlib.Core.List.{List}
@@ -8,7 +8,7 @@ use lib.ListN.{length}
 use lib.Dec.{eqb}
 use borrow.Author.Tests.{lt-ltb, le-ltb}
 use Rattle.sheet.specs.Model.{Model}
-use Rattle.sheet.specs.Reading.{Reading, refusalOf, pastAt, Outcome, refusal, atEnd, readOn, readFrom}
+use Rattle.sheet.specs.Reading.{Reading, refusalOf, pastAt, ReadResult, refusal, atEnd, readOn, readFrom}
 use Rattle.sheet.proofs.Take.{next-lt}
 use Rattle.sheet.proofs.ReadOn.{afterRecord, on-end, on-record, from-is}
 use Rattle.format.specs.declared.Refusal.{Refusal}
@@ -47,7 +47,7 @@ numbered WordTooLong = refl
 numbered (StrayEvent p) = refl
 numbered NoSuchCondition = refl
 
-module _ {M : Model} {s : List ℕ} {o : Outcome} {at : ℕ} {r : Reading} (c : Comes M s o at r) where
+module _ {M : Model} {s : List ℕ} {o : ReadResult} {at : ℕ} {r : Reading} (c : Comes M s o at r) where
   -- no record is left
   pub ended : length s ≤ at → o ≡ atEnd s r
   ended h = sym (c .rest) ∙ on-end M s (c .fuel) at r h
@@ -65,7 +65,7 @@ module _ {M : Model} {s : List ℕ} {o : Outcome} {at : ℕ} {r : Reading} (c : 
     pub refuses : {y : Refusal} → Refuses M s at r y → Ends o r y
     refuses {y} (e, placed) =
         let (fuel, enough, rest) = spent (numberOf y) e in
-        record { place = at; placed = placed; outcome = sym rest ∙ simp (numbered y) }
+        record { place = at; placed = placed; result = sym rest ∙ simp (numbered y) }
 
     -- the record there is taken
     pub taken-on : {kind q : ℕ} → Stood M s at kind q → refusalOf M s at r ≡ 0 → Comes M s o q (pastAt s at r)

@@ -10,7 +10,7 @@ use borrow.Author.Tests.{ne-eqb, eq-eqb, ltb-false}
 use Rattle.sheet.specs.Model.{Model}
 use Rattle.sheet.specs.Kind.{Role, symbol, a-pair, counts, kindOf, sectionOf}
 use Rattle.sheet.specs.Record.{byteAt, recordAt}
-use Rattle.sheet.specs.Reading.{Opened, Counted, Reading, tally, startOf, startsOf, wrongItems, full, overLimit, refusalOf, openedPast, pastAt, Outcome, whole, refusal}
+use Rattle.sheet.specs.Reading.{Opened, Counted, Reading, tally, startOf, startsOf, wrongItems, full, overLimit, refusalOf, openedPast, pastAt, ReadResult, whole, refusal}
 use Rattle.sheet.proofs.Order.{is-4, is-5, is-6, takes}
 use Rattle.format.specs.declared.Refusal.{Refusal}
 use Rattle.format.specs.declared.Refusal.the-variants.{WrongSection, Unfinished, NoFirstBody}
@@ -28,7 +28,7 @@ use Rattle.sections.proofs.Counted.{at-is, own-same, counts-same, close
 use Rattle.sections.proofs.Tests.{and-left, section-is, not-3, early, in-order, no-method}
 
 -- what the loop keeps: whether a certificate is open, and that the first one starts where the section does
-pub record Ending (M : Model) (s : List ℕ) (o : Outcome) (r : Reading) (from at : ℕ) (t : Tally) (inside : Bool) : Type 0 where
+pub record Ending (M : Model) (s : List ℕ) (o : ReadResult) (r : Reading) (from at : ℕ) (t : Tally) (inside : Bool) : Type 0 where
   pub state : Reading
   pub comes : Comes M s o at state
   pub section : state .section ≤ 5
@@ -40,7 +40,7 @@ pub record Ending (M : Model) (s : List ℕ) (o : Outcome) (r : Reading) (from a
   pub is-inside : ltb 0 (state .opened .section) ≡ inside
   pub first : getD (startsOf (state .own 5)) 0 (startOf (state .opened) at) ≡ from
 
-pub begin : {M : Model} {s : List ℕ} {o : Outcome} {r : Reading} {from : ℕ} {t : Tally} → Told M s o 5 (Done from t) r → r .own 5 ≡ [] → eqb (length (r .own 3)) 0 ≡ eqb (t .methods) 0
+pub begin : {M : Model} {s : List ℕ} {o : ReadResult} {r : Reading} {from : ℕ} {t : Tally} → Told M s o 5 (Done from t) r → r .own 5 ≡ [] → eqb (length (r .own 3)) 0 ≡ eqb (t .methods) 0
     → Ending M s o r from from t false
 begin {r = r} {from} (b, counted) none none-yet =
     record {
@@ -62,7 +62,7 @@ first-of : (os : List ℕ) (o d : ℕ) → getD (os ++ (o ∷ [])) 0 d ≡ getD 
 first-of [] o d = refl
 first-of (p ∷ os) o d = refl
 
-module _ {M : Model} {s : List ℕ} {o : Outcome} {r : Reading} {from at : ℕ} {t : Tally} {inside : Bool} (h : Ending M s o r from at t inside) where
+module _ {M : Model} {s : List ℕ} {o : ReadResult} {r : Reading} {from at : ℕ} {t : Tally} {inside : Bool} (h : Ending M s o r from at t inside) where
   abbrev u : Reading
   u = h .state
 
@@ -182,14 +182,14 @@ module _ {M : Model} {s : List ℕ} {o : Outcome} {r : Reading} {from at : ℕ} 
     pub unfinished : inside ≡ true → Concluded s o r (Refused (Unfinished (length s)))
     unfinished e =
         concluded (Refused (Unfinished (length s)))
-        (record { place = length s; placed = refl; outcome = at-end true (eqb (length (u .own 3)) 0) (h .is-inside ∙ e) refl })
+        (record { place = length s; placed = refl; result = at-end true (eqb (length (u .own 3)) 0) (h .is-inside ∙ e) refl })
 
     module _ (out : inside ≡ false) where
       -- 9
       pub no-methods : t .methods ≡ 0 → Concluded s o r (Refused (NoFirstBody (length s)))
       no-methods e =
           concluded (Refused (NoFirstBody (length s)))
-          (record { place = length s; placed = refl; outcome = at-end false true (h .is-inside ∙ out) (h .none-yet ∙ eq-eqb (t .methods) 0 e) })
+          (record { place = length s; placed = refl; result = at-end false true (h .is-inside ∙ out) (h .none-yet ∙ eq-eqb (t .methods) 0 e) })
 
       pub all-read : (t .methods ≡ 0 → ⊥) → Concluded s o r (Whole (record { tally = t; certificates = from }))
       all-read e =

@@ -11,7 +11,7 @@ use Rattle.condition.specs.Condition.{Condition}
 use Rattle.sheet.specs.Model.{Model, conditionLimit, symbolLimit, leafLimit}
 use Rattle.sheet.specs.Kind.{Role, symbol, a-pair, counts, kindOf, sectionOf}
 use Rattle.sheet.specs.Record.{byteAt, recordAt}
-use Rattle.sheet.specs.Reading.{Opened, nothing, Reading, tally, startOf, wrongItems, isLeaf, full, overLimit, refusalOf, openedPast, pastAt, Outcome, whole, refusal}
+use Rattle.sheet.specs.Reading.{Opened, nothing, Reading, tally, startOf, wrongItems, isLeaf, full, overLimit, refusalOf, openedPast, pastAt, ReadResult, whole, refusal}
 use Rattle.sheet.proofs.Order.{is-4, is-5, is-6, all-named, is-9, four, five, six, takes}
 use Rattle.format.specs.declared.Refusal.{Refusal}
 use Rattle.format.specs.declared.Refusal.the-variants.{WrongSection, Unfinished}
@@ -45,7 +45,7 @@ nothing-matches at =
     record { items = refl; symbols = refl; leaves = refl; starts = refl; closed = λ e. refl; opened = λ e. absurd (omega arith) }
 
 -- what the loop keeps
-pub record Opening (M : Model) (s : List ℕ) (o : Outcome) (r : Reading) (at start : ℕ) (b : Begun) (t : Tally) (table₀ table : List ℕ) : Type 0 where
+pub record Opening (M : Model) (s : List ℕ) (o : ReadResult) (r : Reading) (at start : ℕ) (b : Begun) (t : Tally) (table₀ table : List ℕ) : Type 0 where
   pub state : Reading
   pub comes : Comes M s o at state
   pub section : state .section ≤ 1
@@ -53,7 +53,7 @@ pub record Opening (M : Model) (s : List ℕ) (o : Outcome) (r : Reading) (at st
   pub grown : Extended 1 r state table₀ table
   pub matches : Matches (state .opened) at start b
 
-pub begin : {M : Model} {s : List ℕ} {o : Outcome} {r : Reading} {t : Tally} {b : Begun} (table : List ℕ) → Told M s o 0 (Done 0 t) r → r .own 1 ≡ [] → b ≡ nothingBegun
+pub begin : {M : Model} {s : List ℕ} {o : ReadResult} {r : Reading} {t : Tally} {b : Begun} (table : List ℕ) → Told M s o 0 (Done 0 t) r → r .own 1 ≡ [] → b ≡ nothingBegun
     → Opening M s o r 0 0 b t table table
 begin {r = r} table told none is =
     record {
@@ -67,7 +67,7 @@ begin {r = r} table told none is =
           (subst (λ (o : Opened). Matches o 0 0 nothingBegun) (sym (told .0 .closed)) (nothing-matches 0));
     }
 
-module _ {M : Model} {s : List ℕ} {o : Outcome} {r : Reading} {at start : ℕ} {b : Begun} {t : Tally} {table₀ table : List ℕ}
+module _ {M : Model} {s : List ℕ} {o : ReadResult} {r : Reading} {at start : ℕ} {b : Begun} {t : Tally} {table₀ table : List ℕ}
     (h : Opening M s o r at start b t table₀ table) where
   abbrev u : Reading
   u = h .state
@@ -95,7 +95,7 @@ module _ {M : Model} {s : List ℕ} {o : Outcome} {r : Reading} {at start : ℕ}
         told = record {
           place = length s;
           placed = refl;
-          outcome =
+          result =
               ended (h .comes) over
               ∙ ap (λ (b : Bool). cond b (refusal 8 (length s) u) (cond (eqb (length (u .own 3)) 0) (refusal 9 (length s) u) (whole u))) (ap (ltb 0) (h .matches .opened some));
         };

@@ -1,5 +1,5 @@
 -- What the section readers keep from record to record, and tell each other: reading has come to where the code stands, in a state that agrees
--- with the code's values, or has ended. The outcome is o, whatever state reading started in.
+-- with the code's values, or has ended. The result is o, whatever state reading started in.
 use Prim.Native.Nat.{ℕ, zero, suc, _+_, _≤_, _<_}
 use mathlib.Core.Path.{_≡_}
 use mathlib.Core.Option.{some}
@@ -9,7 +9,7 @@ use lib.Dec.{leb}
 use Rattle.sheet.specs.Model.{Model}
 use Rattle.sheet.specs.Kind.{points, steps, certificates, sectionOf}
 use Rattle.sheet.specs.Record.{byteAt}
-use Rattle.sheet.specs.Reading.{nothing, Reading, tally, startsOf, full, Outcome, whole, refusal, readOn}
+use Rattle.sheet.specs.Reading.{nothing, Reading, tally, startsOf, full, ReadResult, whole, refusal, readOn}
 use Rattle.format.specs.declared.Refusal.{Refusal}
 use Rattle.format.specs.Kinds.{lastKind}
 use Rattle.format.specs.Refusal.{numberOf, placeOf}
@@ -31,28 +31,28 @@ addressable = 4294967296
 abbrev pub Counts : Reading → Tally → Type 0
 Counts r t = (k : ℕ) → tally r k ≡ countOf t k
 
--- the outcome is a refusal in the state r, with the number and the place of x
-pub record Ends (o : Outcome) (r : Reading) (x : Refusal) : Type 0 where
+-- the result is a refusal in the state r, with the number and the place of x
+pub record Ends (o : ReadResult) (r : Reading) (x : Refusal) : Type 0 where
   pub place : ℕ
   pub placed : placeOf x ≡ some place
-  pub outcome : o ≡ refusal (numberOf x) place r
+  pub result : o ≡ refusal (numberOf x) place r
 
--- reading has come to the offset `at` in the state r: reading on from there gives the outcome
-pub record Comes (M : Model) (s : List ℕ) (o : Outcome) (at : ℕ) (r : Reading) : Type 0 where
+-- reading has come to the offset `at` in the state r: reading on from there gives the result
+pub record Comes (M : Model) (s : List ℕ) (o : ReadResult) (at : ℕ) (r : Reading) : Type 0 where
   pub inside : at ≤ length s
   pub fuel : ℕ
   pub enough : length s ≤ fuel + at
   pub rest : readOn M s fuel at r ≡ o
 
 -- .. with nothing open, past no record of a section after k; before the first record of section k, what comes is of no earlier section
-pub record Between (M : Model) (s : List ℕ) (o : Outcome) (k at : ℕ) (r : Reading) : Type 0 where
+pub record Between (M : Model) (s : List ℕ) (o : ReadResult) (k at : ℕ) (r : Reading) : Type 0 where
   pub comes : Comes M s o at r
   pub section : r .section ≤ k
   pub closed : r .opened ≡ nothing
   pub begun : at < length s → r .section < k → k ≤ sectionOf (byteAt s at)
 
 -- section k comes next, in the state r, or reading has ended in it
-abbrev pub Told : Model → List ℕ → Outcome → ℕ → Section → Reading → Type 0
+abbrev pub Told : Model → List ℕ → ReadResult → ℕ → Section → Reading → Type 0
 Told M s o k (Done at t) r = Between M s o k at r × Counts r t
 Told M s o k (Refused x) r = Ends o r x
 
@@ -75,18 +75,18 @@ pub record Extended (k : ℕ) (r u : Reading) (before after : List ℕ) : Type 0
   pub table : after ≡ overwrittenFrom (length (u .before k)) (startsOf (u .own k)) before
 
 -- what the reader of section k, which began in the state r, has told when section `next` comes next
-pub record Filled (M : Model) (s : List ℕ) (o : Outcome) (next : ℕ) (a : Section) (k : ℕ) (r : Reading) (before after : List ℕ) : Type 0 where
+pub record Filled (M : Model) (s : List ℕ) (o : ReadResult) (next : ℕ) (a : Section) (k : ℕ) (r : Reading) (before after : List ℕ) : Type 0 where
   pub state : Reading
   pub told : Told M s o next a state
   pub grown : Extended k r state before after
 
--- the answer is the outcome of reading, which ends in the state u
-abbrev pub Answers : List ℕ → Outcome → Read → Reading → Type 0
+-- the answer is the result of reading, which ends in the state u
+abbrev pub Answers : List ℕ → ReadResult → Read → Reading → Type 0
 Answers s o (Whole c) u = (o ≡ whole u) × Counts u (c .tally) × (c .certificates ≡ getD (startsOf (u .own certificates)) 0 (length s))
 Answers s o (read.Refused x) u = Ends o u x
 
--- what the reader of certificates, which began in the state r, tells: the outcome, and that only certificates were counted
-pub record Concluded (s : List ℕ) (o : Outcome) (r : Reading) (a : Read) : Type 0 where
+-- what the reader of certificates, which began in the state r, tells: the result, and that only certificates were counted
+pub record Concluded (s : List ℕ) (o : ReadResult) (r : Reading) (a : Read) : Type 0 where
   pub state : Reading
   pub answers : Answers s o a state
   pub others : (j : ℕ) → (j ≡ certificates → ⊥) → state .own j ≡ r .own j

@@ -5,7 +5,7 @@ ghost use Prim.Native.Nat.{suc, _≤_};
 ghost use lib.ListN.{length};
 ghost use lib.Dec.{eqb};
 ghost use Rattle.sheet.specs.Kind.{conditions, points, methods, certificates};
-ghost use Rattle.sheet.specs.Reading.{Reading, Outcome};
+ghost use Rattle.sheet.specs.Reading.{Reading, ReadResult};
 ghost use Rattle.format.specs.Kinds.{lastKind};
 ghost use Rattle.instrument.specs.Model.{modelWith};
 ghost use Rattle.sections.specs.Sections.{addressable, Told, Filled, Alone, Concluded};
@@ -50,7 +50,7 @@ pub enum Section {
 // The conditions. One is stored with its start, when its end comes.
 pub fn read_conditions(s: &[u8], limits: Limits, given: Tally, table: &mut [u32; 256]) -> Section
     requires { ⌜ (limits .kinds ≤ lastKind) × (length (now s) ≤ addressable) ⌝ }
-    ensures { λ r. ⌜ ((o : Outcome) (u : Reading) → Told (modelWith limits) (now (s .entry)) o 0 (Section.Done 0 given) u → u .own conditions ≡ []
+    ensures { λ r. ⌜ ((o : ReadResult) (u : Reading) → Told (modelWith limits) (now (s .entry)) o 0 (Section.Done 0 given) u → u .own conditions ≡ []
         → Filled (modelWith limits) (now (s .entry)) o points r conditions u (now (table .entry)) (now (table .exit))) ⌝ }
 {
     let mut at: usize = 0;
@@ -96,7 +96,7 @@ pub fn read_alone(
     table: &mut [u32],
 ) -> Section
     requires { ⌜ Alone limits section limit (now table) × (length (now s) ≤ addressable) ⌝ }
-    ensures { λ r. ⌜ ((o : Outcome) (u : Reading) → Told (modelWith limits) (now (s .entry)) o section reached u → u .own section ≡ []
+    ensures { λ r. ⌜ ((o : ReadResult) (u : Reading) → Told (modelWith limits) (now (s .entry)) o section reached u → u .own section ≡ []
         → Filled (modelWith limits) (now (s .entry)) o (suc section) r section u (now (table .entry)) (now (table .exit))) ⌝ }
 {
     let Section::Done { at, tally } = reached else {
@@ -137,7 +137,7 @@ pub fn read_alone(
 // The certificates, and the end of the sheet. Certificates have no table.
 pub fn read_certificates(s: &[u8], limits: Limits, from: usize, given: Tally) -> Read
     requires { ⌜ (limits .kinds ≤ lastKind) × (given .certificates ≤ from) ⌝ }
-    ensures { λ r. ⌜ ((o : Outcome) (u : Reading) → Told (modelWith limits) (now (s .entry)) o certificates (Section.Done from given) u → u .own certificates ≡ []
+    ensures { λ r. ⌜ ((o : ReadResult) (u : Reading) → Told (modelWith limits) (now (s .entry)) o certificates (Section.Done from given) u → u .own certificates ≡ []
         → eqb (length (u .own methods)) 0 ≡ eqb (given .methods) 0 → Concluded (now (s .entry)) o u r) ⌝ }
 {
     let mut at = from;

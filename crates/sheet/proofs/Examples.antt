@@ -12,7 +12,7 @@ use Rattle.sheet.specs.Model.{Model, large, entry, NoLarger}
 use Rattle.sheet.specs.Sheet.{event-step, callFrom, pass-step}
 use Rattle.sheet.specs.Kind.{sectionOf, bodyLength}
 use Rattle.sheet.specs.Record.{Record, recordAt}
-use Rattle.sheet.specs.Reading.{nothing, Counted, Reading, startingFrom, startsOf, Outcome, whole, refusal, stateOf, readFrom, readSheet}
+use Rattle.sheet.specs.Reading.{nothing, Counted, Reading, startingFrom, startsOf, ReadResult, whole, refusal, stateOf, readFrom, readSheet}
 use Rattle.sheet.specs.Decode.{pointOf, methodOf, stepOf, sheetOf}
 
 -- Kinds -----------------------------------------------------------------------------------------------------------------
@@ -102,7 +102,7 @@ unfolding sheetOf
 small-is-so = refl
 
 -- where its conditions, points, methods, steps and certificates start
-starts : Outcome → List (List ℕ)
+starts : ReadResult → List (List ℕ)
 starts x = map (λ (k : ℕ). startsOf (stateOf x .own k)) (1 ∷ 2 ∷ 3 ∷ 4 ∷ 5 ∷ [])
 
 small-starts : starts (readSheet large small)
@@ -118,7 +118,7 @@ record Row : Type 0 where
   bytes : List ℕ
   refused : List ℕ
 
-abbrev numberAndPlace : Outcome → List ℕ
+abbrev numberAndPlace : ReadResult → List ℕ
 numberAndPlace (whole r) = []
 numberAndPlace (refusal n at r) = n ∷ at ∷ []
 

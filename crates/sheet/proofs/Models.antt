@@ -11,15 +11,15 @@ use borrow.Author.Tests.{leb-false, lt-leb, ltb-false, le-ltb}
 use Rattle.sheet.specs.Model.{Model, NoLarger}
 use Rattle.sheet.specs.Kind.{conditions, Role, symbol, a-pair, counts, kindOf}
 use Rattle.sheet.specs.Record.{Record, byteAt, recordAt, nextAt}
-use Rattle.sheet.specs.Reading.{Reading, tally, full, wrongItems, overLimit, _when_else_, refusalOf, pastAt, Outcome, refusal, readOn, readFrom}
+use Rattle.sheet.specs.Reading.{Reading, tally, full, wrongItems, overLimit, _when_else_, refusalOf, pastAt, ReadResult, refusal, readOn, readFrom}
 -- checked before the proofs
 use Rattle.sheet.proofs.Examples
 
 -- what an instrument reads, beside what one that is no smaller reads
-pub data ReadsLike (M : Model) : Outcome → Outcome → Type 0 where
-  too-long : {x : Outcome} (r : Reading) → ReadsLike M (refusal 1 (M .bytes) r) x
-  over-limit : {x : Outcome} (at : ℕ) (r : Reading) → ReadsLike M (refusal 6 at r) x
-  the-same : {x : Outcome} → ReadsLike M x x
+pub data ReadsLike (M : Model) : ReadResult → ReadResult → Type 0 where
+  too-long : {x : ReadResult} (r : Reading) → ReadsLike M (refusal 1 (M .bytes) r) x
+  over-limit : {x : ReadResult} (at : ℕ) (r : Reading) → ReadsLike M (refusal 6 at r) x
+  the-same : {x : ReadResult} → ReadsLike M x x
 
 -- One record --------------------------------------------------------------------------------------------------------------
 
@@ -79,11 +79,11 @@ module _ (M M′ : Model) (N : NoLarger M M′) where
 
     -- All records -----------------------------------------------------------------------------------------------------------
 
-    choose : (b : Bool) {x x′ y y′ : Outcome} → ReadsLike M x x′ → ReadsLike M y y′ → ReadsLike M (cond b x y) (cond b x′ y′)
+    choose : (b : Bool) {x x′ y y′ : ReadResult} → ReadsLike M x x′ → ReadsLike M y y′ → ReadsLike M (cond b x y) (cond b x′ y′)
     choose true h k = h
     choose false h k = k
 
-    past-record : (at : ℕ) (r : Reading) {n n′ : ℕ} {y y′ : Outcome} → SixOrSame n n′ → ReadsLike M y y′
+    past-record : (at : ℕ) (r : Reading) {n n′ : ℕ} {y y′ : ReadResult} → SixOrSame n n′ → ReadsLike M y y′
         → ReadsLike M (y when eqb n 0 else refusal n at r) (y′ when eqb n′ 0 else refusal n′ at r)
     past-record at r six h = over-limit at r
     past-record at r (same {n}) h = choose (eqb n 0) h the-same

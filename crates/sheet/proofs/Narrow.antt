@@ -12,7 +12,7 @@ use Rattle.sheet.specs.Each.{Each, nil, cons}
 use Rattle.sheet.specs.Sheet.{Sheet, condition}
 use Rattle.sheet.specs.Kind.{Role, symbol, a-pair, counts, Kind, a-kind, kinds, kindOf, sectionOf}
 use Rattle.sheet.specs.Record.{Bytes, Record, byteAt, recordAt, value}
-use Rattle.sheet.specs.Reading.{Opened, Counted, Reading, item, openedPast, pastAt, Outcome, whole, refusal, readSheet}
+use Rattle.sheet.specs.Reading.{Opened, Counted, Reading, item, openedPast, pastAt, ReadResult, whole, refusal, readSheet}
 use Rattle.sheet.specs.Decode.{sheetIn, sheetOf}
 use Rattle.sheet.proofs.Each.{each-tail, each-mapped, each-getD}
 use Rattle.sheet.proofs.Fields.{value-lt}
@@ -64,13 +64,13 @@ module _ (M : Model) (s : List ℕ) (wide : 32 ≤ M .events) (bytes : Bytes s) 
       past-below (M .events) (r .opened) (recordAt s at) (sectionOf (byteAt s at)) (kindOf (byteAt s at) .role) (makes-below (M .events) (byteAt s at))
       (lt-of-lt-of-le (value-lt s bytes (kindOf (byteAt s at) .fields) (at + 1) 0) (pow-mono wide)) h
 
-  in-outcome : (x : Outcome) → readSheet M s ≡ x → (c : ℕ) → EventsBelow (M .events) (condition (sheetIn x) c)
-  in-outcome (whole r) h c =
+  in-result : (x : ReadResult) → readSheet M s ≡ x → (c : ℕ) → EventsBelow (M .events) (condition (sheetIn x) c)
+  in-result (whole r) h c =
       let each = each-own M s (λ at (r : Reading). AllBelow (M .events) (r .opened .items)) (λ k (c : Counted). EventsBelow (M .events) (item (c .opened) 0))
       kept (λ at r w below e. item-below (M .events) (r .opened .items) below 0) r h nil 1 in
       each-getD (λ c. EventsBelow (M .events) c) (each-mapped (λ c. EventsBelow (M .events) c) (λ (c : Counted). item (c .opened) 0) each) noWord (pow-pos (M .events)) c
-  in-outcome (refusal m at r) h c = pow-pos (M .events)
+  in-result (refusal m at r) h c = pow-pos (M .events)
 
 pub conditions-below : (M : Model) (s : List ℕ) → 32 ≤ M .events → Bytes s → (c : ℕ) → EventsBelow (M .events) (condition (sheetOf M s) c)
 conditions-below M s wide bytes c =
-    subst (λ (S : Sheet). EventsBelow (M .events) (condition S c)) (sym (of-is M s)) (in-outcome M s wide bytes (readSheet M s) refl c)
+    subst (λ (S : Sheet). EventsBelow (M .events) (condition S c)) (sym (of-is M s)) (in-result M s wide bytes (readSheet M s) refl c)

@@ -8,11 +8,11 @@ use lib.Dec.{eqb, eqb·suc-zero, ltb, leb}
 use borrow.Author.Tests.{lt-leb, le-leb}
 use Rattle.sheet.specs.Model.{Model}
 use Rattle.sheet.specs.Record.{nextAt}
-use Rattle.sheet.specs.Reading.{Reading, fresh, refusalOf, pastAt, Outcome, whole, refusal, stateOf, atEnd, readOn, readFrom, readSheet}
+use Rattle.sheet.specs.Reading.{Reading, fresh, refusalOf, pastAt, ReadResult, whole, refusal, stateOf, atEnd, readOn, readFrom, readSheet}
 use Rattle.sheet.proofs.Take.{Took, took}
 
 -- what follows in the state r at an offset before the end, where n is the number of the refusal there
-abbrev pub afterRecord : Model → List ℕ → ℕ → ℕ → Reading → ℕ → Outcome
+abbrev pub afterRecord : Model → List ℕ → ℕ → ℕ → Reading → ℕ → ReadResult
 afterRecord M s fuel at r n = cond (eqb n 0) (readOn M s fuel (nextAt s at) (pastAt s at r)) (refusal n at r)
 
 module _ (M : Model) (s : List ℕ) where
@@ -44,7 +44,7 @@ pub record Finished (P : ℕ → Reading → Type 0) (r : Reading) : Type 0 wher
   pub holds : P end r
   pub some-method : eqb (length (r .own 3)) 0 ≡ false
 
-abbrev IsWhole : Outcome → Type 0
+abbrev IsWhole : ReadResult → Type 0
 IsWhole (whole r) = Unit {0}
 IsWhole (refusal n at r) = ⊥
 

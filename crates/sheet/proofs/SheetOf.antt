@@ -3,7 +3,7 @@ use mathlib.Core.Path.{_≡_, refl, ap, _∙_}
 use mathlib.Core.List.{List}
 use Prim.Native.Nat.{ℕ}
 use Rattle.sheet.specs.Model.{Model}
-use Rattle.sheet.specs.Reading.{Reading, Outcome, whole, readSheet}
+use Rattle.sheet.specs.Reading.{Reading, ReadResult, whole, readSheet}
 use Rattle.sheet.specs.Decode.{sheetRead, sheetIn, sheetOf}
 
 module _ (M : Model) (s : List ℕ) where
@@ -12,4 +12,4 @@ module _ (M : Model) (s : List ℕ) where
   of-is = refl
 
   pub sheet-is : (r : Reading) → readSheet M s ≡ whole r → sheetOf M s ≡ sheetRead (r .own)
-  sheet-is r h = of-is ∙ ap (λ (x : Outcome). sheetIn x) h
+  sheet-is r h = of-is ∙ ap (λ (x : ReadResult). sheetIn x) h

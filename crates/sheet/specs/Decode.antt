@@ -7,7 +7,7 @@ use Rattle.sheet.specs.Model.{Model}
 use Rattle.sheet.specs.Sheet.{Point, Method, Step, event-step, callFrom, pass-step, Sheet}
 use Rattle.sheet.specs.Kind.{conditions, points, methods, steps, certificates}
 use Rattle.sheet.specs.Record.{Record, value}
-use Rattle.sheet.specs.Reading.{Counted, isPrimitive, _when_else_, item, Outcome, whole, refusal, readSheet}
+use Rattle.sheet.specs.Reading.{Counted, isPrimitive, _when_else_, item, ReadResult, whole, refusal, readSheet}
 
 -- kind 7: "conditions past, own, due"
 abbrev pub pointOf : Record → Point
@@ -42,7 +42,7 @@ sheetRead read =
     }
 
 -- The sheet that the bytes stand for; bytes that reading refuses stand for a sheet with nothing in it.
-abbrev pub sheetIn : Outcome → Sheet
+abbrev pub sheetIn : ReadResult → Sheet
 sheetIn (whole r) = sheetRead (r .own)
 sheetIn (refusal n at r) = sheetRead (λ k. [])
 

@@ -156,24 +156,24 @@ pastAt s at r =
 -- Reading -------------------------------------------------------------------------------------------------------------
 
 -- "a record, or the refusal that ends reading": the state past what is read, or the refusal's number and place, and the state that it ends in
-pub data Outcome : Type 0 where
-  whole : Reading → Outcome
-  refusal : (number at : ℕ) → Reading → Outcome
+pub data ReadResult : Type 0 where
+  whole : Reading → ReadResult
+  refusal : (number at : ℕ) → Reading → ReadResult
 
 -- the state that reading ends in, either way
-abbrev pub stateOf : Outcome → Reading
+abbrev pub stateOf : ReadResult → Reading
 stateOf (whole r) = r
 stateOf (refusal n at r) = r
 
 -- "8, 9 for no method, and 10 follow in that order at the end"; 8: "the end comes inside a condition or a certificate"
-abbrev pub atEnd : List ℕ → Reading → Outcome
+abbrev pub atEnd : List ℕ → Reading → ReadResult
 atEnd s r =
     refusal 8 (length s) r when ltb 0 (r .opened .section)
     else refusal 9 (length s) r when eqb (length (r .own methods)) 0
     else whole r
 
 -- the records from an offset on: "The earliest record at fault counts"; a record has a byte or more, so as much fuel as there are bytes is enough
-unfoldable pub readOn : Model → List ℕ → ℕ → ℕ → Reading → Outcome
+unfoldable pub readOn : Model → List ℕ → ℕ → ℕ → Reading → ReadResult
 readOn M s zero at r = atEnd s r
 readOn M s (suc fuel) at r =
     let n = refusalOf M s at r in
@@ -182,11 +182,11 @@ readOn M s (suc fuel) at r =
     atEnd s r when leb (length s) at else rest
 
 -- "1, place 65,536"; "Refusal 1 comes before reading."
-unfoldable pub readFrom : Model → Reading → List ℕ → Outcome
+unfoldable pub readFrom : Model → Reading → List ℕ → ReadResult
 unfolding recordAt nextAt readOn
 readFrom M r s = let rest = readOn M s (length s) 0 r in refusal 1 (M .bytes) r when ltb (M .bytes) (length s) else rest
 
 -- the reading of a sheet that stands alone
-unfoldable pub readSheet : Model → List ℕ → Outcome
+unfoldable pub readSheet : Model → List ℕ → ReadResult
 unfolding readFrom
 readSheet M s = readFrom M fresh s

@@ -12,5 +12,5 @@ use Rattle.numbers.specs.Numbers.{readNumbers}
 use Rattle.sheet_loader.specs.Reading.{numbersRead}
 
 pub read-numbers : (M : Model) (s : List ℕ) (r : Read) → Answered M s r → numbersRead r ≡ readNumbers (readSheet M s)
-read-numbers M s (Whole c) a = rw (a .outcome, a .tally conditions, a .tally points, a .tally methods, a .tally steps, a .tally certificates) refl
-read-numbers M s (Refused x) a = rw (a .placed, a .outcome)
+read-numbers M s (Whole c) a = rw (a .result, a .tally conditions, a .tally points, a .tally methods, a .tally steps, a .tally certificates) refl
+read-numbers M s (Refused x) a = rw (a .placed, a .result)

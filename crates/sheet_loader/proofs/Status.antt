@@ -10,7 +10,7 @@ use lib.Dec.{leb}
 use Rattle.condition.specs.Condition.{Holds}
 use Rattle.sheet.specs.Model.{Model}
 use Rattle.sheet.specs.Sheet.{condition}
-use Rattle.sheet.specs.Reading.{Outcome, whole, refusal}
+use Rattle.sheet.specs.Reading.{ReadResult, whole, refusal}
 use Rattle.sheet.specs.Decode.{sheetOf}
 use Rattle.runs.specs.Runs.{Move, run, Safe}
 use Rattle.verdict.specs.Verdict.{Report, accepted, refused, unproved}
@@ -59,7 +59,7 @@ of-no-word (tested true) e = omega (arith, e)
 of-no-word (tested false) e = omega (arith, e)
 of-no-word (untested n at) e = omega (arith, e)
 
-of-no-reading : (o : Outcome) → readStatus o ≡ unknownStatus → ⊥
+of-no-reading : (o : ReadResult) → readStatus o ≡ unknownStatus → ⊥
 of-no-reading (whole r) e = omega (arith, e)
 of-no-reading (refusal n at r) e = omega (arith, e)
 

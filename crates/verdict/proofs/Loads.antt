@@ -13,7 +13,7 @@ use Rattle.certificate.specs.Certificate.{Fault}
 use Rattle.sheet.specs.Model.{Model}
 use Rattle.sheet.specs.Sheet.{Sheet, body}
 use Rattle.sheet.specs.Record.{Bytes}
-use Rattle.sheet.specs.Reading.{Reading, Outcome, whole, refusal, readSheet}
+use Rattle.sheet.specs.Reading.{Reading, ReadResult, whole, refusal, readSheet}
 use Rattle.sheet.specs.Decode.{sheetOf}
 use Rattle.sheet.specs.Names.{HasBody}
 use Rattle.sheet.proofs.SheetOf.{sheet-is}
@@ -105,7 +105,7 @@ module _ (M : Model) (s : List ℕ) where
           tests (record { reading = r; read = read; enough = same }) (tried (M .events) (accepted (count S)) (rules S) (S .certificates) same)
       by-number r read false e = refuses _ (wrong-count read (eqb-false _ _ e)) refl
 
-      by-reading : (x : Outcome) → readSheet M s ≡ x → Decided (verdictAfter M s x)
+      by-reading : (x : ReadResult) → readSheet M s ≡ x → Decided (verdictAfter M s x)
       by-reading (refusal n at r) read = subst Decided (sym (after-refusal n at r)) (refuses _ (while-reading read) refl)
       by-reading (whole r) read = subst Decided (sym (after-whole r read ∙ judged-is S)) (by-number r read (enough S) refl)
 

@@ -5,7 +5,7 @@ use mathlib.Core.List.{List}
 use Prim.Native.Nat.{ℕ}
 use Rattle.condition.specs.Condition.{Word}
 use Rattle.sheet.specs.Model.{Model, NoLarger}
-use Rattle.sheet.specs.Reading.{fresh, Outcome, whole, refusal}
+use Rattle.sheet.specs.Reading.{fresh, ReadResult, whole, refusal}
 use Rattle.sheet.proofs.Models.{ReadsLike, too-long as reads-too-long, over-limit as reads-over-limit, the-same as reads-the-same, reads-like}
 use Rattle.verdict.specs.Verdict.{Report, accepted, verdictAfter, verdictOf}
 use Rattle.verdict.specs.WordTest.{testedAfter, wordTest}
@@ -33,12 +33,12 @@ module _ (M M′ : Model) (N : NoLarger M M′) (s : List ℕ) where
   abbrev with : ℕ → Model
   with events = record { bytes = 0; points = 0; events = events; kinds = 0 }
 
-  same-verdict : (x : Outcome) → verdictAfter M s x ≡ verdictAfter M′ s x
+  same-verdict : (x : ReadResult) → verdictAfter M s x ≡ verdictAfter M′ s x
   unfolding verdictAfter
   same-verdict (whole r) = ap (λ (events : ℕ). verdictAfter (with events) s (whole r)) (N .events)
   same-verdict (refusal n at r) = refl
 
-  verdict-after : {x y : Outcome} → ReadsLike M x y → LikeLarger replyOf M (verdictAfter M s x) (verdictAfter M′ s y)
+  verdict-after : {x y : ReadResult} → ReadsLike M x y → LikeLarger replyOf M (verdictAfter M s x) (verdictAfter M′ s y)
   unfolding verdictAfter
   verdict-after (reads-too-long r) = too-long refl
   verdict-after (reads-over-limit at r) = over-limit refl
@@ -57,12 +57,12 @@ module _ (M M′ : Model) (N : NoLarger M M′) (s : List ℕ) where
       }
 
   module _ (c : ℕ) (w : Word) where
-    same-tested : (x : Outcome) → testedAfter M s c w x ≡ testedAfter M′ s c w x
+    same-tested : (x : ReadResult) → testedAfter M s c w x ≡ testedAfter M′ s c w x
     unfolding testedAfter
     same-tested (whole r) = ap (λ (events : ℕ). testedAfter (with events) s c w (whole r)) (N .events)
     same-tested (refusal n at r) = refl
 
-    tested-after : {x y : Outcome} → ReadsLike M x y → LikeLarger answerReply M (testedAfter M s c w x) (testedAfter M′ s c w y)
+    tested-after : {x y : ReadResult} → ReadsLike M x y → LikeLarger answerReply M (testedAfter M s c w x) (testedAfter M′ s c w y)
     unfolding testedAfter
     tested-after (reads-too-long r) = too-long refl
     tested-after (reads-over-limit at r) = over-limit refl

@@ -14,7 +14,7 @@ use Rattle.certificate.specs.Certificate.{Fault, check}
 use Rattle.sheet.specs.Model.{Model, large}
 use Rattle.sheet.specs.Each.{nil}
 use Rattle.sheet.specs.Sheet.{condition}
-use Rattle.sheet.specs.Reading.{Outcome, whole, refusal, readSheet}
+use Rattle.sheet.specs.Reading.{ReadResult, whole, refusal, readSheet}
 use Rattle.sheet.specs.Decode.{sheetOf}
 use Rattle.sheet.proofs.Each.{each-head, each-tail}
 use Rattle.runs.specs.Rules.{_isIn_, rules, count}
@@ -32,7 +32,7 @@ use Rattle.verdict.proofs.Witnesses.{M-premises}
 
 -- Answers told apart ------------------------------------------------------------------------------------------------------
 
-abbrev IsWhole : Outcome → Type 0
+abbrev IsWhole : ReadResult → Type 0
 IsWhole (whole r) = Unit {0}
 IsWhole (refusal n at r) = ⊥
 

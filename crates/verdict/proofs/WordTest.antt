@@ -16,7 +16,7 @@ use Rattle.condition.proofs.Words.{words}
 use Rattle.sheet.specs.Model.{Model, wordLimit}
 use Rattle.sheet.specs.Each.{Each, nil, cons}
 use Rattle.sheet.specs.Sheet.{condition}
-use Rattle.sheet.specs.Reading.{Reading, Outcome, whole, refusal, readSheet}
+use Rattle.sheet.specs.Reading.{Reading, ReadResult, whole, refusal, readSheet}
 use Rattle.sheet.specs.Decode.{sheetOf}
 use Rattle.sheet.proofs.SheetOf.{sheet-is}
 use Rattle.verdict.specs.WordTest.{Answer, tested, untested, unlessStray, testedAfter, wordTest}
@@ -142,7 +142,7 @@ module _ (M : Model) (s : List ℕ) (c : ℕ) (w : Word) where
       by-number r read true e = refuses 14 none (no-such-condition read (leb-true _ c e))
       by-number r read false e = by-length (record { reading = r; read = read; exists = leb-false _ c e }) (ltb wordLimit (length w)) refl
 
-      by-reading : (x : Outcome) → readSheet M s ≡ x → Decided
+      by-reading : (x : ReadResult) → readSheet M s ≡ x → Decided
       by-reading (refusal n at r) e = refuses n (some at) (sheet-refused e)
       by-reading (whole r) e = by-number r e (leb (length (sheetOf M s .conditions)) c) refl
 

@@ -9,7 +9,7 @@ use Rattle.condition.specs.Condition.{Word}
 use Rattle.condition.specs.Places.{accepts}
 use Rattle.sheet.specs.Model.{Model, wordLimit}
 use Rattle.sheet.specs.Sheet.{condition}
-use Rattle.sheet.specs.Reading.{Outcome, whole, refusal, readSheet}
+use Rattle.sheet.specs.Reading.{ReadResult, whole, refusal, readSheet}
 use Rattle.sheet.specs.Decode.{sheetRead}
 
 -- what the word test returns
@@ -27,7 +27,7 @@ unlessStray events i (e ∷ w) otherwise =
     cond (ltb e events) after (untested 13 (some i))
 
 -- "it first applies 1 to 9, then 14, 12, 13": 14 "no such condition", 12 "word longer than 4,096"
-unfoldable pub testedAfter : Model → List ℕ → ℕ → Word → Outcome → Answer
+unfoldable pub testedAfter : Model → List ℕ → ℕ → Word → ReadResult → Answer
 unfolding unlessStray accepts
 testedAfter M s c w (refusal n at r) = untested n (some at)
 testedAfter M s c w (whole r) =

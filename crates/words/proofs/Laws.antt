@@ -30,11 +30,11 @@ module _ {M : Model} {s : List ℕ} {c : Contents} (t : ReadWhole M s c) where
 
   module _ (k : ℕ) (w : List ℕ) where
     pub condition-missing : c .tally .conditions ≤ k → untested 14 none ≡ wordTest M s k w
-    condition-missing h = sym (refused-in M s k w (no-such-condition (t .outcome) (omega (arith, conditions-are t))))
+    condition-missing h = sym (refused-in M s k w (no-such-condition (t .result) (omega (arith, conditions-are t))))
 
     module _ (there : k < length (sheetOf M s .conditions)) where
       finds : FindsCondition M s k
-      finds = record { reading = _; read = t .outcome; exists = there }
+      finds = record { reading = _; read = t .result; exists = there }
 
       pub too-long : 4096 < length w → untested 12 none ≡ wordTest M s k w
       too-long h = sym (refused-in M s k w (word-too-long finds h))
@@ -49,7 +49,7 @@ module _ {M : Model} {s : List ℕ} {c : Contents} (t : ReadWhole M s c) where
 module _ (M : Model) (s : List ℕ) (k : ℕ) (w : List ℕ) where
   -- 1 to 9
   pub untested-by : {x : Refusal} → Refuses M s x → untested (numberOf x) (placeOf x) ≡ wordTest M s k w
-  untested-by {x} h = ap (untested (numberOf x)) (h .placed) ∙ sym (refused-in M s k w (sheet-refused (h .outcome)))
+  untested-by {x} h = ap (untested (numberOf x)) (h .placed) ∙ sym (refused-in M s k w (sheet-refused (h .result)))
 
   -- the definition's answer keeps the promise
   pub keeps : {r : Answer} → r ≡ wordTest M s k w → TestsWord M s k w r

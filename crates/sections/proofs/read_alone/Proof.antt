@@ -9,7 +9,7 @@ use lib.Dec.{eqb, leb}
 use borrow.Author.Tests.{le-leb, lt-leb, not-true, not-false}
 use borrow.Author.Needs.{needs}
 use Rattle.sheet.specs.Kind.{sectionOf}
-use Rattle.sheet.specs.Reading.{Reading, Outcome}
+use Rattle.sheet.specs.Reading.{Reading, ReadResult}
 use Rattle.sheet.proofs.Take.{next-lt}
 use Rattle.format.specs.declared.Refusal.{Refusal}
 use Rattle.format.specs.Kinds.{primitiveKind}
@@ -25,7 +25,7 @@ use Rattle.sections.proofs.read_alone.Tie as tie
 
 abbrev Inv-loop : tie.InvT-loop
 Inv-loop s limits section limit table₀ from first at₀ tally₀ table at tally = (length table ≡ length table₀)
-    × ((o : Outcome) (u : Reading) → Told (modelWith limits) s o section (Done at₀ tally₀) u → u .own section ≡ []
+    × ((o : ReadResult) (u : Reading) → Told (modelWith limits) s o section (Done at₀ tally₀) u → u .own section ≡ []
     → Filled (modelWith limits) s o section (Done at tally) section u table₀ table)
 
 abbrev μ-loop : tie.MeasureT-loop
@@ -59,12 +59,12 @@ refusal-at-requires : tie.Need-refusal-at-requires Inv-loop μ-loop
 refusal-at-requires c κs = search needs
 
 -- reading has come to the section
-given : (c : tie.After-count Inv-loop μ-loop) (o : Outcome) (u : Reading) → Told (modelWith (c .before .before .before .before .before .before .args .limits)) (c .before .before .before .before .before .before .args .s .now) o (c .before .before .before .before .before .before .args .section) (c .before .before .before .before .before .before .args .reached) u
+given : (c : tie.After-count Inv-loop μ-loop) (o : ReadResult) (u : Reading) → Told (modelWith (c .before .before .before .before .before .before .args .limits)) (c .before .before .before .before .before .before .args .s .now) o (c .before .before .before .before .before .before .args .section) (c .before .before .before .before .before .before .args .reached) u
     → Told (modelWith (c .before .before .before .before .before .before .args .limits)) (c .before .before .before .before .before .before .args .s .now) o (c .before .before .before .before .before .before .args .section) (Done (c .before .before .reached .given .0 .0) (c .before .before .reached .given .0 .1 .0)) u
 given c o u told = subst (λ (a : Section). Told (modelWith (c .before .before .before .before .before .before .args .limits)) (c .before .before .before .before .before .before .args .s .now) o (c .before .before .before .before .before .before .args .section) a u) (c .before .before .reached .given .1) told
 
 -- what the loop has kept, where a turn begins
-kept : (c : tie.In-loop Inv-loop μ-loop) (o : Outcome) (u : Reading) → Told (modelWith (c .before .before .before .before .before .before .before .before .args .limits)) (c .before .before .before .before .before .before .before .before .args .s .now) o (c .before .before .before .before .before .before .before .before .args .section) (c .before .before .before .before .before .before .before .before .args .reached) u → u .own (c .before .before .before .before .before .before .before .before .args .section) ≡ []
+kept : (c : tie.In-loop Inv-loop μ-loop) (o : ReadResult) (u : Reading) → Told (modelWith (c .before .before .before .before .before .before .before .before .args .limits)) (c .before .before .before .before .before .before .before .before .args .s .now) o (c .before .before .before .before .before .before .before .before .args .section) (c .before .before .before .before .before .before .before .before .args .reached) u → u .own (c .before .before .before .before .before .before .before .before .args .section) ≡ []
     → Filled (modelWith (c .before .before .before .before .before .before .before .before .args .limits)) (c .before .before .before .before .before .before .before .before .args .s .now) o (c .before .before .before .before .before .before .before .before .args .section) (Done (c .before .loop .at) (c .before .loop .tally)) (c .before .before .before .before .before .before .before .before .args .section) u (c .before .before .before .before .before .before .before .before .args .table .now) (c .before .loop .table)
 kept c o u told none = c .before .loop .inv .1 o u (given (c .before .before) o u told) none
 

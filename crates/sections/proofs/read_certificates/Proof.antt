@@ -7,7 +7,7 @@ use native.Mathlib.Omega.{arith}
 use lib.ListN.{length}
 use lib.Dec.{eqb}
 use borrow.Author.Needs.{needs}
-use Rattle.sheet.specs.Reading.{Reading, Outcome}
+use Rattle.sheet.specs.Reading.{Reading, ReadResult}
 use Rattle.sheet.proofs.Take.{next-lt}
 use Rattle.format.specs.declared.Refusal.{Refusal}
 use Rattle.format.proofs.Laws.{Stood, stood, Refuses, refused}
@@ -21,7 +21,7 @@ use Rattle.sections.proofs.read_certificates.Tie as tie
 
 abbrev Inv-loop : tie.InvT-loop
 Inv-loop s limits from at₀ tally₀ inside₀ at tally inside = (tally .certificates ≤ at)
-    × ((o : Outcome) (u : Reading) → Told (modelWith limits) s o 5 (Done from tally₀) u → u .own 5 ≡ [] → eqb (length (u .own 3)) 0 ≡ eqb (tally₀ .methods) 0
+    × ((o : ReadResult) (u : Reading) → Told (modelWith limits) s o 5 (Done from tally₀) u → u .own 5 ≡ [] → eqb (length (u .own 3)) 0 ≡ eqb (tally₀ .methods) 0
     → Ending (modelWith limits) s o u from at tally inside)
 
 abbrev μ-loop : tie.MeasureT-loop

@@ -7,7 +7,7 @@ use native.Mathlib.Omega.{arith}
 use lib.ListN.{length}
 use borrow.Author.Needs.{needs}
 use Rattle.sheet.specs.Model.{conditionLimit}
-use Rattle.sheet.specs.Reading.{Reading, Outcome}
+use Rattle.sheet.specs.Reading.{Reading, ReadResult}
 use Rattle.sheet.proofs.Take.{next-lt}
 use Rattle.format.specs.declared.Refusal.{Refusal}
 use Rattle.format.proofs.Laws.{Stood, stood, Refuses, refused}
@@ -22,7 +22,7 @@ use Rattle.sections.proofs.read_conditions.Tie as tie
 
 abbrev Inv-loop : tie.InvT-loop
 Inv-loop s limits table₀ at₀ start₀ begun₀ tally₀ table at start begun tally = Modest begun × (start ≤ at)
-    × ((o : Outcome) (u : Reading) → Told (modelWith limits) s o 0 (Done 0 tally₀) u → u .own 1 ≡ [] → Opening (modelWith limits) s o u at start begun tally table₀ table)
+    × ((o : ReadResult) (u : Reading) → Told (modelWith limits) s o 0 (Done 0 tally₀) u → u .own 1 ≡ [] → Opening (modelWith limits) s o u at start begun tally table₀ table)
 
 abbrev μ-loop : tie.MeasureT-loop
 μ-loop s limits table₀ at₀ start₀ begun₀ tally₀ table at start begun tally = length s - at
