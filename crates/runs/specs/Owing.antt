@@ -25,9 +25,9 @@ abbrev pub InCaller : List Call → Call → Type 0
 InCaller [] c = ⊥
 InCaller (d ∷ ds) c = IsCaller d c
 
--- "the events raised since that return, followed by any word of the due at the present point, lie in the call's future"
+-- "the events raised since that return, followed by any word of the due at the present point, lie in the call's future (of its outcome)"
 abbrev pub LiesInFuture : Sheet → State → Returned → Type 0
-LiesInFuture S s r = (v : Word) → Holds (due S (s .point)) v → Holds (futureOf S (r .call)) (since (r .at) (s .history) ++ v)
+LiesInFuture S s r = (v : Word) → Holds (due S (s .point)) v → Holds (futureOf S (r .call) (r .outcome)) (since (r .at) (s .history) ++ v)
 
 -- "after a call has returned, and whenever control is in the activation that made it or in one of that activation's callers"
 abbrev pub Owing : Sheet → State → Type 0

@@ -1,4 +1,4 @@
--- Runs of a sheet, and what demand 3 asks of them: document 01, "Runs".
+-- Runs of a sheet, and what demand 3 asks of them: document 01, "Runs", and document 02, Ask 2, by which a call may fail.
 use mathlib.Core.Path.{_≡_}
 use Prim.Native.Nat.{ℕ, _+_}
 use mathlib.Core.Bool.{Bool, true, false, cond}
@@ -9,7 +9,7 @@ use lib.Dec.{eqb}
 use Rattle.condition.specs.Condition.{Word, Condition, Holds}
 use Rattle.condition.specs.Places.{accepts}
 use Rattle.sheet.specs.Each.{Each}
-use Rattle.sheet.specs.Sheet.{Body, CallStep, Step, event-step, call-step, pass-step, Sheet, pre, trace, future, body}
+use Rattle.sheet.specs.Sheet.{Outcome, Body, CallStep, Step, event-step, call-step, pass-step, Sheet, pre, trace, future, body, exitIn, targetFor}
 
 -- The state of a run ----------------------------------------------------------------------------------------------------
 
@@ -27,9 +27,10 @@ pub record Call : Type 0 where
   pub began : Word
   pub activation : Activation
 
--- ".. and, once returned, the history at its return"
+-- ".. and, once returned, the history at its return", and how it returned: "Failing is a way of returning"
 pub record Returned : Type 0 where
   pub call : Call
+  pub outcome : Outcome
   pub at : Word
 
 -- "A run has a history (the events raised so far), open calls, of which the innermost is active, returned calls, and a point where control is."
@@ -47,15 +48,15 @@ pub record State : Type 0 where
 abbrev pub calls : State → List Call
 calls s = s .open-calls ++ map (λ r. r .call) (s .returned-calls)
 
--- a call's pre, trace and future: what its method declares
+-- a call's pre: what its method declares; "a call's trace and future are those of its outcome"
 abbrev pub preOf : Sheet → Call → Condition
 preOf S c = pre S (c .method)
 
-abbrev pub traceOf : Sheet → Call → Condition
-traceOf S c = trace S (c .method)
+abbrev pub traceOf : Sheet → Call → Outcome → Condition
+traceOf S c o = trace S (c .method) o
 
-abbrev pub futureOf : Sheet → Call → Condition
-futureOf S c = future S (c .method)
+abbrev pub futureOf : Sheet → Call → Outcome → Condition
+futureOf S c o = future S (c .method) o
 
 -- What a history adds to an earlier one, which it begins with: `Grown` says so of each that is asked of a state.
 abbrev pub since : Word → Word → Word
@@ -93,11 +94,11 @@ start S m =
 
 -- Moves -----------------------------------------------------------------------------------------------------------------
 
--- "A move is a return, or names a step, with a word if the step calls a primitive." A word given with another step is not read. A step that calls a
--- primitive always comes with a word here: [] is the empty word, not the lack of one.
+-- "A move is a return, or names a step, with a word if the step calls a primitive." Failing is "where the move says so". A word or an outcome given with
+-- another step is not read. A step that calls a primitive always comes with a word here: [] is the empty word, not the lack of one.
 pub data Move : Type 0 where
-  return : Move
-  by-step : (step : ℕ) (word : Word) → Move
+  return : Outcome → Move
+  by-step : (step : ℕ) → Outcome → (word : Word) → Move
 
 -- a word is raised, and control goes to the point q
 abbrev pub raise : Word → ℕ → State → State
@@ -129,52 +130,57 @@ openCall c entry s =
     record { history = s .history; open-calls = c ∷ s .open-calls; returned-calls = s .returned-calls; point = entry; ended = s .ended }
 
 -- a call that was not opened returns now
-abbrev pub returnedNow : Call → State → State
-returnedNow c s =
+abbrev pub returnedNow : Call → Outcome → State → State
+returnedNow c o s =
     record {
       history = s .history;
       open-calls = s .open-calls;
-      returned-calls = record { call = c; at = s .history } ∷ s .returned-calls;
+      returned-calls = record { call = c; outcome = o; at = s .history } ∷ s .returned-calls;
       point = s .point;
       ended = s .ended;
     }
 
 -- "A call of a primitive needs a word of the primitive's trace, whichever it is; it raises that word and returns to the step's target, all in
--- one move."
-abbrev pub makeCall : Sheet → State → Call → Word → ℕ → Option Body → State
-makeCall S s c w q none = cond (accepts (traceOf S c) w) (returnedNow c (raise w q s)) s
-makeCall S s c w q (some b) = openCall c (b .entry) s
+-- one move." "Failing leads, by a word of the failed trace .., to the failed target": a step without one cannot fail.
+abbrev pub makeReturn : State → Call → Outcome → Word → Condition → Option ℕ → State
+makeReturn s c o w trace none = s
+makeReturn s c o w trace (some q) = cond (accepts trace w) (returnedNow c o (raise w q s)) s
+
+abbrev pub makeCall : Sheet → State → Call → Outcome → Word → Option ℕ → Option Body → State
+makeCall S s c o w target none = makeReturn s c o w (traceOf S c o) target
+makeCall S s c o w target (some b) = openCall c (b .entry) s
 
 -- "An event step raises its event; a pass raises none; both lead to their target."
-abbrev pub makeStep : Sheet → State → ℕ → Word → Step → State
-makeStep S s i w (event-step p q a) = raise (a ∷ []) q s
-makeStep S s i w (call-step t) = makeCall S s (newCall s i t) w (t .to) (body S (t .method))
-makeStep S s i w (pass-step p q) = raise [] q s
+abbrev pub makeStep : Sheet → State → ℕ → Outcome → Word → Step → State
+makeStep S s i o w (event-step p q a) = raise (a ∷ []) q s
+makeStep S s i o w (call-step t) = makeCall S s (newCall s i t) o w (targetFor o t) (body S (t .method))
+makeStep S s i o w (pass-step p q) = raise [] q s
 
--- the points that a step leads from and to
+-- the points that a step leads from and, with an outcome, to
 abbrev pub fromOf : Step → ℕ
 fromOf (event-step p q a) = p
 fromOf (call-step t) = t .from
 fromOf (pass-step p q) = p
 
-abbrev pub toOf : Step → ℕ
-toOf (event-step p q a) = q
-toOf (call-step t) = t .to
-toOf (pass-step p q) = q
+abbrev pub toOf : Outcome → Step → Option ℕ
+toOf o (event-step p q a) = some q
+toOf o (call-step t) = targetFor o t
+toOf o (pass-step p q) = some q
 
 -- "A step needs control at its from."
-abbrev pub tryStep : Sheet → State → ℕ → Word → Option Step → State
-tryStep S s i w none = s
-tryStep S s i w (some t) = cond (eqb (s .point) (fromOf t)) (makeStep S s i w t) s
+abbrev pub tryStep : Sheet → State → ℕ → Outcome → Word → Option Step → State
+tryStep S s i o w none = s
+tryStep S s i o w (some t) = cond (eqb (s .point) (fromOf t)) (makeStep S s i o w t) s
 
--- the step that made a call, if one did, and where a return from it leads: "to the target of the call's step, if it has one"
+-- the step that made a call, if one did, and where a return from it leads: "to the target of the call's step, if it has one", or "to the failed target";
+-- the outermost call leads nowhere else
 abbrev pub madeBy : Sheet → Option ℕ → Option Step
 madeBy S none = none
 madeBy S (some i) = getElem? (S .steps) i
 
-abbrev pub targetOr : ℕ → Option Step → ℕ
-targetOr here none = here
-targetOr here (some t) = toOf t
+abbrev pub targetOr : ℕ → Outcome → Option Step → Option ℕ
+targetOr here o none = some here
+targetOr here o (some t) = toOf o t
 
 -- no call is open
 abbrev pub noneOpen : List Call → Bool
@@ -182,42 +188,47 @@ noneOpen [] = true
 noneOpen (c ∷ cs) = false
 
 -- "it closes that call and leads to the target of the call's step, if it has one. The run ends when the outermost method 0 returns": then no
--- call is open
-abbrev pub close : State → Call → List Call → ℕ → State
-close s c callers q =
+-- call is open. "Failing is a way of returning, and ends the run where the outermost method 0 fails."
+abbrev pub close : State → Outcome → Call → List Call → ℕ → State
+close s o c callers q =
     record {
       history = s .history;
       open-calls = callers;
-      returned-calls = record { call = c; at = s .history } ∷ s .returned-calls;
+      returned-calls = record { call = c; outcome = o; at = s .history } ∷ s .returned-calls;
       point = q;
       ended = noneOpen callers;
     }
 
--- "A return needs control at the active method's exit point"
-abbrev pub exitsAt : Option Body → ℕ → Bool
-exitsAt none p = false
-exitsAt (some b) p = eqb p (b .exit)
+-- a call whose step has no failed target cannot fail
+abbrev pub closeTo : State → Outcome → Call → List Call → Option ℕ → State
+closeTo s o c callers none = s
+closeTo s o c callers (some q) = close s o c callers q
+
+-- "A return needs control at the active method's exit point"; failing leads "from the failed exit"
+abbrev pub isAt : Option ℕ → ℕ → Bool
+isAt none p = false
+isAt (some e) p = eqb p e
 
 -- a return from the innermost open call, if there is one and control is there
-abbrev pub tryReturn : Sheet → State → List Call → State
-tryReturn S s [] = s
-tryReturn S s (c ∷ callers) =
-    cond (exitsAt (body S (c .method)) (s .point)) (close s c callers (targetOr (s .point) (madeBy S (c .step)))) s
+abbrev pub tryReturn : Sheet → State → Outcome → List Call → State
+tryReturn S s o [] = s
+tryReturn S s o (c ∷ callers) =
+    cond (isAt (exitIn o (body S (c .method))) (s .point)) (closeTo s o c callers (targetOr (s .point) o (madeBy S (c .step)))) s
 
 -- a move before the end
 abbrev pub tryMove : Sheet → State → Move → State
-tryMove S s return = tryReturn S s (s .open-calls)
-tryMove S s (by-step i w) = tryStep S s i w (getElem? (S .steps) i)
+tryMove S s (return o) = tryReturn S s o (s .open-calls)
+tryMove S s (by-step i o w) = tryStep S s i o w (getElem? (S .steps) i)
 
 -- "A move that cannot be made, and any move after the end, changes nothing."
 unfoldable pub move : Sheet → State → Move → State
 move S s m = cond (s .ended) s (tryMove S s m)
 
--- "A call of a primitive needs a word of the primitive's trace, whichever it is", said with the language: in the state s the step i, which is t and
--- calls a primitive, is made with exactly the words that the trace holds (proofs/Moves).
-pub record MadeByTrace (S : Sheet) (s : State) (i : ℕ) (t : CallStep) (w : Word) : Type 0 where
-  pub made : Holds (traceOf S (newCall s i t)) w → move S s (by-step i w) ≡ returnedNow (newCall s i t) (raise w (t .to) s)
-  pub not-made : (Holds (traceOf S (newCall s i t)) w → ⊥) → move S s (by-step i w) ≡ s
+-- "A call of a primitive needs a word of the primitive's trace, whichever it is", said with the language: in the state s the step i, which is t, calls a
+-- primitive and leads to q with the outcome o, is made with exactly the words that the trace of that outcome holds (proofs/Moves).
+pub record MadeByTrace (S : Sheet) (s : State) (i : ℕ) (t : CallStep) (o : Outcome) (q : ℕ) (w : Word) : Type 0 where
+  pub made : Holds (traceOf S (newCall s i t) o) w → move S s (by-step i o w) ≡ returnedNow (newCall s i t) o (raise w q s)
+  pub not-made : (Holds (traceOf S (newCall s i t) o) w → ⊥) → move S s (by-step i o w) ≡ s
 
 -- "Each move starts from what the last one left, and nothing else changes a run or its sheet."
 unfoldable pub runOn : Sheet → State → List Move → State
@@ -236,6 +247,7 @@ pub record Safe (S : Sheet) (s : State) : Type 0 where
   -- "every call so far began after a history in its pre"
   pub began-well : Each (λ c. Holds (preOf S c) (c .began)) (calls s)
   -- "every returned call raised a word of its trace"
-  pub raised-well : Each (λ r. Holds (traceOf S (r .call)) (raised r)) (s .returned-calls)
+  pub raised-well : Each (λ r. Holds (traceOf S (r .call) (r .outcome)) (raised r)) (s .returned-calls)
   -- "if the run ends, what followed each return is in its future"
-  pub ended-well : s .ended ≡ true → Each (λ r. Holds (futureOf S (r .call)) (since (r .at) (s .history))) (s .returned-calls)
+  pub ended-well : s .ended ≡ true
+      → Each (λ r. Holds (futureOf S (r .call) (r .outcome)) (since (r .at) (s .history))) (s .returned-calls)

@@ -2,14 +2,14 @@
 -- proofs/Standing shows that they are what was read.
 use Prim.Native.Nat.{ℕ, zero, suc, _+_, _*_}
 use mathlib.Core.Path.{_≡_}
-use mathlib.Core.Bool.{Bool, cond, _&&_}
+use mathlib.Core.Bool.{Bool, cond, _&&_, _||_}
 use mathlib.Core.Option.{Option, none, some}
 use mathlib.Core.List.{List, [], _∷_, _++_}
 use lib.ListN.{length, getD}
 use lib.Dec.{eqb, ltb}
 use Rattle.condition.specs.Condition.{Condition, leaf, empty, join, either, star}
 use Rattle.certificate.specs.Certificate.{Pair, pair, Certificate}
-use Rattle.sheet.specs.Sheet.{Point, Method, Step, event-step, callFrom, pass-step}
+use Rattle.sheet.specs.Sheet.{Declared, Point, Method, Step, event-step, callFrom, failingCallFrom, pass-step}
 use Rattle.sheet.specs.Record.{byteAt, nextAt}
 use Rattle.sheet.specs.Reading.{Counted, startOf, item}
 
@@ -24,27 +24,46 @@ unfoldable pub setAt : List ℕ → ℕ → ℕ
 unfolding shortAt
 setAt s i = shortAt s i + 65536 * shortAt s (i + 2)
 
--- what a record of kind 7, of kinds 8 and 9, of kinds 10 to 12, and of kind 13 stands for
+-- what a record of kind 7, of kinds 8, 9, 15 and 16, of kinds 10 to 12 and 17, and of kind 13 stands for
 unfoldable pub pointAt : List ℕ → ℕ → Point
 unfolding shortAt
 pointAt s at = record { past = shortAt s (at + 1); own = shortAt s (at + 3); due = shortAt s (at + 5) }
 
-unfoldable pub methodAt : List ℕ → ℕ → Method
+-- what a method declares of an outcome, in two fields from an offset on
+unfoldable pub declaredAt : List ℕ → ℕ → Declared
 unfolding shortAt
-methodAt s at =
+declaredAt s i = record { trace = shortAt s i; future = shortAt s (i + 2) }
+
+-- by the kind of the record at the offset: a primitive has its failed trace at + 7, a method with body at + 11
+unfoldable pub methodAs : ℕ → List ℕ → ℕ → Method
+unfolding declaredAt
+methodAs kind s at =
+    let primitive = eqb kind 8 || eqb kind 15 in
+    let two = eqb kind 15 || eqb kind 16 in
     record {
       pre = shortAt s (at + 1);
-      trace = shortAt s (at + 3);
-      future = shortAt s (at + 5);
-      body = cond (eqb (byteAt s at) 8) none (some (record { entry = shortAt s (at + 7); exit = shortAt s (at + 9) }));
+      normal = declaredAt s (at + 3);
+      failing = cond two (some (declaredAt s (cond primitive (at + 7) (at + 11)))) none;
+      body =
+          cond primitive none
+          (some (record { entry = shortAt s (at + 7); exit = shortAt s (at + 9); failed-exit = cond two (some (shortAt s (at + 15))) none }));
     }
 
-unfoldable pub stepAt : List ℕ → ℕ → Step
+unfoldable pub methodAt : List ℕ → ℕ → Method
+unfolding methodAs
+methodAt s at = methodAs (byteAt s at) s at
+
+unfoldable pub stepAs : ℕ → List ℕ → ℕ → Step
 unfolding shortAt
-stepAt s at =
-    cond (eqb (byteAt s at) 10) (event-step (shortAt s (at + 1)) (shortAt s (at + 3)) (byteAt s (at + 5)))
-    (cond (eqb (byteAt s at) 11) (callFrom (shortAt s (at + 1)) (shortAt s (at + 3)) (shortAt s (at + 5)))
-    (pass-step (shortAt s (at + 1)) (shortAt s (at + 3))))
+stepAs kind s at =
+    cond (eqb kind 10) (event-step (shortAt s (at + 1)) (shortAt s (at + 3)) (byteAt s (at + 5)))
+    (cond (eqb kind 11) (callFrom (shortAt s (at + 1)) (shortAt s (at + 3)) (shortAt s (at + 5)))
+    (cond (eqb kind 17) (failingCallFrom (shortAt s (at + 1)) (shortAt s (at + 3)) (shortAt s (at + 5)) (shortAt s (at + 7)))
+    (pass-step (shortAt s (at + 1)) (shortAt s (at + 3)))))
+
+unfoldable pub stepAt : List ℕ → ℕ → Step
+unfolding stepAs
+stepAt s at = stepAs (byteAt s at) s at
 
 unfoldable pub pairAt : List ℕ → ℕ → Pair
 unfolding setAt

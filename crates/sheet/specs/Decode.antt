@@ -1,33 +1,41 @@
--- The sheet that was read: document 01, "Records".
-use Prim.Native.Nat.{ℕ}
+-- The sheet that was read: document 01, "Records", and document 02, Ask 2.
+use Prim.Native.Nat.{ℕ, _+_}
 use mathlib.Core.Option.{none, some}
 use mathlib.Core.List.{List, [], map}
 use lib.Dec.{eqb}
 use Rattle.sheet.specs.Model.{Model}
-use Rattle.sheet.specs.Sheet.{Point, Method, Step, event-step, callFrom, pass-step, Sheet}
+use Rattle.sheet.specs.Sheet.{Declared, Point, Method, Step, event-step, callFrom, failingCallFrom, pass-step, Sheet}
 use Rattle.sheet.specs.Kind.{conditions, points, methods, steps, certificates}
 use Rattle.sheet.specs.Record.{Record, value}
-use Rattle.sheet.specs.Reading.{Counted, isPrimitive, _when_else_, item, ReadResult, whole, refusal, readSheet}
+use Rattle.sheet.specs.Reading.{Counted, isPrimitive, hasTwoOutcomes, _when_else_, item, ReadResult, whole, refusal, readSheet}
 
 -- kind 7: "conditions past, own, due"
 abbrev pub pointOf : Record → Point
 pointOf x = record { past = value x 0; own = value x 1; due = value x 2 }
 
--- kind 8: "conditions pre, trace, future"; kind 9: "pre, trace, future, entry point, exit point"
+-- what a method declares of an outcome, in two fields from the field i on
+abbrev pub declaredFrom : Record → ℕ → Declared
+declaredFrom x i = record { trace = value x i; future = value x (i + 1) }
+
+-- kinds 8 and 9: "pre, trace, future", and of a method with body "entry point, exit point"; kinds 15 and 16 have "failed trace, failed future" behind
+-- them, and of a method with body a "failed exit" behind these
 abbrev pub methodOf : Record → Method
 methodOf x =
     record {
       pre = value x 0;
-      trace = value x 1;
-      future = value x 2;
-      body = none when isPrimitive x else some (record { entry = value x 3; exit = value x 4 });
+      normal = declaredFrom x 1;
+      failing = some (declaredFrom x (3 when isPrimitive x else 5)) when hasTwoOutcomes x else none;
+      body =
+          none when isPrimitive x
+          else some (record { entry = value x 3; exit = value x 4; failed-exit = some (value x 7) when hasTwoOutcomes x else none });
     }
 
--- kind 10: "from, to (2 each), event (1)"; kind 11: "from, to, method"; kind 12: "from, to"
+-- kind 10: "from, to (2 each), event (1)"; kind 11: "from, to, method"; kind 17: "from, to, failed target, method"; kind 12: "from, to"
 abbrev pub stepOf : Record → Step
 stepOf x =
     event-step (value x 0) (value x 1) (value x 2) when eqb (x .kind) 10
     else callFrom (value x 0) (value x 1) (value x 2) when eqb (x .kind) 11
+    else failingCallFrom (value x 0) (value x 1) (value x 2) (value x 3) when eqb (x .kind) 17
     else pass-step (value x 0) (value x 1)
 
 -- what was counted in each section; a condition is the one item that is left at its end

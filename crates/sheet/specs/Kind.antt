@@ -1,4 +1,4 @@
--- The kinds of records: document 01, "Records". One table says of each kind its section, what it is to what is open, and its fields.
+-- The kinds of records: document 01, "Records", and document 02, Ask 2. One table says of each kind its section, what it is to what is open, and its fields.
 use Prim.Native.Nat.{ℕ, _+_}
 use mathlib.Core.List.{List, [], _∷_}
 use lib.ListN.{getD}
@@ -72,13 +72,19 @@ kinds =
     -- 13: pair: "left place (1), right set (4)"; 14: end of certificate
     ∷ a-kind certificates a-pair (a-place ∷ a-set ∷ [])
     ∷ a-kind certificates counts []
+    -- Ask 2, "all fields two bytes, in the sections of 8, 9 and 11". 15: "a primitive with pre, trace, future, failed trace, failed future"; 16: "a
+    -- method with pre, trace, future, entry, exit, failed trace, failed future, failed exit"; 17: "a call with from, to, failed target, method"
+    ∷ a-kind methods counts (a-name conditions ∷ a-name conditions ∷ a-name conditions ∷ a-name conditions ∷ a-name conditions ∷ [])
+    ∷ a-kind methods counts
+        (a-name conditions ∷ a-name conditions ∷ a-name conditions ∷ a-name points ∷ a-name points ∷ a-name conditions ∷ a-name conditions ∷ a-name points ∷ [])
+    ∷ a-kind steps counts (a-name points ∷ a-name points ∷ a-name points ∷ a-name methods ∷ [])
     ∷ []
 
 -- the row of a kind; a kind that the table lacks has that of kind 0
 abbrev pub kindOf : ℕ → Kind
 kindOf k = getD kinds k (a-kind 0 counts [])
 
--- the section of a kind: "kinds 1-6, 7, 8-9, 10-12, 13-14"
+-- the section of a kind: "kinds 1-6, 7, 8-9, 10-12, 13-14", and 15 to 17 in those of 8, 9 and 11
 abbrev pub sectionOf : ℕ → ℕ
 sectionOf k = kindOf k .section
 
@@ -87,6 +93,6 @@ abbrev pub widths : List Field → ℕ
 widths [] = 0
 widths (f ∷ fs) = width f + widths fs
 
--- "Body lengths by kind, 1 to 14"
+-- "Body lengths by kind, 1 to 14", and of 15 to 17
 abbrev pub bodyLength : ℕ → ℕ
 bodyLength k = widths (kindOf k .fields)

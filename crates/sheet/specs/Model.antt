@@ -3,7 +3,7 @@ use Prim.Native.Nat.{ℕ, _≤_}
 use mathlib.Core.Path.{_≡_}
 
 pub record Model : Type 0 where
-  -- "65,536 bytes"; "512 points"; "Events are 0 to 31": how many there are; "kind not 1 to 14": the highest kind that is taken
+  -- "65,536 bytes"; "512 points"; "Events are 0 to 31": how many there are; "kind not 1 to 14": the highest kind that is taken, 17 since Ask 2
   pub bytes : ℕ
   pub points : ℕ
   pub events : ℕ
@@ -11,18 +11,23 @@ pub record Model : Type 0 where
 
 -- the large two-channel instrument, which is document 01's
 abbrev pub large : Model
-large = record { bytes = 65536; points = 512; events = 32; kinds = 14 }
+large = record { bytes = 65536; points = 512; events = 32; kinds = 17 }
 
 -- the entry instrument: document 02, Ask 8, "at most 8,192 bytes and 64 points"
 abbrev pub entry : Model
 entry = record { bytes = 8192; points = 64; events = large .events; kinds = large .kinds }
 
--- M takes no more bytes and points than M′, and is equal to it otherwise: Ask 8, "over both limits as parameters"
+-- an instrument before the requests that brought the kinds above k
+abbrev pub withKinds : ℕ → Model → Model
+withKinds k M = record { bytes = M .bytes; points = M .points; events = M .events; kinds = k }
+
+-- M takes no more bytes, points and kinds than M′, and has as many events: Ask 8, "over both limits as parameters"; a request that brings kinds
+-- makes an instrument of one that took fewer
 pub record NoLarger (M M′ : Model) : Type 0 where
   pub bytes : M .bytes ≤ M′ .bytes
   pub points : M .points ≤ M′ .points
   pub events : M .events ≡ M′ .events
-  pub kinds : M .kinds ≡ M′ .kinds
+  pub kinds : M .kinds ≤ M′ .kinds
 
 -- "256 conditions; 96 records of kinds 1-5 and 31 leaves in a condition; .. 64 methods; 512 steps"; "word longer than 4,096"
 abbrev pub conditionLimit : ℕ

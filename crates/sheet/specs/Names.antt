@@ -1,30 +1,41 @@
 -- What holds of each sheet that is read whole: every name exists (document 01, "Names point only backward"; proofs/Named), the event of each step is
--- one of the instrument's (proofs/Named), and the first method has a body (proofs/First).
+-- one of the instrument's (proofs/Named), the first method has a body (proofs/First), and outcomes fit (proofs/Outcomes).
 use Prim.Native.Nat.{ℕ, _<_}
+use mathlib.Core.Path.{_≡_}
+use mathlib.Core.Bool.{Bool, true, false}
 use mathlib.Core.Option.{Option, none, some}
-use lib.ListN.{length}
+use lib.ListN.{length, getElem?}
 use Rattle.sheet.specs.Each.{Each}
-use Rattle.sheet.specs.Sheet.{Point, Body, Method, Step, event-step, call-step, pass-step, Sheet}
+use Rattle.sheet.specs.Sheet.{Outcome, failed, Point, Declared, Body, Method, Step, event-step, call-step, pass-step, Sheet, declaredFor, declaredIn}
 
--- the names of a point, of a body, of a method and of a step are below the numbers of conditions, points and methods
+-- the names of a point, of a body, of what a method declares, of a method and of a step are below the numbers of conditions, points and methods
 pub record PointNamed (conditions : ℕ) (x : Point) : Type 0 where
   pub past-exists : x .past < conditions
   pub own-exists : x .own < conditions
   pub due-exists : x .due < conditions
 
+-- a name that need not be there
+abbrev pub NamedIfAny : ℕ → Option ℕ → Type 0
+NamedIfAny n none = Unit {0}
+NamedIfAny n (some x) = x < n
+
 abbrev pub BodyNamed : ℕ → Option Body → Type 0
 BodyNamed points none = Unit {0}
-BodyNamed points (some b) = (b .entry < points) × (b .exit < points)
+BodyNamed points (some b) = (b .entry < points) × (b .exit < points) × NamedIfAny points (b .failed-exit)
+
+-- what a method declares of an outcome, if it has that outcome
+abbrev pub DeclaredNamed : ℕ → Option Declared → Type 0
+DeclaredNamed conditions none = Unit {0}
+DeclaredNamed conditions (some d) = (d .trace < conditions) × (d .future < conditions)
 
 pub record MethodNamed (conditions points : ℕ) (x : Method) : Type 0 where
   pub pre-exists : x .pre < conditions
-  pub trace-exists : x .trace < conditions
-  pub future-exists : x .future < conditions
+  pub declared-named : (o : Outcome) → DeclaredNamed conditions (declaredFor o x)
   pub body-named : BodyNamed points (x .body)
 
 abbrev pub StepNamed : ℕ → ℕ → Step → Type 0
 StepNamed points methods (event-step p q a) = (p < points) × (q < points)
-StepNamed points methods (call-step t) = (t .from < points) × (t .to < points) × (t .method < methods)
+StepNamed points methods (call-step t) = (t .from < points) × (t .to < points) × NamedIfAny points (t .failed-to) × (t .method < methods)
 StepNamed points methods (pass-step p q) = (p < points) × (q < points)
 
 pub record NamesExist (S : Sheet) : Type 0 where
@@ -36,6 +47,26 @@ pub record NamesExist (S : Sheet) : Type 0 where
 abbrev pub HasBody : Option Body → Type 0
 HasBody none = ⊥
 HasBody (some b) = Unit {0}
+
+-- something is there
+abbrev pub isSome : {A : Type 0} → Option A → Bool
+isSome none = false
+isSome (some x) = true
+
+-- a method with body has a failed exit exactly if it has two outcomes
+abbrev pub ExitsFit : Option Declared → Option Body → Type 0
+ExitsFit failing none = Unit {0}
+ExitsFit failing (some b) = isSome (b .failed-exit) ≡ isSome failing
+
+-- a call has a failed target exactly if the method that it names has two outcomes: what 18 leaves
+abbrev pub TargetsFit : Sheet → Step → Type 0
+TargetsFit S (event-step p q a) = Unit {0}
+TargetsFit S (call-step t) = isSome (t .failed-to) ≡ isSome (declaredIn failed (getElem? (S .methods) (t .method)))
+TargetsFit S (pass-step p q) = Unit {0}
+
+pub record OutcomesFit (S : Sheet) : Type 0 where
+  pub exits-fit : Each (λ (x : Method). ExitsFit (x .failing) (x .body)) (S .methods)
+  pub targets-fit : Each (TargetsFit S) (S .steps)
 
 -- the event of a step, if it has one, is below n
 abbrev pub EventBelow : ℕ → Step → Type 0

@@ -1,8 +1,10 @@
--- Reading a sheet, record by record: document 01, "Records" and "What the loader returns", refusals 1 to 9.
+-- Reading a sheet, record by record: document 01, "Records" and "What the loader returns", refusals 1 to 9, and document 02's 18, which is met
+-- while reading.
 use Prim.Native.Nat.{ℕ, zero, suc, _+_}
 use mathlib.Core.Bool.{Bool, true, false, not, cond, _&&_, _||_}
+use mathlib.Core.Option.{Option, none, some}
 use mathlib.Core.List.{List, [], _∷_, _++_, map}
-use lib.ListN.{length, getD, drop}
+use lib.ListN.{length, getD, getElem?, drop}
 use lib.Dec.{eqb, ltb, leb}
 use Rattle.condition.specs.Condition.{Condition, noWord}
 use Rattle.certificate.specs.Certificate.{Certificate, pair}
@@ -59,12 +61,15 @@ startsOf = map (λ (c : Counted). startOf (c .opened) (c .last .at))
 
 -- The refusals of a record --------------------------------------------------------------------------------------------
 
--- kind 1, kind 8
+-- kind 1; kinds 8 and 15; kinds 15 and 16
 abbrev pub isLeaf : Record → Bool
 isLeaf x = eqb (x .kind) 1
 
 abbrev pub isPrimitive : Record → Bool
-isPrimitive x = eqb (x .kind) 8
+isPrimitive x = eqb (x .kind) 8 || eqb (x .kind) 15
+
+abbrev pub hasTwoOutcomes : Record → Bool
+hasTwoOutcomes x = eqb (x .kind) 15 || eqb (x .kind) 16
 
 -- 5: "JOIN or EITHER with under two items, STAR with none, end of condition with other than one"
 abbrev pub wrongItems : ℕ → Role → ℕ → Bool
@@ -95,12 +100,26 @@ allExist events counted [] vs = true
 allExist events counted (f ∷ fs) [] = true
 allExist events counted (f ∷ fs) (v ∷ vs) = exists events counted f v && allExist events counted fs vs
 
+-- the record of a method by its number, if there is such a one; 7 comes before 18
+abbrev pub methodRecord : Reading → ℕ → Option Record
+methodRecord r m = getElem? (map (λ (c : Counted). c .last) (r .before methods ++ r .own methods)) m
+
+abbrev pub twoOutcomesIn : Option Record → Bool
+twoOutcomesIn none = false
+twoOutcomesIn (some m) = hasTwoOutcomes m
+
+-- 18: "when kind 11 names a method of kind 15 or 16, or kind 17 one of kind 8 or 9"
+abbrev pub wrongOutcomes : Reading → Record → Bool
+wrongOutcomes r x =
+    (eqb (x .kind) 11 && twoOutcomesIn (methodRecord r (value x 2))) || (eqb (x .kind) 17 && not (twoOutcomesIn (methodRecord r (value x 3))))
+
 -- x where the test passes, and else what follows
 infixr 10 _when_else_
 abbrev pub _when_else_ : {A : Type 0} → A → Bool → A → A
 x when b else y = cond b x y
 
--- "at one record the table's order holds": the number of the first refusal that applies to the record at an offset, 0 if none does
+-- "at one record the table's order holds", and 18 comes "at that record after 7": the number of the first refusal that applies to the record at an
+-- offset, 0 if none does
 abbrev pub refusalOf : Model → List ℕ → ℕ → Reading → ℕ
 refusalOf M s at r =
     let x = recordAt s at in
@@ -112,6 +131,7 @@ refusalOf M s at r =
     else 6 when overLimit M r x (k .section) (k .role)
     else 7 when not (allExist (M .events) (tally r) (k .fields) (x .values))
     else 9 when isPrimitive x && eqb (length (r .own methods)) 0
+    else 18 when wrongOutcomes r x
     else 0
 
 -- The state past a record that is not refused -------------------------------------------------------------------------

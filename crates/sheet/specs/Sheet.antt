@@ -12,22 +12,34 @@ pub record Point : Type 0 where
   pub own : ℕ
   pub due : ℕ
 
--- what a method with body has more than a primitive: "entry point, exit point"
+-- how a call returns: document 02, Ask 2, "Failing is a way of returning"
+pub data Outcome : Type 0 where
+  normal failed : Outcome
+
+-- what a method declares of one outcome: "trace, future", or "failed trace, failed future"
+pub record Declared : Type 0 where
+  pub trace : ℕ
+  pub future : ℕ
+
+-- what a method with body has more than a primitive: "entry point, exit point"; of kind 16 a "failed exit" too
 pub record Body : Type 0 where
   pub entry : ℕ
   pub exit : ℕ
+  pub failed-exit : Option ℕ
 
--- a primitive: "conditions pre, trace, future"; a method with body: "pre, trace, future, entry point, exit point"
+-- a primitive: "conditions pre, trace, future"; a method with body: "pre, trace, future, entry point, exit point"; those of kinds 15 and 16 have two
+-- outcomes
 pub record Method : Type 0 where
   pub pre : ℕ
-  pub trace : ℕ
-  pub future : ℕ
+  pub normal : Declared
+  pub failing : Option Declared
   pub body : Option Body
 
--- a call step: "from, to, method"
+-- a call step: "from, to, method"; of kind 17: "from, to, failed target, method"
 pub record CallStep : Type 0 where
   pub from : ℕ
   pub to : ℕ
+  pub failed-to : Option ℕ
   pub method : ℕ
 
 -- an event step: "from, to (2 each), event (1)"; a pass step: "from, to"
@@ -36,9 +48,12 @@ pub data Step : Type 0 where
   call-step : CallStep → Step
   pass-step : (from to : ℕ) → Step
 
--- the step of kind 11
+-- the steps of kinds 11 and 17
 abbrev pub callFrom : (from to method : ℕ) → Step
-callFrom p q m = call-step (record { from = p; to = q; method = m })
+callFrom p q m = call-step (record { from = p; to = q; failed-to = none; method = m })
+
+abbrev pub failingCallFrom : (from to failed-to method : ℕ) → Step
+failingCallFrom p q f m = call-step (record { from = p; to = q; failed-to = some f; method = m })
 
 -- a sheet: what its records stand for, by section
 pub record Sheet : Type 0 where
@@ -53,7 +68,7 @@ pub record Sheet : Type 0 where
 abbrev pub condition : Sheet → ℕ → Condition
 condition S c = getD (S .conditions) c noWord
 
--- the condition that a point or a method names, if there is such a point or method
+-- the condition that a point, a method or what it declares names, if there is such a one
 abbrev pub conditionNamed : {A : Type 0} → Sheet → (A → ℕ) → Option A → Condition
 conditionNamed S name none = noWord
 conditionNamed S name (some x) = condition S (name x)
@@ -68,15 +83,24 @@ own S p = conditionNamed S (λ (x : Point). x .own) (getElem? (S .points) p)
 abbrev pub due : Sheet → ℕ → Condition
 due S p = conditionNamed S (λ (x : Point). x .due) (getElem? (S .points) p)
 
--- pre, trace and future of the method m
+-- what a method declares of an outcome, if it has that outcome
+abbrev pub declaredFor : Outcome → Method → Option Declared
+declaredFor normal x = some (x .normal)
+declaredFor failed x = x .failing
+
+abbrev pub declaredIn : Outcome → Option Method → Option Declared
+declaredIn o none = none
+declaredIn o (some x) = declaredFor o x
+
+-- pre of the method m; trace and future of its outcome o
 abbrev pub pre : Sheet → ℕ → Condition
 pre S m = conditionNamed S (λ (x : Method). x .pre) (getElem? (S .methods) m)
 
-abbrev pub trace : Sheet → ℕ → Condition
-trace S m = conditionNamed S (λ (x : Method). x .trace) (getElem? (S .methods) m)
+abbrev pub trace : Sheet → ℕ → Outcome → Condition
+trace S m o = conditionNamed S (λ (x : Declared). x .trace) (declaredIn o (getElem? (S .methods) m))
 
-abbrev pub future : Sheet → ℕ → Condition
-future S m = conditionNamed S (λ (x : Method). x .future) (getElem? (S .methods) m)
+abbrev pub future : Sheet → ℕ → Outcome → Condition
+future S m o = conditionNamed S (λ (x : Declared). x .future) (declaredIn o (getElem? (S .methods) m))
 
 -- the body of the method m, if it is a method with body
 abbrev pub bodyIn : Option Method → Option Body
@@ -85,3 +109,16 @@ bodyIn (some x) = x .body
 
 abbrev pub body : Sheet → ℕ → Option Body
 body S m = bodyIn (getElem? (S .methods) m)
+
+-- the exit point of a method for an outcome, and the target of a call step for one, if they have one
+abbrev pub exitFor : Outcome → Body → Option ℕ
+exitFor normal b = some (b .exit)
+exitFor failed b = b .failed-exit
+
+abbrev pub exitIn : Outcome → Option Body → Option ℕ
+exitIn o none = none
+exitIn o (some b) = exitFor o b
+
+abbrev pub targetFor : Outcome → CallStep → Option ℕ
+targetFor normal t = some (t .to)
+targetFor failed t = t .failed-to
