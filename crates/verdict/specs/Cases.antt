@@ -1,4 +1,5 @@
--- The starred cases of document 01, "Sheets to try": one list, and what is shown of each (proofs/Cases).
+-- The starred cases of document 01, "Sheets to try": one list, and what is shown of each (proofs/Cases). Document 02, Ask 2, changes one line: "The sheet
+-- 0F now gives `refused 3 at 0`."
 use Prim.Native.Nat.{ℕ}
 use Prim.Native.String.{String}
 use mathlib.Core.Path.{_≡_}
@@ -61,7 +62,7 @@ W = advance ++ (point0 ++ method0 0)
 unfoldable pub cases : List Case
 cases =
     sheet [] "refused 9 at 0"
-    ∷ sheet (0x0F ∷ []) "refused 2 at 0"
+    ∷ sheet (0x0F ∷ []) "refused 3 at 0"
     ∷ sheet (0x01 ∷ []) "refused 3 at 0"
     ∷ sheet (0x03 ∷ []) "refused 5 at 0"
     ∷ sheet (0x02 ∷ 0x06 ∷ 0x07 ∷ 0x01 ∷ 0x00 ∷ 0x00 ∷ 0x00 ∷ 0x00 ∷ 0x00 ∷ []) "refused 7 at 2"

@@ -12,13 +12,13 @@ use Rattle.condition.specs.Places.{nullable, accepts}
 use Rattle.certificate.specs.Certificate.{Certificate}
 use Rattle.sheet.specs.Model.{Model}
 use Rattle.sheet.specs.Each.{Each}
-use Rattle.sheet.specs.Sheet.{CallStep, call-step, body}
+use Rattle.sheet.specs.Sheet.{Outcome, CallStep, call-step, body, targetFor}
 use Rattle.sheet.specs.Kind.{conditions}
 use Rattle.sheet.specs.Record.{Bytes}
 use Rattle.sheet.specs.Reading.{Reading, whole, readSheet}
 use Rattle.sheet.specs.Decode.{sheetOf}
 use Rattle.sheet.specs.AtOffset.{InPostfix}
-use Rattle.sheet.specs.Names.{NamesExist, HasBody, EventBelow}
+use Rattle.sheet.specs.Names.{NamesExist, HasBody, OutcomesFit, EventBelow}
 use Rattle.runs.specs.Rules.{rules, count}
 use Rattle.runs.specs.Runs.{State, Grown, Move, MadeByTrace, run}
 use Rattle.runs.specs.Owing.{OwingWhenOpen}
@@ -31,15 +31,18 @@ pub record Facts (M : Model) (s : List ℕ) : Type 0 where
   pub empty-word : (r : Condition) → T (nullable r) ↔ Holds r []
   -- of a sheet that is read whole: the records of each condition are the postfix form of the condition that they stand for,
   pub in-postfix : (r : Reading) → readSheet M s ≡ whole r → Each (InPostfix s) (r .own conditions)
-  -- every name exists, the event of each step is one of the instrument's, and the first method has a body
+  -- every name exists, the event of each step is one of the instrument's, the first method has a body, a method with body has a failed exit exactly if
+  -- it has two outcomes, and a call a failed target exactly if its method has two
   pub names-exist : (r : Reading) → readSheet M s ≡ whole r → NamesExist (sheetOf M s)
   pub events-below : (r : Reading) → readSheet M s ≡ whole r → Each (EventBelow (M .events)) (sheetOf M s .steps)
   pub first-has-body : (r : Reading) → readSheet M s ≡ whole r → HasBody (body (sheetOf M s) 0)
+  pub outcomes-fit : (r : Reading) → readSheet M s ≡ whole r → OutcomesFit (sheetOf M s)
   -- the count of the formula is the number of rules
   pub counted : length (rules (sheetOf M s)) ≡ count (sheetOf M s)
-  -- a call of a primitive is made with exactly the words of its trace
-  pub made-by-trace : (u : State) (i : ℕ) (t : CallStep) (w : Word) → u .ended ≡ false → getElem? (sheetOf M s .steps) i ≡ some (call-step t)
-      → u .point ≡ t .from → body (sheetOf M s) (t .method) ≡ none → MadeByTrace (sheetOf M s) u i t w
+  -- a call of a primitive is made with exactly the words of the trace of its outcome, where the step has a target for that outcome
+  pub made-by-trace : (u : State) (i : ℕ) (t : CallStep) (o : Outcome) (q : ℕ) (w : Word) → u .ended ≡ false
+      → getElem? (sheetOf M s .steps) i ≡ some (call-step t) → u .point ≡ t .from → body (sheetOf M s) (t .method) ≡ none → targetFor o t ≡ some q
+      → MadeByTrace (sheetOf M s) u i t o q w
   -- histories only grow, so that what a history adds to an earlier one is what was raised since
   pub histories-grow : (ms : List Move) → Grown (run (sheetOf M s) 0 ms)
   -- exact certificates exist for the rules of every sheet, so the second half of demand 3 asks nothing impossible of a certificate. That they fit

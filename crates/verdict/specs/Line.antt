@@ -38,7 +38,7 @@ labelled (text ∷ texts) (n ∷ values) = text ++ (decimal n ++ labelled texts 
 abbrev pub refusedLine : ℕ → Option ℕ → List ℕ
 refusedLine n at = ascii "refused " ++ (decimal n ++ labelled (ascii " at " ∷ []) (replyOf (refused n at) .values))
 
--- of a rule's subject: "from rule 7 on, `step` stands for `method`"
+-- of a rule's subject: "from rule 7 on, `step` stands for `method`"; "22 to 24 have a method as subject"
 abbrev pub subjectName : ℕ → List ℕ
 subjectName rule = cond (ofMethod rule) (ascii " method ") (ascii " step ")
 

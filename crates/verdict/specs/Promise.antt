@@ -11,9 +11,9 @@ use lib.ListN.{length, getD}
 use lib.Dec.{T}
 use Rattle.condition.specs.Condition.{Condition, Word, Holds}
 use Rattle.certificate.specs.Certificate.{Certificate, Fault, fine, found, Exact}
-use Rattle.sheet.specs.Model.{Model, NoLarger, wordLimit}
+use Rattle.sheet.specs.Model.{Model, NoLarger, withKinds, wordLimit}
 use Rattle.sheet.specs.Each.{Each}
-use Rattle.sheet.specs.Record.{Bytes}
+use Rattle.sheet.specs.Record.{Bytes, byteAt}
 use Rattle.sheet.specs.Sheet.{condition}
 use Rattle.sheet.specs.Reading.{Reading, whole, refusal, readSheet}
 use Rattle.sheet.specs.Decode.{sheetOf}
@@ -26,15 +26,16 @@ use Rattle.verdict.specs.Reply.{Reply, _giving_, placeValue, faultValues
 
 -- Of a sheet's bytes ----------------------------------------------------------------------------------------------------
 
--- "A sheet is well formed if none of 1 to 10 applies to it"
+-- "A sheet is well formed if none of 1 to 10 applies to it, nor a later refusal met while reading"
 pub record WellFormed (M : Model) (s : List ℕ) : Type 0 where
   pub reading : Reading
-  -- none of 1 to 9
+  -- none of 1 to 9, nor 18
   pub read : readSheet M s ≡ whole reading
   -- nor 10
   pub enough : length (sheetOf M s .certificates) ≡ certificatesNeeded (rules (sheetOf M s))
 
--- P of each rule's claim and its certificate: "Rules 3, 5, 6 and 7 to 17 have a certificate each, in that order"; the others have none, and P gets []
+-- P of each rule's claim and its certificate: "Rules 3, 5, 6 and 7 to 17 have a certificate each, in that order", and 18 to 23; the others have none, and
+-- P gets []
 pub data EachCertified (P : Claim → Certificate → Type 0) : List Rule → List Certificate → Type 0 where
   done : EachCertified P [] []
   bare : {n k : ℕ} {a : Condition} {xs : List Rule} {cs : List Certificate} → P (holdsEmpty a) [] → EachCertified P xs cs
@@ -63,9 +64,9 @@ pub record FirstFault (events : ℕ) (xs : List Rule) (cs : List Certificate) (r
   pub before-pass : EachCertified (Passes events) before used
   pub fails : testOf events failing (nextOf unused) ≡ found f
 
--- one of the refusals 1 to 10 applies, and the first of them has this number and place; what 1 to 9 are is said by sheet/specs/Reading
+-- one of the refusals 1 to 10 and 18 applies, and the first of them has this number and place; what 1 to 9 and 18 are is said by sheet/specs/Reading
 pub data RefusedFor (M : Model) (s : List ℕ) : ℕ → ℕ → Type 0 where
-  -- 1 to 9: reading ends with it
+  -- 1 to 9 and 18: reading ends with it
   while-reading : {n at : ℕ} {r : Reading} → readSheet M s ≡ refusal n at r → RefusedFor M s n at
   -- 10, "length": "certificates are more or fewer than the rules need"
   wrong-count : {r : Reading} → readSheet M s ≡ whole r
@@ -73,29 +74,40 @@ pub data RefusedFor (M : Model) (s : List ℕ) : ℕ → ℕ → Type 0 where
 
 -- Of two instruments ----------------------------------------------------------------------------------------------------
 
--- What an instrument with the limits of M answers, a, beside the answer b of one that is no smaller: 1 with its own limit for the place, 6, or the same
--- answer with all its values. `reply` gives document 01's number and values of an answer.
-pub data LikeLarger {A : Type 0} (reply : A → Reply) (M : Model) (a b : A) : Type 0 where
+-- What an instrument M answers to the bytes s, a, beside the answer b of an instrument M′ that is no smaller: 1 with its own limit for the place, where
+-- it takes fewer bytes; 6, where it takes fewer points; 2, where it does not take the record's kind and the other does; or the same answer with all its
+-- values. `reply` gives document 01's number and values of an answer.
+pub data LikeLarger {A : Type 0} (reply : A → Reply) (M M′ : Model) (s : List ℕ) (a b : A) : Type 0 where
   -- "Refusal 1 then gives place 8,192": the limit, not the sheet's length
-  too-long : reply a ≡ 1 giving (M .bytes ∷ []) → LikeLarger reply M a b
+  too-long : M .bytes < M′ .bytes → reply a ≡ 1 giving (M .bytes ∷ []) → LikeLarger reply M M′ s a b
   -- "6 comes at the 65th point"; what the larger one makes of the sheet is not said
-  over-limit : {at : ℕ} → reply a ≡ 6 giving (at ∷ []) → LikeLarger reply M a b
+  over-limit : {at : ℕ} → M .points < M′ .points → reply a ≡ 6 giving (at ∷ []) → LikeLarger reply M M′ s a b
+  -- a record of a kind that only the larger one takes
+  unknown-kind : {at : ℕ} → M .kinds < byteAt s at → byteAt s at ≤ M′ .kinds → reply a ≡ 2 giving (at ∷ []) → LikeLarger reply M M′ s a b
   -- "accepted by the large one with an equal count", and so every other answer
-  the-same : a ≡ b → LikeLarger reply M a b
+  the-same : a ≡ b → LikeLarger reply M M′ s a b
 
 -- Request 8, of the loader
-pub record OnLarger (M : Model) (a b : Report) : Type 0 where
-  pub like : LikeLarger replyOf M a b
+pub record OnLarger (M M′ : Model) (s : List ℕ) (a b : Report) : Type 0 where
+  pub like : LikeLarger replyOf M M′ s a b
   -- "A sheet that the small one accepts is accepted by the large one with an equal count"
   pub accepted-too : (n : ℕ) → a ≡ accepted n → b ≡ accepted n
-  -- "a refusal there of a lone sheet by the loader, not 1 or 6, is the large one's too": its number and its values, 11 included
-  pub refused-too : (n : ℕ) (values : List ℕ) → replyOf a ≡ n giving values → (n ≡ 1 → ⊥) → (n ≡ 6 → ⊥) → replyOf b ≡ n giving values
+  -- "a refusal there of a lone sheet by the loader, not 1 or 6, is the large one's too": its number and its values, 11 included; 2 where both take the
+  -- same kinds
+  pub refused-too : (n : ℕ) (values : List ℕ) → replyOf a ≡ n giving values → (n ≡ 1 → ⊥) → (n ≡ 6 → ⊥) → (n ≡ 2 → M .kinds ≡ M′ .kinds)
+      → replyOf b ≡ n giving values
 
 -- "State it over both limits as parameters": of any two instruments, whatever their limits, and all bytes; of the word test too (proofs/Models)
 abbrev pub ModelsAgree : Type 0
 ModelsAgree =
     (M M′ : Model) → NoLarger M M′ → (s : List ℕ)
-    → OnLarger M (verdictOf M s) (verdictOf M′ s) × ((c : ℕ) (w : Word) → LikeLarger answerReply M (wordTest M s c w) (wordTest M′ s c w))
+    → OnLarger M M′ s (verdictOf M s) (verdictOf M′ s) × ((c : ℕ) (w : Word) → LikeLarger answerReply M M′ s (wordTest M s c w) (wordTest M′ s c w))
+
+-- "judged as before" (Ask 4, and so of each request that brings kinds): before, when an instrument M took the kinds up to k only, its answer was 2 at a
+-- record of a kind above k, or it was the present answer. A sheet without such kinds has no such record.
+pub data AsBefore {A : Type 0} (reply : A → Reply) (k : ℕ) (M : Model) (s : List ℕ) (before present : A) : Type 0 where
+  of-new-kind : {at : ℕ} → k < byteAt s at → byteAt s at ≤ M .kinds → reply before ≡ 2 giving (at ∷ []) → AsBefore reply k M s before present
+  the-same-answer : before ≡ present → AsBefore reply k M s before present
 
 -- Of the loader ---------------------------------------------------------------------------------------------------------
 
@@ -131,8 +143,10 @@ pub record Loads (M : Model) (s : List ℕ) (answer : Report) : Type 0 where
   -- "Conversely a well-formed sheet with true rules is accepted if each certificate lists exactly the reachable pairs, the start first."
   pub complete : WellFormed M s → AllMet (rules (sheetOf M s)) → EachCertified (ExactFor (M .events)) (rules (sheetOf M s)) (sheetOf M s .certificates)
       → answer ≡ accepted (count (sheetOf M s))
-  -- Request 8: the answer of an instrument that is no smaller is this one, unless this one is 1 or 6
-  pub on-larger : (M′ : Model) → NoLarger M M′ → OnLarger M answer (verdictOf M′ s)
+  -- Request 8: the answer of an instrument that is no smaller is this one, unless this one is 1, 6, or 2 at a kind that only the other takes
+  pub on-larger : (M′ : Model) → NoLarger M M′ → OnLarger M M′ s answer (verdictOf M′ s)
+  -- Request 2: a sheet that does not use the kinds above k is judged as by an instrument that takes none of them
+  pub as-before : (k : ℕ) → k ≤ M .kinds → AsBefore replyOf k M s (verdictOf (withKinds k M) s) answer
 
 -- that the definition's answer keeps the promise (proofs/Loads)
 abbrev pub LoadsAsPromised : Model → Type 0
@@ -140,7 +154,7 @@ LoadsAsPromised M = 32 ≤ M .events → (s : List ℕ) → Bytes s → Loads M 
 
 -- Of the word test ------------------------------------------------------------------------------------------------------
 
--- the word test reads the sheet whole and finds the condition: none of 1 to 9, nor 14
+-- the word test reads the sheet whole and finds the condition: none of 1 to 9 and 18, nor 14
 pub record FindsCondition (M : Model) (s : List ℕ) (c : ℕ) : Type 0 where
   pub reading : Reading
   pub read : readSheet M s ≡ whole reading
@@ -175,8 +189,10 @@ pub record TestsWord (M : Model) (s : List ℕ) (c : ℕ) (w : Word) (answer : A
   pub right : (b : Bool) → answer ≡ tested b → T b ↔ Holds (condition (sheetOf M s) c) w
   -- and else names the first refusal that applies
   pub refused-iff : (n : ℕ) (at : Option ℕ) → (answerReply answer ≡ n giving placeValue at) ↔ WordRefusedFor M s c w n at
-  -- Request 8: the answer of an instrument that is no smaller is this one, unless this one is 1 or 6
-  pub on-larger : (M′ : Model) → NoLarger M M′ → LikeLarger answerReply M answer (wordTest M′ s c w)
+  -- Request 8: the answer of an instrument that is no smaller is this one, unless this one is 1, 6, or 2 at a kind that only the other takes
+  pub on-larger : (M′ : Model) → NoLarger M M′ → LikeLarger answerReply M M′ s answer (wordTest M′ s c w)
+  -- Request 2: a sheet that does not use the kinds above k is tested as by an instrument that takes none of them
+  pub as-before : (k : ℕ) → k ≤ M .kinds → AsBefore answerReply k M s (wordTest (withKinds k M) s c w) answer
 
 -- that the definition's answer keeps the promise (proofs/WordTest)
 abbrev pub TestsAsPromised : Model → Type 0

@@ -29,7 +29,7 @@ abbrev pub testOf : ℕ → Claim → Certificate → Finding
 testOf events (a isIn b) c = check events a b c
 testOf events (holdsEmpty a) c = unless (nullable a) (fault 5 0 0 0)
 
--- "Rules 3, 5, 6 and 7 to 17 have a certificate each, in that order": how many certificates a claim needs
+-- "Rules 3, 5, 6 and 7 to 17 have a certificate each, in that order"; of 18 to 24, "24 has no certificate": how many certificates a claim needs
 abbrev pub needed : Claim → ℕ
 needed (a isIn b) = 1
 needed (holdsEmpty a) = 0
@@ -73,7 +73,7 @@ judged M s S =
     let first = firstFault (M .events) (rules S) (S .certificates) (accepted (count S)) in
     cond (eqb (length (S .certificates)) (certificatesNeeded (rules S))) first (refused 10 (some (length s)))
 
--- 1 to 9 end reading; a sheet that is read whole is judged
+-- 1 to 9 and 18 end reading; a sheet that is read whole is judged
 unfoldable pub verdictAfter : Model → List ℕ → ReadResult → Report
 unfolding judged
 verdictAfter M s (refusal n at r) = refused n (some at)

@@ -26,7 +26,8 @@ unlessStray events i (e ∷ w) otherwise =
     let after = unlessStray events (suc i) w otherwise in
     cond (ltb e events) after (untested 13 (some i))
 
--- "it first applies 1 to 9, then 14, 12, 13": 14 "no such condition", 12 "word longer than 4,096"
+-- "it first applies 1 to 9, then 14, 12, 13": 14 "no such condition", 12 "word longer than 4,096". "Later refusals met while reading count wherever 1 to 9
+-- are applied."
 unfoldable pub testedAfter : Model → List ℕ → ℕ → Word → ReadResult → Answer
 unfolding unlessStray accepts
 testedAfter M s c w (refusal n at r) = untested n (some at)
