@@ -1,10 +1,10 @@
--- Document 01's number and place of each refusal: "What the loader returns".
+-- Document 01's number and place of each refusal: "What the loader returns"; and those of document 02's 18.
 use Prim.Native.Nat.{ℕ}
 use mathlib.Core.Option.{Option, none, some}
 use Rattle.format.specs.declared.Refusal.{Refusal}
-use Rattle.format.specs.declared.Refusal.the-variants.{TooLong, UnknownKind, BodyPastEnd, WrongSection, WrongItems, OverLimit, UnknownName, Unfinished, NoFirstBody, CertificateCount, WordTooLong, StrayEvent, NoSuchCondition}
+use Rattle.format.specs.declared.Refusal.the-variants.{TooLong, UnknownKind, BodyPastEnd, WrongSection, WrongItems, OverLimit, UnknownName, Unfinished, NoFirstBody, CertificateCount, WordTooLong, StrayEvent, NoSuchCondition, WrongOutcomes}
 
--- the number, 1 to 10 and 12 to 14
+-- the number, 1 to 10, 12 to 14 and 18
 abbrev pub numberOf : Refusal → ℕ
 numberOf (TooLong at) = 1
 numberOf (UnknownKind at) = 2
@@ -19,6 +19,7 @@ numberOf (CertificateCount at) = 10
 numberOf WordTooLong = 12
 numberOf (StrayEvent at) = 13
 numberOf NoSuchCondition = 14
+numberOf (WrongOutcomes at) = 18
 
 -- "place", "offset", "length" or "index", by the refusal; 12 and 14 have none
 abbrev pub placeOf : Refusal → Option ℕ
@@ -35,3 +36,4 @@ placeOf (CertificateCount at) = some at
 placeOf WordTooLong = none
 placeOf (StrayEvent at) = some at
 placeOf NoSuchCondition = none
+placeOf (WrongOutcomes at) = some at

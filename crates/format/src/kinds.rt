@@ -2,7 +2,8 @@
 ghost use mathlib.Core.Path.{_≡_};
 ghost use Prim.Native.Nat.{_≤_};
 ghost use Rattle.sheet.specs.Kind.{kindOf, sectionOf};
-ghost use Rattle.format.specs.Kinds.{lastKind, countsOne, takesItems, leafKind, primitiveKind, bodyKind, eventKind, callKind};
+ghost use Rattle.format.specs.Kinds.{lastKind, countsOne, takesItems, leafKind, primitiveKind, twoOutcomeKind};
+use bits::one_of;
 
 // The sections in their order, each called by what is counted in it.
 pub const CONDITIONS: u8 = 1;
@@ -26,7 +27,7 @@ pub const EITHER: u8 = 4;
 
 pub const STAR: u8 = 5;
 
-// The kinds of a primitive, of a method with body, of an event step and of a call step.
+// The kinds of a primitive, of a method with body, of an event step and of a call step; those of two outcomes stand below.
 pub const PRIMITIVE: u8 = 8;
 
 pub const WITH_BODY: u8 = 9;
@@ -37,6 +38,13 @@ pub const CALL: u8 = 11;
 
 // The kind of a pair.
 pub const PAIR: u8 = 13;
+
+// The kinds of a primitive and of a method with body that have two outcomes, and of a call of such a method.
+pub const TWO_OUTCOME_PRIMITIVE: u8 = 15;
+
+pub const TWO_OUTCOME_BODY: u8 = 16;
+
+pub const TWO_OUTCOME_CALL: u8 = 17;
 
 pub fn section_of(kind: u8) -> u8
     requires { ⌜ (1 ≤ kind) × (kind ≤ lastKind) ⌝ }
@@ -50,8 +58,12 @@ pub fn section_of(kind: u8) -> u8
         METHODS
     } else if kind < 13 {
         STEPS
-    } else {
+    } else if kind < 15 {
         CERTIFICATES
+    } else if kind < 17 {
+        METHODS
+    } else {
+        STEPS
     }
 }
 
@@ -87,23 +99,12 @@ pub fn is_leaf(kind: u8) -> bool
 pub fn is_primitive(kind: u8) -> bool
     ensures { λ r. ⌜ r ≡ primitiveKind kind ⌝ }
 {
-    kind == PRIMITIVE
+    one_of(kind == PRIMITIVE, kind == TWO_OUTCOME_PRIMITIVE)
 }
 
-pub fn has_body(kind: u8) -> bool
-    ensures { λ r. ⌜ r ≡ bodyKind kind ⌝ }
+// A method of the kind can fail.
+pub fn has_two_outcomes(kind: u8) -> bool
+    ensures { λ r. ⌜ r ≡ twoOutcomeKind kind ⌝ }
 {
-    kind == WITH_BODY
-}
-
-pub fn is_event(kind: u8) -> bool
-    ensures { λ r. ⌜ r ≡ eventKind kind ⌝ }
-{
-    kind == EVENT
-}
-
-pub fn is_call(kind: u8) -> bool
-    ensures { λ r. ⌜ r ≡ callKind kind ⌝ }
-{
-    kind == CALL
+    one_of(kind == TWO_OUTCOME_PRIMITIVE, kind == TWO_OUTCOME_BODY)
 }

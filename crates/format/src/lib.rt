@@ -18,7 +18,7 @@ pub mod listing; // listing.rt: the pairs of a certificate
 pub mod symbols; // symbols.rt: the symbols of a condition
 pub mod values; // values.rt: points, methods and steps as values
 
-// The refusals 1 to 10 and 12 to 14 of document 01, with their places; specs/Refusal gives each its number.
+// The refusals 1 to 10 and 12 to 14 of document 01 and 18 of document 02, with their places; specs/Refusal gives each its number.
 pub enum Refusal {
     TooLong(usize),
     UnknownKind(usize),
@@ -33,10 +33,11 @@ pub enum Refusal {
     WordTooLong,
     StrayEvent(usize),
     NoSuchCondition,
+    WrongOutcomes(usize),
 }
 
-// Body lengths by kind, 1 to 14.
-const BODY_LENGTHS: [u8; 14] = [4, 0, 0, 0, 0, 0, 6, 6, 10, 5, 6, 4, 5, 0];
+// Body lengths by kind, 1 to 17.
+const BODY_LENGTHS: [u8; 17] = [4, 0, 0, 0, 0, 0, 6, 6, 10, 5, 6, 4, 5, 0, 10, 16, 8];
 
 // A record with the offset after it. Where there is none, `refusal_at` says why.
 pub enum Found {
@@ -62,7 +63,7 @@ fn body_of(kind: u8) -> usize
 // The offset after a record of a kind. Most records are pairs, leaves, or other records of conditions, which have no body: the processor foresees
 // these branches, and does not wait for the table.
 fn after(kind: u8, at: usize) -> usize
-    requires { ⌜ (1 ≤ kind) × (kind ≤ lastKind) × (at + 11 < 2 ^ 64) ⌝ }
+    requires { ⌜ (1 ≤ kind) × (kind ≤ lastKind) × (at + 17 < 2 ^ 64) ⌝ }
     ensures { λ r. ⌜ r ≡ at + 1 + bodyLength kind ⌝ }
 {
     if kind == PAIR {

@@ -1,12 +1,15 @@
 // What stands at an offset, as a value: a point, a method, a step. The offset is that of a record of such a kind.
 ghost use mathlib.Core.Path.{_≡_};
-ghost use Prim.Native.Nat.{_<_};
+ghost use Prim.Native.Nat.{_+_, _≤_, _<_};
 ghost use lib.ListN.{length};
-ghost use Rattle.sheet.specs.AtOffset.{pointAt, methodAt, stepAt};
-ghost use Rattle.format.specs.Values.{ThreeAt, pointValue, Declares, methodValue, stepValue};
+ghost use Rattle.sheet.specs.AtOffset.{shortAt, declaredAt, pointAt, methodAt, stepAt};
+ghost use Rattle.format.specs.Values.{pointValue, declaredValue, Declares, DeclaresFailed, methodValue, stepValue};
 use crate::kinds::CALL;
 use crate::kinds::EVENT;
 use crate::kinds::PRIMITIVE;
+use crate::kinds::TWO_OUTCOME_BODY;
+use crate::kinds::TWO_OUTCOME_CALL;
+use crate::kinds::TWO_OUTCOME_PRIMITIVE;
 use fields::byte_at;
 use fields::index;
 use fields::short_at;
@@ -18,11 +21,16 @@ pub struct Point {
     pub due: usize,
 }
 
-// What a method declares: its conditions, by their numbers.
-pub struct Declaration {
-    pub pre: usize,
+// What a method declares of one outcome: its conditions, by their numbers.
+pub struct Declared {
     pub trace: usize,
     pub future: usize,
+}
+
+// What a method declares of its beginning and of the normal outcome.
+pub struct Declaration {
+    pub pre: usize,
+    pub normal: Declared,
 }
 
 // The points of a method's body, by their numbers.
@@ -31,9 +39,17 @@ pub struct Body {
     pub exit: usize,
 }
 
+// The failed outcome of a method with body: what the method declares of it, and its failed exit.
+pub struct FailedBody {
+    pub declared: Declared,
+    pub exit: usize,
+}
+
 pub enum Method {
     Primitive(Declaration),
     WithBody(Declaration, Body),
+    TwoOutcomePrimitive(Declaration, Declared),
+    TwoOutcomeBody(Declaration, Body, FailedBody),
 }
 
 // A call: the points that it goes from and to, and the method that it calls.
@@ -43,6 +59,7 @@ pub struct CallStep {
     pub method: usize,
 }
 
+// A step. A call of a method that can fail has a failed target behind it.
 pub enum Step {
     Event {
         from: usize,
@@ -50,39 +67,33 @@ pub enum Step {
         event: usize,
     },
     Call(CallStep),
+    TwoOutcomeCall(CallStep, usize),
     Pass {
         from: usize,
         to: usize,
     },
 }
 
-// The three conditions that a point or a method names first, by their numbers.
-struct Three {
-    first: usize,
-    second: usize,
-    third: usize,
-}
-
-fn three_at(s: &[u8], at: usize) -> Three
-    requires { ⌜ at < length (now s) ⌝ }
-    ensures { λ r. ⌜ ThreeAt r (now (s .entry)) at ⌝ }
-{
-    Three {
-        first: short_at(s, at + 1),
-        second: short_at(s, at + 3),
-        third: short_at(s, at + 5),
-    }
-}
-
 pub fn point_at(s: &[u8], at: usize) -> Point
     requires { ⌜ at < length (now s) ⌝ }
     ensures { λ r. ⌜ pointValue r ≡ pointAt (now (s .entry)) at ⌝ }
 {
-    let named = three_at(s, at);
     Point {
-        past: named.first,
-        own: named.second,
-        due: named.third,
+        past: short_at(s, at + 1),
+        own: short_at(s, at + 3),
+        due: short_at(s, at + 5),
+    }
+}
+
+// What is declared of an outcome by two fields, the first `ahead` bytes behind the offset of a record.
+fn declared_at(s: &[u8], at: usize, ahead: usize) -> Declared
+    requires { ⌜ (at < length (now s)) × (ahead ≤ 16) ⌝ }
+    ensures { λ r. ⌜ declaredValue r ≡ declaredAt (now (s .entry)) (at + ahead) ⌝ }
+{
+    let first = at + ahead;
+    Declared {
+        trace: short_at(s, first),
+        future: short_at(s, first + 2),
     }
 }
 
@@ -90,11 +101,31 @@ pub fn declaration_at(s: &[u8], at: usize) -> Declaration
     requires { ⌜ at < length (now s) ⌝ }
     ensures { λ r. ⌜ Declares r (methodAt (now (s .entry)) at) ⌝ }
 {
-    let named = three_at(s, at);
+    let normal = declared_at(s, at, 3);
     Declaration {
-        pre: named.first,
-        trace: named.second,
-        future: named.third,
+        pre: short_at(s, at + 1),
+        normal,
+    }
+}
+
+// What a method of two outcomes declares of the failed one: of a primitive it stands behind the future, of a method with body behind the exit.
+pub fn failed_at(s: &[u8], at: usize) -> Declared
+    requires { ⌜ at < length (now s) ⌝ }
+    ensures { λ r. ⌜ DeclaresFailed r (methodAt (now (s .entry)) at) ⌝ }
+{
+    if byte_at(s, at) == TWO_OUTCOME_PRIMITIVE {
+        return declared_at(s, at, 7);
+    }
+    declared_at(s, at, 11)
+}
+
+fn body_at(s: &[u8], at: usize) -> Body
+    requires { ⌜ at < length (now s) ⌝ }
+    ensures { λ r. ⌜ (r .entry ≡ shortAt (now (s .entry)) (at + 7)) × (r .exit ≡ shortAt (now (s .entry)) (at + 9)) ⌝ }
+{
+    Body {
+        entry: short_at(s, at + 7),
+        exit: short_at(s, at + 9),
     }
 }
 
@@ -103,12 +134,20 @@ pub fn method_at(s: &[u8], at: usize) -> Method
     ensures { λ r. ⌜ methodValue r ≡ methodAt (now (s .entry)) at ⌝ }
 {
     let declaration = declaration_at(s, at);
-    if byte_at(s, at) == PRIMITIVE {
+    let kind = byte_at(s, at);
+    if kind == PRIMITIVE {
         return Method::Primitive(declaration);
     }
-    let entry = short_at(s, at + 7);
-    let exit = short_at(s, at + 9);
-    Method::WithBody(declaration, Body { entry, exit })
+    if kind == TWO_OUTCOME_PRIMITIVE {
+        return Method::TwoOutcomePrimitive(declaration, failed_at(s, at));
+    }
+    let body = body_at(s, at);
+    if kind == TWO_OUTCOME_BODY {
+        let declared = failed_at(s, at);
+        let exit = short_at(s, at + 15);
+        return Method::TwoOutcomeBody(declaration, body, FailedBody { declared, exit });
+    }
+    Method::WithBody(declaration, body)
 }
 
 pub fn step_at(s: &[u8], at: usize) -> Step
@@ -125,6 +164,11 @@ pub fn step_at(s: &[u8], at: usize) -> Step
     if kind == CALL {
         let method = short_at(s, at + 5);
         return Step::Call(CallStep { from, to, method });
+    }
+    if kind == TWO_OUTCOME_CALL {
+        let failed = short_at(s, at + 5);
+        let method = short_at(s, at + 7);
+        return Step::TwoOutcomeCall(CallStep { from, to, method }, failed);
     }
     Step::Pass { from, to }
 }

@@ -37,9 +37,10 @@ fn read_with(
         return Read::Refused(Refusal::TooLong(limits.bytes));
     }
     let first = read_conditions(s, limits, nothing_counted(), conditions);
-    let second = read_alone(s, limits, POINTS, limits.points, first, points);
-    let third = read_alone(s, limits, METHODS, 64, second, methods);
-    let fourth = read_alone(s, limits, STEPS, 512, third, steps);
+    let none: [u32; 0] = [];
+    let second = read_alone(s, limits, POINTS, limits.points, first, &none, points);
+    let third = read_alone(s, limits, METHODS, 64, second, &none, methods);
+    let fourth = read_alone(s, limits, STEPS, 512, third, methods, steps);
     match fourth {
         Section::Refused(x) => Read::Refused(x),
         Section::Done { at, tally } => read_certificates(s, limits, at, tally),

@@ -1,2 +1,3 @@
 pub mod Step
 pub mod Names
+pub mod Outcomes

@@ -9,6 +9,7 @@ use format::kinds::is_leaf;
 use format::kinds::items_taken;
 
 pub mod names; // names.rt: whether what a record names exists
+pub mod outcomes; // outcomes.rt: whether a call names a method with as many outcomes
 
 // What is begun of a condition: its items, its symbols and its leaves so far.
 pub struct Begun {

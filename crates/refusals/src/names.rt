@@ -1,9 +1,9 @@
 // Whether what a record names exists: names point only backward.
 ghost use mathlib.Core.Path.{_≡_};
-ghost use Prim.Native.Nat.{_+_, _≤_};
+ghost use Prim.Native.Nat.{ℕ, _+_, _≤_, _<_};
 ghost use lib.ListN.{length};
 ghost use lib.Dec.{ltb};
-ghost use Rattle.sheet.specs.Kind.{kindOf};
+ghost use Rattle.sheet.specs.Kind.{kindOf, sectionOf, steps};
 ghost use Rattle.sheet.specs.Record.{recordAt};
 ghost use Rattle.sheet.specs.AtOffset.{shortAt};
 ghost use Rattle.sheet.specs.Reading.{allExist};
@@ -12,10 +12,13 @@ ghost use Rattle.refusals.specs.Names.{Named, twoBelow, threeBelow};
 use bits::both;
 use fields::index;
 use fields::short_inside;
+use format::kinds::CALL;
+use format::kinds::EVENT;
 use format::kinds::STEPS;
-use format::kinds::has_body;
-use format::kinds::is_call;
-use format::kinds::is_event;
+use format::kinds::TWO_OUTCOME_BODY;
+use format::kinds::TWO_OUTCOME_CALL;
+use format::kinds::TWO_OUTCOME_PRIMITIVE;
+use format::kinds::WITH_BODY;
 use format::kinds::section_of;
 use tally::Tally;
 
@@ -41,24 +44,47 @@ fn three_below(s: &[u8], i: usize, n: usize) -> bool
     both(below(s, i, n), two_below(s, i + 2, n))
 }
 
+// What a point or a method names is counted in the tally: three conditions, and what its kind has behind them.
+fn declared_names_exist(s: &[u8], at: usize, kind: u8, tally: Tally) -> bool
+    requires { ⌜ Named (now s) at kind × (sectionOf kind < steps) ⌝ }
+    ensures { λ r. ⌜ ((events : ℕ) → r ≡ allExist events (countOf tally) (kindOf kind .fields) (recordAt (now (s .entry)) at .values)) ⌝ }
+{
+    let named = three_below(s, at + 1, tally.conditions);
+    match kind {
+        WITH_BODY => both(named, two_below(s, at + 7, tally.points)),
+        TWO_OUTCOME_PRIMITIVE => both(named, two_below(s, at + 7, tally.conditions)),
+        TWO_OUTCOME_BODY => both(
+            both(named, two_below(s, at + 7, tally.points)),
+            both(two_below(s, at + 11, tally.conditions), below(s, at + 15, tally.points)),
+        ),
+        _ => named,
+    }
+}
+
+// What a step names is counted in the tally, and its event is of the first `events`: two points, and what its kind has behind them.
+fn step_names_exist(s: &[u8], at: usize, kind: u8, tally: Tally, events: usize) -> bool
+    requires { ⌜ Named (now s) at kind × (steps ≤ sectionOf kind) ⌝ }
+    ensures { λ r. ⌜ r ≡ allExist events (countOf tally) (kindOf kind .fields) (recordAt (now (s .entry)) at .values) ⌝ }
+{
+    let named = two_below(s, at + 1, tally.points);
+    match kind {
+        EVENT => both(named, index(s[at + 5]) < events),
+        CALL => both(named, below(s, at + 5, tally.methods)),
+        TWO_OUTCOME_CALL => both(
+            both(named, below(s, at + 5, tally.points)),
+            below(s, at + 7, tally.methods),
+        ),
+        _ => named,
+    }
+}
+
 // What a point, a method or a step names is counted in the tally, and its event is of the first `events`.
 pub fn names_exist(s: &[u8], at: usize, kind: u8, tally: Tally, events: usize) -> bool
     requires { ⌜ Named (now s) at kind ⌝ }
     ensures { λ r. ⌜ r ≡ allExist events (countOf tally) (kindOf kind .fields) (recordAt (now (s .entry)) at .values) ⌝ }
 {
     if section_of(kind) < STEPS {
-        let named = three_below(s, at + 1, tally.conditions);
-        if has_body(kind) {
-            return both(named, two_below(s, at + 7, tally.points));
-        }
-        return named;
+        return declared_names_exist(s, at, kind, tally);
     }
-    let named = two_below(s, at + 1, tally.points);
-    if is_event(kind) {
-        return both(named, index(s[at + 5]) < events);
-    }
-    if is_call(kind) {
-        return both(named, below(s, at + 5, tally.methods));
-    }
-    named
+    step_names_exist(s, at, kind, tally, events)
 }

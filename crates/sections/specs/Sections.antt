@@ -91,6 +91,11 @@ pub record Concluded (s : List ℕ) (o : ReadResult) (r : Reading) (a : Read) : 
   pub answers : Answers s o a state
   pub others : (j : ℕ) → (j ≡ certificates → ⊥) → state .own j ≡ r .own j
 
+-- where section k is that of steps, which name methods: the table leads to the kinds of the methods that were counted
+abbrev pub MethodsListed : List ℕ → List ℕ → ℕ → Reading → Type 0
+MethodsListed s table k r =
+    k ≡ steps → (m : ℕ) → m < tally r methods → twoOutcomesIn (methodRecord r m) ≡ twoOutcomeKind (kindListed s table m)
+
 -- section k, of points, methods or steps: it has `limit` at most, and the table has room for them
 pub record Alone (l : Limits) (k limit : ℕ) (table : List ℕ) : Type 0 where
   pub low : points ≤ k

@@ -8,7 +8,7 @@ ghost use Rattle.sheet.specs.Kind.{conditions, points, methods, certificates};
 ghost use Rattle.sheet.specs.Reading.{Reading, ReadResult};
 ghost use Rattle.format.specs.Kinds.{lastKind};
 ghost use Rattle.instrument.specs.Model.{modelWith};
-ghost use Rattle.sections.specs.Sections.{addressable, Told, Filled, Alone, Concluded};
+ghost use Rattle.sections.specs.Sections.{addressable, Told, Filled, MethodsListed, Alone, Concluded};
 use bits::both;
 use format::Found;
 use format::Refusal;
@@ -24,6 +24,7 @@ use refusals::Stepped;
 use refusals::condition_step;
 use refusals::names::names_exist;
 use refusals::nothing_begun;
+use refusals::outcomes::outcomes_fit;
 use tally::Tally;
 use tally::past;
 
@@ -86,17 +87,19 @@ pub fn read_conditions(s: &[u8], limits: Limits, given: Tally, table: &mut [u32;
     Section::Done { at, tally }
 }
 
-// The points, the methods or the steps, at most `limit` of them. Each record counts by itself.
+// The points, the methods or the steps, at most `limit` of them. Each record counts by itself. Steps name methods, whose offsets are in `methods`.
 pub fn read_alone(
     s: &[u8],
     limits: Limits,
     section: u8,
     limit: usize,
     reached: Section,
+    methods: &[u32],
     table: &mut [u32],
 ) -> Section
     requires { ⌜ Alone limits section limit (now table) × (length (now s) ≤ addressable) ⌝ }
     ensures { λ r. ⌜ ((o : ReadResult) (u : Reading) → Told (modelWith limits) (now (s .entry)) o section reached u → u .own section ≡ []
+        → MethodsListed (now (s .entry)) (now (methods .entry)) section u
         → Filled (modelWith limits) (now (s .entry)) o (suc section) r section u (now (table .entry)) (now (table .exit))) ⌝ }
 {
     let Section::Done { at, tally } = reached else {
@@ -126,6 +129,9 @@ pub fn read_alone(
         }
         if both(n == first, is_primitive(kind)) {
             return Section::Refused(Refusal::NoFirstBody(at));
+        }
+        if !outcomes_fit(s, at, kind, methods) {
+            return Section::Refused(Refusal::WrongOutcomes(at));
         }
         table[n] = at as u32;
         tally = past(tally, section);
