@@ -1,4 +1,4 @@
--- Document 01's numbers and values of each answer: "What the loader returns", "Seventeen rules".
+-- The documents' numbers and values of each answer: "What the loader returns", "Seventeen rules", and document 02, Ask 2.
 use Prim.Native.Nat.{ℕ}
 use mathlib.Core.Bool.{true, false}
 use mathlib.Core.Option.{Option, none, some}
@@ -7,7 +7,7 @@ use Rattle.verdict.specs.WordTest.{Answer, tested, untested}
 use Rattle.format.specs.Refusal.{numberOf, placeOf}
 use Rattle.faults.specs.Fault.{faultOf}
 use Rattle.answers.specs.declared.Rule.{Rule}
-use Rattle.answers.specs.declared.Rule.the-variants.{FirstPre, FirstFuture, EntryPast, EntryOwn, ExitOwn, ExitDue, EventPast, EventOwn, EventDue, CallPre, CallPast, CallOwn, CallFuture, CallDue, PassPast, PassOwn, PassDue}
+use Rattle.answers.specs.declared.Rule.the-variants.{FirstPre, FirstFuture, EntryPast, EntryOwn, ExitOwn, ExitDue, EventPast, EventOwn, EventDue, CallPre, CallPast, CallOwn, CallFuture, CallDue, PassPast, PassOwn, PassDue, FailedPast, FailedOwn, FailedFuture, FailedDue, FailedExitOwn, FailedExitDue, FirstFailedFuture}
 use Rattle.answers.specs.declared.Place.{Place}
 use Rattle.answers.specs.declared.Place.the-variants.{At, Nowhere}
 use Rattle.answers.specs.declared.Verdict.{Verdict}
@@ -15,7 +15,7 @@ use Rattle.answers.specs.declared.Verdict.the-variants.{Accepted, Refuse
 use Rattle.answers.specs.declared.WordAnswer.{WordAnswer}
 use Rattle.answers.specs.declared.WordAnswer.the-variants.{Yes, No, Refused as RefusedWord}
 
--- the number of a rule, 1 to 17
+-- the number of a rule, 1 to 24
 abbrev pub ruleNumber : Rule → ℕ
 ruleNumber (FirstPre k) = 1
 ruleNumber (FirstFuture k) = 2
@@ -34,6 +34,13 @@ ruleNumber (CallDue k) = 14
 ruleNumber (PassPast k) = 15
 ruleNumber (PassOwn k) = 16
 ruleNumber (PassDue k) = 17
+ruleNumber (FailedPast k) = 18
+ruleNumber (FailedOwn k) = 19
+ruleNumber (FailedFuture k) = 20
+ruleNumber (FailedDue k) = 21
+ruleNumber (FailedExitOwn k) = 22
+ruleNumber (FailedExitDue k) = 23
+ruleNumber (FirstFailedFuture k) = 24
 
 -- the number of a rule's method or step
 abbrev pub ruleSubject : Rule → ℕ
@@ -54,6 +61,13 @@ ruleSubject (CallDue k) = k
 ruleSubject (PassPast k) = k
 ruleSubject (PassOwn k) = k
 ruleSubject (PassDue k) = k
+ruleSubject (FailedPast k) = k
+ruleSubject (FailedOwn k) = k
+ruleSubject (FailedFuture k) = k
+ruleSubject (FailedDue k) = k
+ruleSubject (FailedExitOwn k) = k
+ruleSubject (FailedExitDue k) = k
+ruleSubject (FirstFailedFuture k) = k
 
 -- a place, if there is one
 abbrev pub placeIn : Place → Option ℕ

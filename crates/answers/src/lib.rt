@@ -1,4 +1,4 @@
-// The answers of the loader and of the word test, and document 01's numbers for them.
+// The answers of the loader and of the word test, and the documents' numbers for them.
 ghost use mathlib.Core.Path.{_≡_};
 ghost use Prim.Native.Nat.{_<_};
 ghost use Rattle.runs.specs.Rules.{ofMethod};
@@ -7,7 +7,7 @@ ghost use Rattle.answers.specs.Answers.{ruleNumber, ruleSubject, placeIn
 use faults::Fault;
 use format::Refusal;
 
-// The rules 1 to 17, each with its method or its step.
+// The rules 1 to 24, each with its method or its step.
 pub enum Rule {
     FirstPre(usize),
     FirstFuture(usize),
@@ -26,6 +26,13 @@ pub enum Rule {
     PassPast(usize),
     PassOwn(usize),
     PassDue(usize),
+    FailedPast(usize),
+    FailedOwn(usize),
+    FailedFuture(usize),
+    FailedDue(usize),
+    FailedExitOwn(usize),
+    FailedExitDue(usize),
+    FirstFailedFuture(usize),
 }
 
 // A rule by two numbers, its own and that of its method or step.
@@ -52,7 +59,7 @@ pub enum Place {
 }
 
 // The rules about a method; the others are about a step.
-const RULES_OF_METHODS: [usize; 6] = [1, 2, 3, 4, 5, 6];
+const RULES_OF_METHODS: [usize; 9] = [1, 2, 3, 4, 5, 6, 22, 23, 24];
 
 // A rule by its number, which has at most two digits, and that of its method or step.
 pub fn rule_numbers(r: Rule) -> RuleNumbers
@@ -77,6 +84,13 @@ pub fn rule_numbers(r: Rule) -> RuleNumbers
         Rule::PassPast(k) => RuleNumbers(15, k),
         Rule::PassOwn(k) => RuleNumbers(16, k),
         Rule::PassDue(k) => RuleNumbers(17, k),
+        Rule::FailedPast(k) => RuleNumbers(18, k),
+        Rule::FailedOwn(k) => RuleNumbers(19, k),
+        Rule::FailedFuture(k) => RuleNumbers(20, k),
+        Rule::FailedDue(k) => RuleNumbers(21, k),
+        Rule::FailedExitOwn(k) => RuleNumbers(22, k),
+        Rule::FailedExitDue(k) => RuleNumbers(23, k),
+        Rule::FirstFailedFuture(k) => RuleNumbers(24, k),
     }
 }
 
@@ -85,7 +99,7 @@ pub fn of_method(rule: usize) -> bool
     ensures { λ b. ⌜ b ≡ ofMethod rule ⌝ }
 {
     let mut i = 0;
-    while i < 6 {
+    while i < 9 {
         if RULES_OF_METHODS[i] == rule {
             return true;
         }
@@ -111,6 +125,7 @@ pub fn refusal_number(x: Refusal) -> usize
         Refusal::WordTooLong => 12,
         Refusal::StrayEvent(_) => 13,
         Refusal::NoSuchCondition => 14,
+        Refusal::WrongOutcomes(_) => 18,
     }
 }
 
@@ -131,5 +146,6 @@ pub fn refusal_place(x: Refusal) -> Place
         Refusal::WordTooLong => Place::Nowhere,
         Refusal::StrayEvent(at) => Place::At(at),
         Refusal::NoSuchCondition => Place::Nowhere,
+        Refusal::WrongOutcomes(at) => Place::At(at),
     }
 }

@@ -1,4 +1,4 @@
--- What a kind is to the code: the last one; what its role says of a record; leaves, primitives, methods of two outcomes.
+-- What a kind is to the code: the last one; what its role says of a record; leaves, primitives, methods of two outcomes, calls.
 use Prim.Native.Nat.{ℕ}
 use mathlib.Core.Bool.{Bool, true, false, _||_}
 use lib.Dec.{eqb}
@@ -28,3 +28,10 @@ primitiveKind kind = eqb kind 8 || eqb kind 15
 
 abbrev pub twoOutcomeKind : ℕ → Bool
 twoOutcomeKind kind = eqb kind 15 || eqb kind 16
+
+-- calls: kind 11, and kind 17, which has a failed target
+abbrev pub callKind : ℕ → Bool
+callKind kind = eqb kind 11
+
+abbrev pub twoOutcomeCallKind : ℕ → Bool
+twoOutcomeCallKind kind = eqb kind 17

@@ -8,10 +8,11 @@ use Rattle.condition.specs.Condition.{Condition}
 use Rattle.sheet.specs.Each.{Each}
 use Rattle.sheet.specs.Model.{conditionLimit, methodLimit, stepLimit}
 use Rattle.sheet.specs.AtOffset.{pointAt, methodAt, stepAt}
-use Rattle.sheet.specs.Sheet.{Sheet, condition, past, own, due, pre, trace, future}
-use Rattle.sheet.specs.Names.{NamesExist, EventBelow}
+use Rattle.sheet.specs.Sheet.{Outcome, normal, failed, Declared, Sheet, condition, past, own, due, pre, trace, future}
+use Rattle.sheet.specs.Names.{NamesExist, OutcomesFit, EventBelow}
 use Rattle.postfix.specs.Parts.{StandsAt}
 use Rattle.index.specs.declared.PointConditions.{PointConditions}
+use Rattle.index.specs.declared.OutcomeConditions.{OutcomeConditions}
 use Rattle.index.specs.declared.MethodConditions.{MethodConditions}
 
 -- what stands in the bytes s at the offsets of a table with so many rows: xs, numbered from 0
@@ -30,13 +31,14 @@ pub record ConditionIn (s conditions : List ℕ) (c : ℕ) (r : Condition) : Typ
 abbrev pub ConditionsIn : Sheet → (s conditions : List ℕ) → Type 0
 ConditionsIn S s conditions = (c : ℕ) → c < length (S .conditions) → ConditionIn s conditions c (condition S c)
 
--- the tables lead to the sheet S in the bytes s; its names exist, its events fit a set, and it has a method
+-- the tables lead to the sheet S in the bytes s; its names exist, its outcomes and events fit, and it has a method
 pub record Indexes (S : Sheet) (s conditions points methods steps : List ℕ) : Type 0 where
   pub conditions-in : ConditionsIn S s conditions
   pub points-tabled : Tabled pointAt s (length points) points (S .points)
   pub methods-tabled : Tabled methodAt s methodLimit methods (S .methods)
   pub steps-tabled : Tabled stepAt s stepLimit steps (S .steps)
   pub names-exist : NamesExist S
+  pub outcomes-fit : OutcomesFit S
   pub events-fit : Each (EventBelow 64) (S .steps)
   pub a-method : 0 < length (S .methods)
 
@@ -48,21 +50,35 @@ pub record PointIn (S : Sheet) (s conditions points : List ℕ) (p : ℕ) : Type
   pub own-named : ConditionIn s conditions (pointAt s (getD points p 0) .own) (own S p)
   pub due-named : ConditionIn s conditions (pointAt s (getD points p 0) .due) (due S p)
 
--- the method m of the sheet S, likewise
+-- what the method m of the sheet S declares of the outcome o, where its conditions have the numbers of d
+pub record DeclaredIn (S : Sheet) (s conditions : List ℕ) (d : Declared) (m : ℕ) (o : Outcome) : Type 0 where
+  pub trace-named : ConditionIn s conditions (d .trace) (trace S m o)
+  pub future-named : ConditionIn s conditions (d .future) (future S m o)
+
+-- the method m of the sheet S: the method where the table says, with its conditions; and one that has two outcomes, with those of the failed one
 pub record MethodIn (S : Sheet) (s conditions methods : List ℕ) (m : ℕ) : Type 0 where
   pub exists : m < methodLimit
   pub inside : getD methods m 0 < length s
   pub pre-named : ConditionIn s conditions (methodAt s (getD methods m 0) .pre) (pre S m)
-  pub trace-named : ConditionIn s conditions (methodAt s (getD methods m 0) .trace) (trace S m)
-  pub future-named : ConditionIn s conditions (methodAt s (getD methods m 0) .future) (future S m)
+  pub normal-named : DeclaredIn S s conditions (methodAt s (getD methods m 0) .normal) m normal
 
--- the offsets where the conditions of the point p stand, and those of the method m
+pub record FailedIn (S : Sheet) (s conditions methods : List ℕ) (m : ℕ) : Type 0 where
+  pub exists : m < methodLimit
+  pub inside : getD methods m 0 < length s
+  pub declared : Declared
+  pub failing-is : methodAt s (getD methods m 0) .failing ≡ some declared
+  pub failed-named : DeclaredIn S s conditions declared m failed
+
+-- the offsets where the conditions of the point p stand, those of the outcome o of the method m, and those of the method m
 pub record PointIs (s : List ℕ) (S : Sheet) (p : ℕ) (x : PointConditions) : Type 0 where
   pub past-stands : StandsAt s (x .past) (past S p)
   pub own-stands : StandsAt s (x .own) (own S p)
   pub due-stands : StandsAt s (x .due) (due S p)
 
+pub record OutcomeIs (s : List ℕ) (S : Sheet) (m : ℕ) (o : Outcome) (x : OutcomeConditions) : Type 0 where
+  pub trace-stands : StandsAt s (x .trace) (trace S m o)
+  pub future-stands : StandsAt s (x .future) (future S m o)
+
 pub record MethodIs (s : List ℕ) (S : Sheet) (m : ℕ) (x : MethodConditions) : Type 0 where
   pub pre-stands : StandsAt s (x .pre) (pre S m)
-  pub trace-stands : StandsAt s (x .trace) (trace S m)
-  pub future-stands : StandsAt s (x .future) (future S m)
+  pub normal-is : OutcomeIs s S m normal (x .normal)

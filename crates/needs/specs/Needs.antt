@@ -1,4 +1,4 @@
--- How many rules there are, and how many certificates they need: "Rules 3, 5, 6 and 7 to 17 have a certificate each".
+-- How many rules there are, and how many certificates they need: "Rules 3, 5, 6 and 7 to 17 have a certificate each", and 18 to 23.
 use mathlib.Core.Path.{_≡_}
 use mathlib.Core.List.{List}
 use lib.ListN.{length}

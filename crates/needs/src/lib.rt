@@ -3,7 +3,8 @@ ghost use mathlib.Core.List.{List};
 ghost use Prim.Native.Nat.{ℕ, _+_, _≤_};
 ghost use Rattle.sheet.specs.Sheet.{Sheet};
 ghost use Rattle.runs.specs.Rules as runs;
-ghost use Rattle.runs.specs.Rules.{methodRules, stepRules, rules};
+ghost use mathlib.Core.Path.{_≡_};
+ghost use Rattle.runs.specs.Rules.{isAmong, methodRules, stepRules, rules};
 ghost use Rattle.format.specs.Values.{methodValue, stepValue};
 ghost use Rattle.claims.specs.Claims.{NthIs};
 ghost use Rattle.rules.specs.Order.{SheetIn, groups};
@@ -20,12 +21,17 @@ pub struct Needs {
     pub certificates: usize,
 }
 
-// A method with body has rules 3 to 6, and 4 is the one without a certificate.
-fn method_needs(method: Method) -> Needs
-    ensures { λ r. ⌜ ((S : Sheet) (m : ℕ) → Needed (methodRules S m (methodValue method .body)) r) ⌝ }
+// A method with body has rules 3 to 6, and 4 is the one without a certificate. One of two outcomes has 22 and 23 too, and 24, which has no certificate,
+// where runs start at it.
+fn method_needs(method: Method, first: bool) -> Needs
+    ensures { λ r. ⌜ ((S : Sheet) (starts : List ℕ) (m : ℕ) → first ≡ isAmong starts m → Needed (methodRules S starts m (methodValue method .body)) r) ⌝ }
 {
     match method {
         Method::Primitive(_) => Needs {
+            rules: 0,
+            certificates: 0,
+        },
+        Method::TwoOutcomePrimitive(_, _) => Needs {
             rules: 0,
             certificates: 0,
         },
@@ -33,10 +39,14 @@ fn method_needs(method: Method) -> Needs
             rules: 4,
             certificates: 3,
         },
+        Method::TwoOutcomeBody(_, _, _) => Needs {
+            rules: if first { 7 } else { 6 },
+            certificates: 5,
+        },
     }
 }
 
-// An event step has rules 7 to 9, a call 10 to 14, a pass step 15 to 17, each with a certificate.
+// An event step has rules 7 to 9, a call 10 to 14, one with a failed target 18 to 21 too, a pass step 15 to 17, each with a certificate.
 fn step_needs(step: Step) -> Needs
     ensures { λ r. ⌜ ((S : Sheet) (i : ℕ) → Needed (stepRules S i (stepValue step)) r) ⌝ }
 {
@@ -48,6 +58,10 @@ fn step_needs(step: Step) -> Needs
         Step::Call(_) => Needs {
             rules: 5,
             certificates: 5,
+        },
+        Step::TwoOutcomeCall(_, _) => Needs {
+            rules: 9,
+            certificates: 9,
         },
         Step::Pass { .. } => Needs {
             rules: 3,
@@ -78,7 +92,7 @@ fn needs_at(
     let k = number - 1;
     let listed = counts.methods;
     if k < listed {
-        return method_needs(method_at(s, methods[k] as usize));
+        return method_needs(method_at(s, methods[k] as usize), k == 0);
     }
     step_needs(step_at(s, steps[k - listed] as usize))
 }

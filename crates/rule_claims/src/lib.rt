@@ -1,14 +1,18 @@
-// What the seventeen rules claim of the conditions that they name, by number: the rules of a start, of a method with body, of a step of each kind. No table
+// What the rules claim of the conditions that they name, by number: the rules of a start, of a method with body, of a step of each kind. No table
 // and no byte of the sheet is read here.
+ghost use mathlib.Core.Path.{_≡_};
 ghost use mathlib.Core.List.{List};
-ghost use mathlib.Core.Option.{some};
-ghost use Prim.Native.Nat.{ℕ, _<_};
+ghost use mathlib.Core.Option.{Option, some};
+ghost use Prim.Native.Nat.{ℕ, _+_, _<_};
 ghost use Rattle.sheet.specs.Sheet as sheet;
 ghost use Rattle.sheet.specs.Sheet.{Sheet, event-step, call-step, pass-step};
-ghost use Rattle.runs.specs.Rules.{firstRules, methodRules, stepRules};
+ghost use Rattle.runs.specs.Rules.{ifAny, isAmong, firstRules, exitRules, failedExitRules, methodRules, returnRules, stepRules};
+ghost use Rattle.postfix.specs.Parts.{StandsAt};
 ghost use Rattle.index.specs.Indexed.{PointIs, MethodIs};
 ghost use Rattle.claims.specs.Claims.{Kth};
+ghost use Rattle.rule_claims.specs.Ways.{RuleIs, WayIs, FailingIs, ReturnRulesAre};
 use answers::Rule;
+use bits::both;
 use claims::Asked;
 use claims::forms::Raised;
 use claims::forms::backward;
@@ -16,8 +20,29 @@ use claims::forms::forward;
 use claims::forms::holds_empty;
 use claims::forms::inclusion;
 use index::MethodConditions;
+use index::OutcomeConditions;
 use index::PointConditions;
 use postfix::Part;
+
+// A way of returning: the point that it is at, a method's exit, or that it leads to, a call's target; and what the method declares of it.
+pub struct Way {
+    pub point: PointConditions,
+    pub declared: OutcomeConditions,
+}
+
+// The failed way of a method or of a call, if it has one.
+pub enum Failing {
+    Never,
+    By(Way),
+}
+
+// The four rules of a call about one way of returning, by name.
+struct ReturnRules {
+    past: Rule,
+    own: Rule,
+    future: Rule,
+    due: Rule,
+}
 
 // 1 and 2, a method that runs start at: pre, and future, hold the empty word.
 pub fn first_claim(m: usize, d: MethodConditions, k: usize) -> Asked
@@ -25,28 +50,62 @@ pub fn first_claim(m: usize, d: MethodConditions, k: usize) -> Asked
 {
     match k {
         0 => holds_empty(Rule::FirstPre(m), d.pre),
-        1 => holds_empty(Rule::FirstFuture(m), d.future),
+        1 => holds_empty(Rule::FirstFuture(m), d.normal.future),
         _ => Asked::NoMore,
     }
 }
 
-// 3 pre in past(entry); 4 own(entry) holds the empty word; 5 own(exit) in trace; 6 future in due(exit).
-pub fn body_claim(
-    m: usize,
-    d: MethodConditions,
-    entry: PointConditions,
-    exit: PointConditions,
-    k: usize,
-) -> Asked
-    ensures { λ r. ⌜ ((s : List ℕ) (S : Sheet) (b : sheet.Body) → MethodIs s S m d → PointIs s S (b .entry) entry → PointIs s S (b .exit) exit →
-        Kth s (methodRules S m (some b)) k r) ⌝ }
+// 5 own(exit) in trace; 6 future in due(exit); and 22, 23 of the failed exit.
+fn exit_claim(own: Rule, due: Rule, exit: Way, k: usize) -> Asked
+    ensures { λ r. ⌜ ((s : List ℕ) (S : Sheet) (n m e : ℕ) (o : sheet.Outcome) → RuleIs own n m → RuleIs due (n + 1) m → WayIs s S m o e exit →
+        Kth s (exitRules S n m o e) k r) ⌝ }
 {
     match k {
-        0 => inclusion(Rule::EntryPast(m), d.pre, entry.past),
-        1 => holds_empty(Rule::EntryOwn(m), entry.own),
-        2 => inclusion(Rule::ExitOwn(m), exit.own, d.trace),
-        3 => inclusion(Rule::ExitDue(m), d.future, exit.due),
+        0 => inclusion(own, exit.point.own, exit.declared.trace),
+        1 => inclusion(due, exit.declared.future, exit.point.due),
         _ => Asked::NoMore,
+    }
+}
+
+// 22 and 23 of the failed exit; 24, of a method that runs start at: the failed future holds the empty word.
+fn failed_exit_claim(m: usize, failed: Failing, first: bool, k: usize) -> Asked
+    ensures { λ r. ⌜ ((s : List ℕ) (S : Sheet) (starts : List ℕ) (e : Option ℕ) → first ≡ isAmong starts m → FailingIs s S m e failed →
+        Kth s (ifAny e (failedExitRules S starts m)) k r) ⌝ }
+{
+    match failed {
+        Failing::Never => Asked::NoMore,
+        Failing::By(exit) => {
+            if k < 2 {
+                return exit_claim(Rule::FailedExitOwn(m), Rule::FailedExitDue(m), exit, k);
+            }
+            if both(first, k == 2) {
+                return holds_empty(Rule::FirstFailedFuture(m), exit.declared.future);
+            }
+            Asked::NoMore
+        }
+    }
+}
+
+// 3 pre in past(entry); 4 own(entry) holds the empty word; then the rules of its exits.
+pub fn body_claim(
+    m: usize,
+    pre: usize,
+    entry: PointConditions,
+    exit: Way,
+    failed: Failing,
+    first: bool,
+    k: usize,
+) -> Asked
+    ensures { λ r. ⌜ ((s : List ℕ) (S : Sheet) (starts : List ℕ) (b : sheet.Body) → first ≡ isAmong starts m → StandsAt s pre (sheet.pre S m) →
+        PointIs s S (b .entry) entry → WayIs s S m sheet.normal (b .exit) exit → FailingIs s S m (b .failed-exit) failed →
+        Kth s (methodRules S starts m (some b)) k r) ⌝ }
+{
+    match k {
+        0 => inclusion(Rule::EntryPast(m), pre, entry.past),
+        1 => holds_empty(Rule::EntryOwn(m), entry.own),
+        2 => exit_claim(Rule::ExitOwn(m), Rule::ExitDue(m), exit, 0),
+        3 => exit_claim(Rule::ExitOwn(m), Rule::ExitDue(m), exit, 1),
+        _ => failed_exit_claim(m, failed, first, k - 4),
     }
 }
 
@@ -64,26 +123,64 @@ pub fn event_claim(i: usize, p: PointConditions, q: PointConditions, a: usize, k
     }
 }
 
-// 10 past(p) in pre; 11 past(p)T in past(q); 12 own(p)T in own(q); 13 due(q) in future; 14 T due(q) in due(p), of what the method declares, T its trace.
-pub fn call_claim(
-    i: usize,
-    p: PointConditions,
-    q: PointConditions,
-    d: MethodConditions,
-    k: usize,
-) -> Asked
-    ensures { λ r. ⌜ ((s : List ℕ) (S : Sheet) (t : sheet.CallStep) → PointIs s S (t .from) p → PointIs s S (t .to) q → MethodIs s S (t .method) d →
-        Kth s (stepRules S i (call-step t)) k r) ⌝ }
+// 11 past(p)T in past(q); 12 own(p)T in own(q); 13 due(q) in future; 14 T due(q) in due(p), T the trace; and 18 to 21 of the failed way.
+fn return_claim(rules: ReturnRules, p: PointConditions, q: Way, k: usize) -> Asked
+    ensures { λ r. ⌜ ((s : List ℕ) (S : Sheet) (n i to : ℕ) (t : sheet.CallStep) (o : sheet.Outcome) → ReturnRulesAre rules n i → PointIs s S (t .from) p →
+        WayIs s S (t .method) o to q → Kth s (returnRules S n i t o to) k r) ⌝ }
 {
-    let raised = Raised::Word(Part::Condition(d.trace));
+    let raised = Raised::Word(Part::Condition(q.declared.trace));
     match k {
-        0 => inclusion(Rule::CallPre(i), p.past, d.pre),
-        1 => forward(Rule::CallPast(i), p.past, raised, q.past),
-        2 => forward(Rule::CallOwn(i), p.own, raised, q.own),
-        3 => inclusion(Rule::CallFuture(i), q.due, d.future),
-        4 => backward(Rule::CallDue(i), raised, q.due, p.due),
+        0 => forward(rules.past, p.past, raised, q.point.past),
+        1 => forward(rules.own, p.own, raised, q.point.own),
+        2 => inclusion(rules.future, q.point.due, q.declared.future),
+        3 => backward(rules.due, raised, q.point.due, p.due),
         _ => Asked::NoMore,
     }
+}
+
+// 18 to 21, of a call with a failed target.
+fn failed_call_claim(i: usize, p: PointConditions, failed: Failing, k: usize) -> Asked
+    ensures { λ r. ⌜ ((s : List ℕ) (S : Sheet) (t : sheet.CallStep) → PointIs s S (t .from) p → FailingIs s S (t .method) (t .failed-to) failed →
+        Kth s (ifAny (t .failed-to) (returnRules S 18 i t sheet.failed)) k r) ⌝ }
+{
+    let rules = ReturnRules {
+        past: Rule::FailedPast(i),
+        own: Rule::FailedOwn(i),
+        future: Rule::FailedFuture(i),
+        due: Rule::FailedDue(i),
+    };
+    match failed {
+        Failing::Never => Asked::NoMore,
+        Failing::By(q) => return_claim(rules, p, q, k),
+    }
+}
+
+// 10 past(p) in pre; then the rules of its returns.
+pub fn call_claim(
+    i: usize,
+    pre: usize,
+    p: PointConditions,
+    q: Way,
+    failed: Failing,
+    k: usize,
+) -> Asked
+    ensures { λ r. ⌜ ((s : List ℕ) (S : Sheet) (t : sheet.CallStep) → StandsAt s pre (sheet.pre S (t .method)) → PointIs s S (t .from) p →
+        WayIs s S (t .method) sheet.normal (t .to) q → FailingIs s S (t .method) (t .failed-to) failed →
+        Kth s (stepRules S i (call-step t)) k r) ⌝ }
+{
+    if k == 0 {
+        return inclusion(Rule::CallPre(i), p.past, pre);
+    }
+    if k < 5 {
+        let rules = ReturnRules {
+            past: Rule::CallPast(i),
+            own: Rule::CallOwn(i),
+            future: Rule::CallFuture(i),
+            due: Rule::CallDue(i),
+        };
+        return return_claim(rules, p, q, k - 1);
+    }
+    failed_call_claim(i, p, failed, k - 5)
 }
 
 // 15 past(p) in past(q); 16 own(p) in own(q); 17 due(q) in due(p).

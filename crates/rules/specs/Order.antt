@@ -10,9 +10,9 @@ use Rattle.rules.specs.declared.order.Counts.{Counts}
 
 module _ (S : Sheet) where
   -- from the number k on
-  unfoldable pub methodGroups : ℕ → List Method → List (List Rule)
-  methodGroups k [] = []
-  methodGroups k (m ∷ ms) = methodRules S k (m .body) ∷ methodGroups (suc k) ms
+  unfoldable pub methodGroups : List ℕ → ℕ → List Method → List (List Rule)
+  methodGroups starts k [] = []
+  methodGroups starts k (m ∷ ms) = methodRules S starts k (m .body) ∷ methodGroups starts (suc k) ms
 
   -- the same of steps
   unfoldable pub stepGroups : ℕ → List Step → List (List Rule)
@@ -22,7 +22,7 @@ module _ (S : Sheet) where
   -- "They are tested in this order: 1, 2, methods ascending, steps ascending": the rules of each subject, where runs start at the methods of a list
   unfoldable pub groupsFrom : List ℕ → List (List Rule)
   unfolding methodGroups stepGroups
-  groupsFrom starts = map (firstRules S) starts ++ (methodGroups 0 (S .methods) ++ stepGroups 0 (S .steps))
+  groupsFrom starts = map (firstRules S) starts ++ (methodGroups starts 0 (S .methods) ++ stepGroups 0 (S .steps))
 
   -- document 01's runs start at method 0
   unfoldable pub groups : List (List Rule)
@@ -31,7 +31,7 @@ module _ (S : Sheet) where
 
 -- no subject has more rules
 abbrev pub mostRules : ℕ
-mostRules = 5
+mostRules = 9
 
 -- all elements of the lists, one list after the other
 unfoldable pub together : {A : Type 0} → List (List A) → List A

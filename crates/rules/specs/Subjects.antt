@@ -1,14 +1,19 @@
 -- The rules of each subject.
 use Prim.Native.Nat.{ℕ, _<_}
 use mathlib.Core.Path.{_≡_}
+use mathlib.Core.Bool.{Bool}
 use mathlib.Core.Option.{some}
 use mathlib.Core.List.{List, []}
 use Rattle.sheet.specs.Sheet as sheet
-use Rattle.sheet.specs.Sheet.{CallStep, event-step, call-step, pass-step, Sheet}
-use Rattle.runs.specs.Rules.{Rule, firstRules, methodRules, stepRules}
+use Rattle.sheet.specs.Sheet.{normal, CallStep, event-step, call-step, pass-step, Sheet}
+use Rattle.runs.specs.Rules.{Rule, isAmong, firstRules, methodRules, stepRules}
 use Rattle.index.specs.declared.PointConditions.{PointConditions}
 use Rattle.index.specs.declared.MethodConditions.{MethodConditions}
 use Rattle.index.specs.Indexed.{PointIs, MethodIs}
+use Rattle.postfix.specs.Parts.{StandsAt}
+use Rattle.rule_claims.specs.declared.Way.{Way}
+use Rattle.rule_claims.specs.declared.Failing.{Failing}
+use Rattle.rule_claims.specs.Ways.{WayIs, FailingIs}
 use Rattle.rules.specs.declared.subjects.Subject.{Subject}
 use Rattle.rules.specs.declared.subjects.Subject.the-variants.{First, Body, Event, Call, Pass, None}
 
@@ -17,13 +22,16 @@ pub record FirstIs (s : List ℕ) (S : Sheet) (m : ℕ) (d : MethodConditions) (
   pub declared-is : MethodIs s S m d
   pub rules-are : xs ≡ firstRules S m
 
--- the method m with body, by what it declares and by its entry and exit points, and its rules 3 to 6
-pub record BodyIs (s : List ℕ) (S : Sheet) (m : ℕ) (d : MethodConditions) (entry exit : PointConditions) (xs : List Rule) : Type 0 where
+-- the method m with body, by its pre, its entry and its ways of returning, and its rules, where runs start at the methods of a list
+pub record BodyIs (s : List ℕ) (S : Sheet) (m pre : ℕ) (entry : PointConditions) (exit : Way) (failing : Failing) (first : Bool) (xs : List Rule) : Type 0 where
   pub inner : sheet.Body
-  pub declared-is : MethodIs s S m d
+  pub starts : List ℕ
+  pub first-is : first ≡ isAmong starts m
+  pub pre-is : StandsAt s pre (sheet.pre S m)
   pub entry-is : PointIs s S (inner .entry) entry
-  pub exit-is : PointIs s S (inner .exit) exit
-  pub rules-are : xs ≡ methodRules S m (some inner)
+  pub exit-is : WayIs s S m normal (inner .exit) exit
+  pub failing-is : FailingIs s S m (inner .failed-exit) failing
+  pub rules-are : xs ≡ methodRules S starts m (some inner)
 
 -- the event step i, by the points that it leads from and to and its event, and its rules 7 to 9
 pub record EventIs (s : List ℕ) (S : Sheet) (i : ℕ) (p q : PointConditions) (a : ℕ) (xs : List Rule) : Type 0 where
@@ -34,12 +42,13 @@ pub record EventIs (s : List ℕ) (S : Sheet) (i : ℕ) (p q : PointConditions) 
   pub fits : a < 64
   pub rules-are : xs ≡ stepRules S i (event-step from to a)
 
--- the call step i, by its points and by what the called method declares, and its rules 10 to 14
-pub record CallIs (s : List ℕ) (S : Sheet) (i : ℕ) (p q : PointConditions) (d : MethodConditions) (xs : List Rule) : Type 0 where
+-- the call step i, by the pre of its method, its from and its ways of returning, and its rules
+pub record CallIs (s : List ℕ) (S : Sheet) (i pre : ℕ) (p : PointConditions) (q : Way) (failing : Failing) (xs : List Rule) : Type 0 where
   pub call : CallStep
+  pub pre-is : StandsAt s pre (sheet.pre S (call .method))
   pub from-is : PointIs s S (call .from) p
-  pub to-is : PointIs s S (call .to) q
-  pub declared-is : MethodIs s S (call .method) d
+  pub to-is : WayIs s S (call .method) normal (call .to) q
+  pub failing-is : FailingIs s S (call .method) (call .failed-to) failing
   pub rules-are : xs ≡ stepRules S i (call-step call)
 
 -- the pass step i, by its points, and its rules 15 to 17
@@ -53,8 +62,8 @@ pub record PassIs (s : List ℕ) (S : Sheet) (i : ℕ) (p q : PointConditions) (
 -- the subject is one of the sheet S in the bytes s, and xs are its rules
 abbrev pub SubjectIs : List ℕ → Sheet → Subject → List Rule → Type 0
 SubjectIs s S (First m d) xs = FirstIs s S m d xs
-SubjectIs s S (Body m d entry exit) xs = BodyIs s S m d entry exit xs
+SubjectIs s S (Body m pre entry exit failing first) xs = BodyIs s S m pre entry exit failing first xs
 SubjectIs s S (Event i p q a) xs = EventIs s S i p q a xs
-SubjectIs s S (Call i p q d) xs = CallIs s S i p q d xs
+SubjectIs s S (Call i pre p q failing) xs = CallIs s S i pre p q failing xs
 SubjectIs s S (Pass i p q) xs = PassIs s S i p q xs
 SubjectIs s S None xs = xs ≡ []

@@ -1,22 +1,32 @@
 // What rules are about, read from the sheet once: the subject of a number, in the order of testing, with the conditions that its rules name.
+ghost use mathlib.Core.Path.{_≡_};
+ghost use mathlib.Core.Option.{Option, some};
 ghost use mathlib.Core.List.{List};
 ghost use Prim.Native.Nat.{ℕ, _+_, _≤_, _<_};
 ghost use lib.ListN.{length, getD};
 ghost use Rattle.sheet.specs.AtOffset.{stepAt};
-ghost use Rattle.sheet.specs.Sheet.{Sheet, body};
+ghost use Rattle.sheet.specs.Sheet.{Outcome, call-step, Sheet, body};
 ghost use Rattle.runs.specs.Rules as runs;
-ghost use Rattle.runs.specs.Rules.{methodRules, stepRules};
-ghost use Rattle.index.specs.Indexed.{Indexes};
+ghost use Rattle.runs.specs.Rules.{isAmong, methodRules, stepRules};
+ghost use Rattle.format.specs.Values.{bodyValue, callValue};
+ghost use Rattle.index.specs.Indexed.{Indexes, PointIn, FailedIn, OutcomeIs};
+ghost use Rattle.rule_claims.specs.Ways.{WayIs, FailingIs};
 ghost use Rattle.claims.specs.Claims.{NthIs};
 ghost use Rattle.rules.specs.Subjects.{SubjectIs};
 ghost use Rattle.rules.specs.Order.{SheetIn, groups};
 use crate::subjects::Subject;
+use format::values::Body;
+use format::values::CallStep;
 use format::values::Method;
 use format::values::Step;
 use format::values::method_at;
 use format::values::step_at;
+use index::OutcomeConditions;
+use index::failed_of;
 use index::method_of;
 use index::point_of;
+use rule_claims::Failing;
+use rule_claims::Way;
 
 // How many methods and steps a sheet has.
 pub struct Counts {
@@ -24,27 +34,113 @@ pub struct Counts {
     pub steps: usize,
 }
 
-// The method m, with its body if it has one.
+// The way of returning with the normal outcome, and with the failed one, at or to the point p.
+fn way_of(s: &[u8], conditions: &[u32; 256], points: &[u32], p: usize, declared: OutcomeConditions) -> Way
+    requires { ⌜ ((S : Sheet) × PointIn S (now s) (now conditions) (now points) p) ⌝ }
+    ensures { λ r. ⌜ ((S : Sheet) (m : ℕ) (o : Outcome) → PointIn S (now (s .entry)) (now (conditions .entry)) (now (points .entry)) p →
+        OutcomeIs (now (s .entry)) S m o declared → WayIs (now (s .entry)) S m o p r) ⌝ }
+{
+    let point = point_of(s, conditions, points, p);
+    Way { point, declared }
+}
+
+// The failed way of the method m, which has two outcomes, at or to the point p.
+fn failed_way(
+    s: &[u8],
+    conditions: &[u32; 256],
+    points: &[u32],
+    methods: &[u32; 64],
+    m: usize,
+    p: usize,
+) -> Failing
+    requires { ⌜ ((S : Sheet) × PointIn S (now s) (now conditions) (now points) p × FailedIn S (now s) (now conditions) (now methods) m) ⌝ }
+    ensures { λ r. ⌜ ((S : Sheet) → PointIn S (now (s .entry)) (now (conditions .entry)) (now (points .entry)) p →
+        FailedIn S (now (s .entry)) (now (conditions .entry)) (now (methods .entry)) m → FailingIs (now (s .entry)) S m (some p) r) ⌝ }
+{
+    let declared = failed_of(s, conditions, methods, m);
+    Failing::By(way_of(s, conditions, points, p, declared))
+}
+
+// The method m with its body and its failed way; whether runs start at it.
+fn body_subject(
+    s: &[u8],
+    conditions: &[u32; 256],
+    points: &[u32],
+    methods: &[u32; 64],
+    m: usize,
+    inner: Body,
+    failed: Failing,
+    first: bool,
+) -> Subject
+    requires { ⌜ ((S : Sheet) × (steps : List ℕ) × Indexes S (now s) (now conditions) (now points) (now methods) steps × (m < length (S .methods)) ×
+        (inner .entry < length (S .points)) × (inner .exit < length (S .points))) ⌝ }
+    ensures { λ r. ⌜ ((S : Sheet) (starts steps : List ℕ) (e : Option ℕ) → first ≡ isAmong starts m →
+        Indexes S (now (s .entry)) (now (conditions .entry)) (now (points .entry)) (now (methods .entry)) steps → m < length (S .methods) →
+        inner .entry < length (S .points) → inner .exit < length (S .points) → FailingIs (now (s .entry)) S m e failed →
+        SubjectIs (now (s .entry)) S r (methodRules S starts m (some (bodyValue inner e)))) ⌝ }
+{
+    let declared = method_of(s, conditions, methods, m);
+    let exit = way_of(s, conditions, points, inner.exit, declared.normal);
+    Subject::Body {
+        method: m,
+        pre: declared.pre,
+        entry: point_of(s, conditions, points, inner.entry),
+        exit,
+        failed,
+        first,
+    }
+}
+
+// The method m, with its body if it has one; whether runs start at it.
 fn method_subject(
     s: &[u8],
     conditions: &[u32; 256],
     points: &[u32],
     methods: &[u32; 64],
     m: usize,
+    first: bool,
 ) -> Subject
     requires { ⌜ ((S : Sheet) × (steps : List ℕ) × Indexes S (now s) (now conditions) (now points) (now methods) steps × (m < length (S .methods))) ⌝ }
-    ensures { λ r. ⌜ ((S : Sheet) (steps : List ℕ) → Indexes S (now (s .entry)) (now (conditions .entry)) (now (points .entry)) (now (methods .entry)) steps →
-        m < length (S .methods) → SubjectIs (now (s .entry)) S r (methodRules S m (body S m))) ⌝ }
+    ensures { λ r. ⌜ ((S : Sheet) (starts steps : List ℕ) → first ≡ isAmong starts m →
+        Indexes S (now (s .entry)) (now (conditions .entry)) (now (points .entry)) (now (methods .entry)) steps →
+        m < length (S .methods) → SubjectIs (now (s .entry)) S r (methodRules S starts m (body S m))) ⌝ }
 {
     let method = method_at(s, methods[m] as usize);
-    let Method::WithBody(_, inner) = method else {
-        return Subject::None;
-    };
-    Subject::Body {
-        method: m,
-        declared: method_of(s, conditions, methods, m),
-        entry: point_of(s, conditions, points, inner.entry),
-        exit: point_of(s, conditions, points, inner.exit),
+    match method {
+        Method::Primitive(_) => Subject::None,
+        Method::TwoOutcomePrimitive(_, _) => Subject::None,
+        Method::WithBody(_, inner) => body_subject(s, conditions, points, methods, m, inner, Failing::Never, first),
+        Method::TwoOutcomeBody(_, inner, failed) => {
+            let way = failed_way(s, conditions, points, methods, m, failed.exit);
+            body_subject(s, conditions, points, methods, m, inner, way, first)
+        }
+    }
+}
+
+// The call step i with its failed way.
+fn call_subject(
+    s: &[u8],
+    conditions: &[u32; 256],
+    points: &[u32],
+    methods: &[u32; 64],
+    i: usize,
+    call: CallStep,
+    failed: Failing,
+) -> Subject
+    requires { ⌜ ((S : Sheet) × (steps : List ℕ) × Indexes S (now s) (now conditions) (now points) (now methods) steps × (call .method < length (S .methods)) ×
+        (call .from < length (S .points)) × (call .to < length (S .points))) ⌝ }
+    ensures { λ r. ⌜ ((S : Sheet) (steps : List ℕ) (f : Option ℕ) → Indexes S (now (s .entry)) (now (conditions .entry)) (now (points .entry)) (now (methods .entry)) steps →
+        call .method < length (S .methods) → call .from < length (S .points) → call .to < length (S .points) →
+        FailingIs (now (s .entry)) S (call .method) f failed → SubjectIs (now (s .entry)) S r (stepRules S i (call-step (callValue call f)))) ⌝ }
+{
+    let declared = method_of(s, conditions, methods, call.method);
+    let to = way_of(s, conditions, points, call.to, declared.normal);
+    Subject::Call {
+        step: i,
+        pre: declared.pre,
+        from: point_of(s, conditions, points, call.from),
+        to,
+        failed,
     }
 }
 
@@ -69,12 +165,11 @@ fn step_subject(
             to: point_of(s, conditions, points, to),
             event,
         },
-        Step::Call(call) => Subject::Call {
-            step: i,
-            from: point_of(s, conditions, points, call.from),
-            to: point_of(s, conditions, points, call.to),
-            declared: method_of(s, conditions, methods, call.method),
-        },
+        Step::Call(call) => call_subject(s, conditions, points, methods, i, call, Failing::Never),
+        Step::TwoOutcomeCall(call, to) => {
+            let way = failed_way(s, conditions, points, methods, call.method, to);
+            call_subject(s, conditions, points, methods, i, call, way)
+        }
         Step::Pass { from, to } => Subject::Pass {
             step: i,
             from: point_of(s, conditions, points, from),
@@ -107,7 +202,7 @@ pub fn subject_at(
     let k = number - 1;
     let listed = counts.methods;
     if k < listed {
-        return method_subject(s, conditions, points, methods, k);
+        return method_subject(s, conditions, points, methods, k, k == 0);
     }
     step_subject(s, conditions, points, methods, steps, k - listed)
 }

@@ -8,6 +8,8 @@ ghost use Rattle.rules.specs.Subjects.{SubjectIs};
 use claims::Asked;
 use index::MethodConditions;
 use index::PointConditions;
+use rule_claims::Failing;
+use rule_claims::Way;
 use rule_claims::body_claim;
 use rule_claims::call_claim;
 use rule_claims::event_claim;
@@ -22,9 +24,11 @@ pub enum Subject {
     },
     Body {
         method: usize,
-        declared: MethodConditions,
+        pre: usize,
         entry: PointConditions,
-        exit: PointConditions,
+        exit: Way,
+        failed: Failing,
+        first: bool,
     },
     Event {
         step: usize,
@@ -34,9 +38,10 @@ pub enum Subject {
     },
     Call {
         step: usize,
+        pre: usize,
         from: PointConditions,
-        to: PointConditions,
-        declared: MethodConditions,
+        to: Way,
+        failed: Failing,
     },
     Pass {
         step: usize,
@@ -54,10 +59,12 @@ pub fn claim_of(subject: Subject, k: usize) -> Asked
         Subject::First { method, declared } => first_claim(method, declared, k),
         Subject::Body {
             method,
-            declared,
+            pre,
             entry,
             exit,
-        } => body_claim(method, declared, entry, exit, k),
+            failed,
+            first,
+        } => body_claim(method, pre, entry, exit, failed, first, k),
         Subject::Event {
             step,
             from,
@@ -66,10 +73,11 @@ pub fn claim_of(subject: Subject, k: usize) -> Asked
         } => event_claim(step, from, to, event, k),
         Subject::Call {
             step,
+            pre,
             from,
             to,
-            declared,
-        } => call_claim(step, from, to, declared, k),
+            failed,
+        } => call_claim(step, pre, from, to, failed, k),
         Subject::Pass { step, from, to } => pass_claim(step, from, to, k),
         Subject::None => Asked::NoMore,
     }

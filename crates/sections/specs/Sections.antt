@@ -7,16 +7,17 @@ use mathlib.Core.List.{List, [], _∷_}
 use lib.ListN.{length, getD}
 use lib.Dec.{leb}
 use Rattle.sheet.specs.Model.{Model}
-use Rattle.sheet.specs.Kind.{points, steps, certificates, sectionOf}
+use Rattle.sheet.specs.Kind.{points, methods, steps, certificates, sectionOf}
 use Rattle.sheet.specs.Record.{byteAt}
-use Rattle.sheet.specs.Reading.{nothing, Reading, tally, startsOf, full, ReadResult, whole, refusal, readOn}
+use Rattle.sheet.specs.Reading.{nothing, Reading, tally, startsOf, full, methodRecord, twoOutcomesIn, ReadResult, whole, refusal, readOn}
 use Rattle.format.specs.declared.Refusal.{Refusal}
-use Rattle.format.specs.Kinds.{lastKind}
+use Rattle.format.specs.Kinds.{lastKind, twoOutcomeKind}
 use Rattle.format.specs.Refusal.{numberOf, placeOf}
 use Rattle.instrument.specs.declared.Limits.{Limits}
 use Rattle.instrument.specs.Model.{modelWith}
 use Rattle.tally.specs.declared.Tally.{Tally}
 use Rattle.tally.specs.Tally.{countOf}
+use Rattle.refusals.specs.Outcomes.{kindListed}
 use Rattle.sections.specs.declared.Section.{Section}
 use Rattle.sections.specs.declared.Section.the-variants.{Done, Refused}
 use Rattle.sections.specs.declared.Read.{Read}
