@@ -1,15 +1,15 @@
 -- Records, sheets and readings by evaluation: the table of kinds, the fields of a record of each kind and what they stand for, a sheet, each limit at its
 -- last and at one more, the order of sections, refusals of one record in their order, what was counted before a refusal, and other instruments' limits.
 use mathlib.Core.Path.{_≡_, refl}
-use mathlib.Core.Option.{none, some}
+use mathlib.Core.Option.{Option, none, some}
 use mathlib.Core.List.{List, [], _∷_, _++_, map}
 use Prim.Native.Nat.{ℕ, zero, suc}
 use native.Mathlib.Omega.{arith}
 use lib.ListN.{getD, replicate}
 use Rattle.condition.specs.Condition.{leaf, empty, join, either, star}
 use Rattle.certificate.specs.Certificate.{pair}
-use Rattle.sheet.specs.Model.{Model, large, entry, NoLarger}
-use Rattle.sheet.specs.Sheet.{event-step, callFrom, pass-step}
+use Rattle.sheet.specs.Model.{Model, large, entry, withKinds, NoLarger}
+use Rattle.sheet.specs.Sheet.{Declared, Body, Method, event-step, callFrom, failingCallFrom, pass-step}
 use Rattle.sheet.specs.Kind.{sectionOf, bodyLength}
 use Rattle.sheet.specs.Record.{Record, recordAt}
 use Rattle.sheet.specs.Reading.{nothing, Counted, Reading, startingFrom, startsOf, ReadResult, whole, refusal, stateOf, readFrom, readSheet}
@@ -18,14 +18,14 @@ use Rattle.sheet.specs.Decode.{pointOf, methodOf, stepOf, sheetOf}
 -- Kinds -----------------------------------------------------------------------------------------------------------------
 
 abbrev allKinds : List ℕ
-allKinds = 1 ∷ 2 ∷ 3 ∷ 4 ∷ 5 ∷ 6 ∷ 7 ∷ 8 ∷ 9 ∷ 10 ∷ 11 ∷ 12 ∷ 13 ∷ 14 ∷ []
+allKinds = 1 ∷ 2 ∷ 3 ∷ 4 ∷ 5 ∷ 6 ∷ 7 ∷ 8 ∷ 9 ∷ 10 ∷ 11 ∷ 12 ∷ 13 ∷ 14 ∷ 15 ∷ 16 ∷ 17 ∷ []
 
--- "Body lengths by kind, 1 to 14: 4, 0, 0, 0, 0, 0, 6, 6, 10, 5, 6, 4, 5, 0"
-lengths-are : map bodyLength allKinds ≡ 4 ∷ 0 ∷ 0 ∷ 0 ∷ 0 ∷ 0 ∷ 6 ∷ 6 ∷ 10 ∷ 5 ∷ 6 ∷ 4 ∷ 5 ∷ 0 ∷ []
+-- "Body lengths by kind, 1 to 14: 4, 0, 0, 0, 0, 0, 6, 6, 10, 5, 6, 4, 5, 0"; of 15 to 17 five, eight and four fields, "all fields two bytes"
+lengths-are : map bodyLength allKinds ≡ 4 ∷ 0 ∷ 0 ∷ 0 ∷ 0 ∷ 0 ∷ 6 ∷ 6 ∷ 10 ∷ 5 ∷ 6 ∷ 4 ∷ 5 ∷ 0 ∷ 10 ∷ 16 ∷ 8 ∷ []
 lengths-are = refl
 
--- "Sections in order: kinds 1-6, 7, 8-9, 10-12, 13-14"
-sections-are : map sectionOf allKinds ≡ 1 ∷ 1 ∷ 1 ∷ 1 ∷ 1 ∷ 1 ∷ 2 ∷ 3 ∷ 3 ∷ 4 ∷ 4 ∷ 4 ∷ 5 ∷ 5 ∷ []
+-- "Sections in order: kinds 1-6, 7, 8-9, 10-12, 13-14"; 15 to 17 "in the sections of 8, 9 and 11"
+sections-are : map sectionOf allKinds ≡ 1 ∷ 1 ∷ 1 ∷ 1 ∷ 1 ∷ 1 ∷ 2 ∷ 3 ∷ 3 ∷ 4 ∷ 4 ∷ 4 ∷ 5 ∷ 5 ∷ 3 ∷ 3 ∷ 4 ∷ []
 sections-are = refl
 
 -- Fields ----------------------------------------------------------------------------------------------------------------
@@ -43,11 +43,19 @@ primitiveBytes = 0x08 ∷ 0x01 ∷ 0x11 ∷ 0x02 ∷ 0x12 ∷ 0x03 ∷ 0x13 ∷ 
 abbrev methodBytes : List ℕ
 methodBytes = 0x09 ∷ 0x01 ∷ 0x11 ∷ 0x02 ∷ 0x12 ∷ 0x03 ∷ 0x13 ∷ 0x04 ∷ 0x14 ∷ 0x05 ∷ 0x15 ∷ []
 
+abbrev failingPrimitiveBytes : List ℕ
+failingPrimitiveBytes = 0x0F ∷ 0x01 ∷ 0x11 ∷ 0x02 ∷ 0x12 ∷ 0x03 ∷ 0x13 ∷ 0x04 ∷ 0x14 ∷ 0x05 ∷ 0x15 ∷ []
+
+abbrev failingMethodBytes : List ℕ
+failingMethodBytes =
+    0x10 ∷ 0x01 ∷ 0x11 ∷ 0x02 ∷ 0x12 ∷ 0x03 ∷ 0x13 ∷ 0x04 ∷ 0x14 ∷ 0x05 ∷ 0x15 ∷ 0x06 ∷ 0x16 ∷ 0x07 ∷ 0x17 ∷ 0x08 ∷ 0x18 ∷ []
+
 abbrev stepBytes : List (List ℕ)
 stepBytes =
     (0x0A ∷ 0x01 ∷ 0x11 ∷ 0x02 ∷ 0x12 ∷ 0x03 ∷ [])
     ∷ (0x0B ∷ 0x01 ∷ 0x11 ∷ 0x02 ∷ 0x12 ∷ 0x03 ∷ 0x13 ∷ [])
     ∷ (0x0C ∷ 0x01 ∷ 0x11 ∷ 0x02 ∷ 0x12 ∷ [])
+    ∷ (0x11 ∷ 0x01 ∷ 0x11 ∷ 0x02 ∷ 0x12 ∷ 0x03 ∷ 0x13 ∷ 0x04 ∷ 0x14 ∷ [])
     ∷ []
 
 abbrev pairBytes : List ℕ
@@ -66,15 +74,30 @@ point-is-so : pointOf (recordAt pointBytes 0) ≡ record { past = 0x1101; own = 
 unfolding recordAt
 point-is-so = refl
 
-methods-are-so : map (λ (s : List ℕ). methodOf (recordAt s 0)) (primitiveBytes ∷ methodBytes ∷ [])
-    ≡ record { pre = 0x1101; trace = 0x1202; future = 0x1303; body = none }
-    ∷ record { pre = 0x1101; trace = 0x1202; future = 0x1303; body = some (record { entry = 0x1404; exit = 0x1505 }) }
+abbrev declared : ℕ → ℕ → Declared
+declared trace future = record { trace = trace; future = future }
+
+-- with one outcome, and with two
+abbrev oneOutcome : ℕ → Declared → Option Body → Method
+oneOutcome pre normal body = record { pre = pre; normal = normal; failing = none; body = body }
+
+abbrev twoOutcomes : ℕ → Declared → Declared → Option Body → Method
+twoOutcomes pre normal failing body = record { pre = pre; normal = normal; failing = some failing; body = body }
+
+abbrev body : ℕ → ℕ → Option ℕ → Option Body
+body entry exit failed-exit = some (record { entry = entry; exit = exit; failed-exit = failed-exit })
+
+methods-are-so : map (λ (s : List ℕ). methodOf (recordAt s 0)) (primitiveBytes ∷ methodBytes ∷ failingPrimitiveBytes ∷ failingMethodBytes ∷ [])
+    ≡ oneOutcome 0x1101 (declared 0x1202 0x1303) none
+    ∷ oneOutcome 0x1101 (declared 0x1202 0x1303) (body 0x1404 0x1505 none)
+    ∷ twoOutcomes 0x1101 (declared 0x1202 0x1303) (declared 0x1404 0x1505) none
+    ∷ twoOutcomes 0x1101 (declared 0x1202 0x1303) (declared 0x1606 0x1707) (body 0x1404 0x1505 (some 0x1808))
     ∷ []
 unfolding recordAt
 methods-are-so = refl
 
 steps-are-so : map (λ (s : List ℕ). stepOf (recordAt s 0)) stepBytes
-    ≡ event-step 0x1101 0x1202 0x03 ∷ callFrom 0x1101 0x1202 0x1303 ∷ pass-step 0x1101 0x1202 ∷ []
+    ≡ event-step 0x1101 0x1202 0x03 ∷ callFrom 0x1101 0x1202 0x1303 ∷ pass-step 0x1101 0x1202 ∷ failingCallFrom 0x1101 0x1202 0x1303 0x1404 ∷ []
 unfolding recordAt
 steps-are-so = refl
 
@@ -94,7 +117,7 @@ small-is-so : sheetOf large small
     ≡ record {
       conditions = join empty (leaf 1) ∷ star (either (leaf 2) empty) ∷ [];
       points = record { past = 0; own = 1; due = 0 } ∷ record { past = 1; own = 0; due = 1 } ∷ [];
-      methods = record { pre = 1; trace = 0; future = 1; body = some (record { entry = 0; exit = 1 }) } ∷ record { pre = 0; trace = 1; future = 0; body = none } ∷ [];
+      methods = oneOutcome 1 (declared 0 1) (body 0 1 none) ∷ oneOutcome 0 (declared 1 0) none ∷ [];
       steps = event-step 0 1 31 ∷ callFrom 1 0 1 ∷ pass-step 1 0 ∷ [];
       certificates = (pair 0 1 ∷ pair 5 0x04030201 ∷ []) ∷ [] ∷ [];
     }
@@ -182,8 +205,8 @@ rows =
     -- "the end comes inside a condition or a certificate"
     ∷ after 0 0 0 0 (0x02 ∷ []) (8 ∷ 1 ∷ [])
     ∷ after 1 1 0 0 (method0 ++ (0x0D ∷ 0 ∷ 1 ∷ 0 ∷ 0 ∷ 0 ∷ [])) (8 ∷ 17 ∷ [])
-    -- "kind not 1 to 14"; "an event above 31"; the names of a pass step are points, where no method is yet
-    ∷ after 0 0 0 0 (0x0F ∷ []) (2 ∷ 0 ∷ [])
+    -- "kind not 1 to 14", but 15 to 17; "an event above 31"; the names of a pass step are points, where no method is yet
+    ∷ after 0 0 0 0 (0x12 ∷ []) (2 ∷ 0 ∷ [])
     ∷ after 1 1 1 0 (0x0A ∷ 0 ∷ 0 ∷ 0 ∷ 0 ∷ 32 ∷ []) (7 ∷ 0 ∷ [])
     ∷ after 1 1 0 0 pass0 (9 ∷ 5 ∷ [])
     -- "at one record the table's order holds": 3 before 4, 4 before 5, 5 before 6, 6 before 7, 7 before 9, and behind each of the last three
@@ -233,7 +256,7 @@ moreRows =
     ∷ after 1 1 1 0 primitive0 (9 ∷ 0 ∷ [])
     ∷ after 1 1 0 0 (method0 ++ primitive0) []
     -- every record is read, also where each has one byte
-    ∷ after 1 1 1 0 (0x0E ∷ 0x0E ∷ 0x0F ∷ []) (2 ∷ 2 ∷ [])
+    ∷ after 1 1 1 0 (0x0E ∷ 0x0E ∷ 0x12 ∷ []) (2 ∷ 2 ∷ [])
     ∷ []
 
 more-rows-are-so : map (λ x. numberAndPlace (readFrom large (startingFrom (x .before)) (x .bytes))) moreRows ≡ map (λ x. x .refused) moreRows
@@ -303,7 +326,7 @@ entryRows =
     ∷ after 1 1 1 512 pass0 (6 ∷ 0 ∷ [])
     ∷ after 1 1 1 0 (0x0A ∷ 0 ∷ 0 ∷ 0 ∷ 0 ∷ 31 ∷ []) (9 ∷ 6 ∷ [])
     ∷ after 1 1 1 0 (0x0A ∷ 0 ∷ 0 ∷ 0 ∷ 0 ∷ 32 ∷ []) (7 ∷ 0 ∷ [])
-    ∷ after 1 1 1 0 (0x0E ∷ 0x0F ∷ []) (2 ∷ 1 ∷ [])
+    ∷ after 1 1 1 0 (0x0E ∷ 0x12 ∷ []) (2 ∷ 1 ∷ [])
     ∷ []
 
 entry-rows-are-so : map (λ x. numberAndPlace (readFrom entry (startingFrom (x .before)) (x .bytes))) entryRows ≡ map (λ x. x .refused) entryRows
@@ -312,4 +335,4 @@ entry-rows-are-so = refl
 
 -- it is no larger than the large one
 pub entry-no-larger : NoLarger entry large
-entry-no-larger = record { bytes = omega arith; points = omega arith; events = refl; kinds = refl }
+entry-no-larger = record { bytes = omega arith; points = omega arith; events = refl; kinds = omega arith }

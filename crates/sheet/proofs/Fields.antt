@@ -66,18 +66,27 @@ module _ (s : List ℕ) where
   set-value-alone at = field-first a-set [] at (at + 4) (setAt s at) refl (set-value at) (no-value (at + 4))
 
   module _ (at : ℕ) where
-    pub two-names : (j k : ℕ) (fs : List Field) {vs : List ℕ} → valuesAt s (at + 5) fs ≡ vs
-        → valuesAt s (at + 1) (a-name j ∷ a-name k ∷ fs) ≡ shortAt s (at + 1) ∷ shortAt s (at + 3) ∷ vs
-    two-names j k fs h = name-first j (a-name k ∷ fs) (at + 1) (at + 3) (omega arith) (name-first k fs (at + 3) (at + 5) (omega arith) h)
+    -- names in a row, the first at the offset at + j: the fields, where those behind them start, and the values
+    abbrev pub namesThen : List ℕ → List Field → List Field
+    namesThen [] fs = fs
+    namesThen (k ∷ ks) fs = a-name k ∷ namesThen ks fs
 
-    pub three-names : (j k l : ℕ) (fs : List Field) {vs : List ℕ} → valuesAt s (at + 7) fs ≡ vs
-        → valuesAt s (at + 1) (a-name j ∷ a-name k ∷ a-name l ∷ fs) ≡ shortAt s (at + 1) ∷ shortAt s (at + 3) ∷ shortAt s (at + 5) ∷ vs
-    three-names j k l fs h = two-names j k (a-name l ∷ fs) (name-first l fs (at + 5) (at + 7) (omega arith) h)
+    abbrev pub pastNames : ℕ → List ℕ → ℕ
+    pastNames j [] = j
+    pastNames j (k ∷ ks) = pastNames (j + 2) ks
 
-    pub five-names : (j k l m n : ℕ) → valuesAt s (at + 1) (a-name j ∷ a-name k ∷ a-name l ∷ a-name m ∷ a-name n ∷ [])
-        ≡ shortAt s (at + 1) ∷ shortAt s (at + 3) ∷ shortAt s (at + 5) ∷ shortAt s (at + 7) ∷ shortAt s (at + 9) ∷ []
-    five-names j k l m n =
-        three-names j k l _ (name-first m _ (at + 7) (at + 9) (omega arith) (name-first n [] (at + 9) (at + 11) (omega arith) (no-value (at + 11))))
+    abbrev pub shortsThen : ℕ → List ℕ → List ℕ → List ℕ
+    shortsThen j [] vs = vs
+    shortsThen j (k ∷ ks) vs = shortAt s (at + j) ∷ shortsThen (j + 2) ks vs
+
+    pub names-then : (j : ℕ) (ks : List ℕ) (fs : List Field) {vs : List ℕ} → valuesAt s (at + pastNames j ks) fs ≡ vs
+        → valuesAt s (at + j) (namesThen ks fs) ≡ shortsThen j ks vs
+    names-then j [] fs h = h
+    names-then j (k ∷ ks) fs h = name-first k (namesThen ks fs) (at + j) (at + (j + 2)) (omega arith) (names-then (j + 2) ks fs h)
+
+    -- a body of names alone
+    pub names-alone : (ks : List ℕ) → valuesAt s (at + 1) (namesThen ks []) ≡ shortsThen 1 ks []
+    names-alone ks = names-then 1 ks [] (no-value (at + pastNames 1 ks))
 
     pub pair-values : valuesAt s (at + 1) (a-place ∷ a-set ∷ []) ≡ byteAt s (at + 1) ∷ setAt s (at + 2) ∷ []
     pair-values = field-first a-place (a-set ∷ []) (at + 1) (at + 2) (byteAt s (at + 1)) (omega arith) (byte-value (at + 1)) (set-value-alone (at + 2))

@@ -1,19 +1,21 @@
 -- The table of kinds, read row by row: what the record of a kind at an offset stands for.
-use mathlib.Core.Path.{_≡_, refl, sym, ap, _∙_}
-use mathlib.Core.Bool.{cond}
-use mathlib.Core.Option.{none, some}
+use mathlib.Core.Path.{_≡_, refl, sym, ap, ap₂, _∙_}
+use mathlib.Core.Bool.{Bool, true, false, cond}
+use mathlib.Core.Option.{Option, none, some}
 use mathlib.Core.List.{List, [], _∷_, _++_, append-assoc}
 use Prim.Native.Nat.{ℕ, zero, suc, _+_, _≤_}
 use native.Mathlib.Omega.{arith}
 use lib.ListN.{length, getD, drop}
+use lib.Dec.{eqb}
 use Rattle.condition.specs.Condition.{Condition, join, either, star, noWord}
 use Rattle.certificate.specs.Certificate.{pair}
 use Rattle.sheet.specs.Kind.{a-set, Role, symbol, a-pair, counts, Kind, a-kind, kinds, kindOf, sectionOf}
 use Rattle.sheet.specs.Record.{Record, byteAt, valuesAt, recordAt, value}
-use Rattle.sheet.specs.Reading.{isLeaf}
-use Rattle.sheet.specs.Decode.{pointOf, methodOf, stepOf}
-use Rattle.sheet.specs.AtOffset.{pointAt, methodAt, stepAt, pairAt, Symbol, leaf-symbol, empty-symbol, join-symbol, either-symbol, star-symbol, shortAt, setAt, symbolsByKind, symbolAt, postfix}
-use Rattle.sheet.proofs.Fields.{no-value, event-value, set-value-alone, two-names, three-names, five-names, pair-values}
+use Rattle.sheet.specs.Sheet.{Declared, Method}
+use Rattle.sheet.specs.Reading.{isLeaf, isPrimitive, hasTwoOutcomes}
+use Rattle.sheet.specs.Decode.{pointOf, declaredFrom, methodOf, stepOf}
+use Rattle.sheet.specs.AtOffset.{pointAt, declaredAt, methodAs, methodAt, stepAs, stepAt, pairAt, Symbol, leaf-symbol, empty-symbol, join-symbol, either-symbol, star-symbol, shortAt, setAt, symbolsByKind, symbolAt, postfix}
+use Rattle.sheet.proofs.Fields.{event-value, set-value-alone, shortsThen, names-then, names-alone, pair-values}
 use Rattle.sheet.proofs.Symbols.{symbolsIn, leafCount}
 
 -- Rows --------------------------------------------------------------------------------------------------------------------
@@ -92,23 +94,40 @@ module _ (s : List ℕ) (at : ℕ) where
   unfolding pointAt
   point-is = refl
 
-  method-is : (k : ℕ) → byteAt s at ≡ k
-      → methodAt s at ≡ methodOf (with k (shortAt s (at + 1) ∷ shortAt s (at + 3) ∷ shortAt s (at + 5) ∷ shortAt s (at + 7) ∷ shortAt s (at + 9) ∷ []))
+  -- eight shorts one after the other; a record that has fewer names does not read the others
+  abbrev shorts : List ℕ
+  shorts = shortsThen s at 1 (1 ∷ 1 ∷ 1 ∷ 1 ∷ 1 ∷ 1 ∷ 1 ∷ 1 ∷ []) []
+
+  abbrev declared : ℕ → ℕ → Declared
+  declared trace future = record { trace = trace; future = future }
+
+  declared-is : (i to : ℕ) → i + 2 ≡ to → declaredAt s i ≡ declared (shortAt s i) (shortAt s to)
+  unfolding declaredAt
+  declared-is i to e = ap (λ (to : ℕ). declared (shortAt s i) (shortAt s to)) e
+
+  failing-is : (primitive two : Bool)
+      → cond two (some (declaredAt s (cond primitive (at + 7) (at + 11)))) none ≡ cond two (some (declaredFrom (with 0 shorts) (cond primitive 3 5))) none
+  failing-is primitive false = refl
+  failing-is true true = ap (λ (d : Declared). some d) (declared-is (at + 7) (at + 9) (omega arith))
+  failing-is false true = ap (λ (d : Declared). some d) (declared-is (at + 11) (at + 13) (omega arith))
+
+  method-is : (k : ℕ) → byteAt s at ≡ k → methodAt s at ≡ methodOf (with k shorts)
   unfolding methodAt
   method-is k e =
-      ap (λ (k : ℕ). methodOf (with k (shortAt s (at + 1) ∷ shortAt s (at + 3) ∷ shortAt s (at + 5) ∷ shortAt s (at + 7) ∷ shortAt s (at + 9) ∷ []))) e
+      ap (λ (k : ℕ). methodAs k s at) e
+      ∙ ap₂ declares (declared-is (at + 3) (at + 5) (omega arith)) (failing-is (isPrimitive (with k shorts)) (hasTwoOutcomes (with k shorts)))
+    where
+      declares : Declared → Option Declared → Method
+      declares normal failing = record { pre = shortAt s (at + 1); normal = normal; failing = failing; body = methodOf (with k shorts) .body }
 
-  event-is : byteAt s at ≡ 10 → stepAt s at ≡ stepOf (with 10 (shortAt s (at + 1) ∷ shortAt s (at + 3) ∷ byteAt s (at + 5) ∷ []))
+  event-is : byteAt s at ≡ 10 → stepAt s at ≡ stepOf (with 10 (shortsThen s at 1 (2 ∷ 2 ∷ []) (byteAt s (at + 5) ∷ [])))
   unfolding stepAt
-  event-is e = simp e
+  event-is e = ap (λ (k : ℕ). stepAs k s at) e
 
-  call-is : byteAt s at ≡ 11 → stepAt s at ≡ stepOf (with 11 (shortAt s (at + 1) ∷ shortAt s (at + 3) ∷ shortAt s (at + 5) ∷ []))
+  -- of the kinds of steps whose fields are all names
+  step-is : (k : ℕ) → eqb k 10 ≡ false → byteAt s at ≡ k → stepAt s at ≡ stepOf (with k shorts)
   unfolding stepAt
-  call-is e = simp e
-
-  pass-is : byteAt s at ≡ 12 → stepAt s at ≡ stepOf (with 12 (shortAt s (at + 1) ∷ shortAt s (at + 3) ∷ []))
-  unfolding stepAt
-  pass-is e = simp e
+  step-is k n e = ap (λ (k : ℕ). stepAs k s at) e ∙ rw n
 
   pair-is : pairAt s at ≡ pair (byteAt s (at + 1)) (setAt s (at + 2))
   unfolding pairAt
@@ -143,14 +162,17 @@ module _ (s : List ℕ) (at : ℕ) where
       and (λ e. (refl, record { y = either-symbol; is = symbol-is 4 e; made = either-made; leaf = refl }))
       and (λ e. (refl, record { y = star-symbol; is = symbol-is 5 e; made = star-made; leaf = refl }))
       and symbol-is 6
-      and (λ e. point-is ∙ ap (λ (vs : List ℕ). pointOf (with 7 vs)) (sym (three-names s at 1 1 1 [] (no-value s (at + 7)))))
-      and (λ e. method-is 8 e ∙ ap (λ (vs : List ℕ). methodOf (with 8 vs)) (sym (three-names s at 1 1 1 [] (no-value s (at + 7)))))
-      and (λ e. method-is 9 e ∙ ap (λ (vs : List ℕ). methodOf (with 9 vs)) (sym (five-names s at 1 1 1 2 2)))
-      and (λ e. event-is e ∙ ap (λ (vs : List ℕ). stepOf (with 10 vs)) (sym (two-names s at 2 2 _ (event-value s (at + 5)))))
-      and (λ e. call-is e ∙ ap (λ (vs : List ℕ). stepOf (with 11 vs)) (sym (three-names s at 2 2 3 [] (no-value s (at + 7)))))
-      and (λ e. pass-is e ∙ ap (λ (vs : List ℕ). stepOf (with 12 vs)) (sym (two-names s at 2 2 [] (no-value s (at + 5)))))
+      and (λ e. point-is ∙ ap (λ (vs : List ℕ). pointOf (with 7 vs)) (sym (names-alone s at (1 ∷ 1 ∷ 1 ∷ []))))
+      and (λ e. method-is 8 e ∙ ap (λ (vs : List ℕ). methodOf (with 8 vs)) (sym (names-alone s at (1 ∷ 1 ∷ 1 ∷ []))))
+      and (λ e. method-is 9 e ∙ ap (λ (vs : List ℕ). methodOf (with 9 vs)) (sym (names-alone s at (1 ∷ 1 ∷ 1 ∷ 2 ∷ 2 ∷ []))))
+      and (λ e. event-is e ∙ ap (λ (vs : List ℕ). stepOf (with 10 vs)) (sym (names-then s at 1 (2 ∷ 2 ∷ []) _ (event-value s (at + 5)))))
+      and (λ e. step-is 11 refl e ∙ ap (λ (vs : List ℕ). stepOf (with 11 vs)) (sym (names-alone s at (2 ∷ 2 ∷ 3 ∷ []))))
+      and (λ e. step-is 12 refl e ∙ ap (λ (vs : List ℕ). stepOf (with 12 vs)) (sym (names-alone s at (2 ∷ 2 ∷ []))))
       and (λ e. (refl, e, ap (λ (vs : List ℕ). pair (getD vs 0 0) (getD vs 1 0)) (pair-values s at) ∙ sym pair-is))
       and (λ e. e)
+      and (λ e. method-is 15 e ∙ ap (λ (vs : List ℕ). methodOf (with 15 vs)) (sym (names-alone s at (1 ∷ 1 ∷ 1 ∷ 1 ∷ 1 ∷ []))))
+      and (λ e. method-is 16 e ∙ ap (λ (vs : List ℕ). methodOf (with 16 vs)) (sym (names-alone s at (1 ∷ 1 ∷ 1 ∷ 2 ∷ 2 ∷ 1 ∷ 1 ∷ 2 ∷ []))))
+      and (λ e. step-is 17 refl e ∙ ap (λ (vs : List ℕ). stepOf (with 17 vs)) (sym (names-alone s at (2 ∷ 2 ∷ 2 ∷ 3 ∷ []))))
       and (λ i e. tt))
 
   -- the record at an offset fits there

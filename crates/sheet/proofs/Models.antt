@@ -1,106 +1,153 @@
--- Two instruments, of which one takes no more bytes and points than the other and is equal to it otherwise: it refuses with 1 or 6, or reads what the
--- other reads. So in whatever state reading starts.
+-- Two instruments, of which one takes no more bytes, points and kinds than the other and has as many events: it refuses with 1, 6 or 2 where it
+-- takes fewer, or reads what the other reads. So in whatever state reading starts.
 use mathlib.Core.Path.{_≡_, refl, sym, _∙_, subst}
 use mathlib.Core.Bool.{Bool, true, false, cond, _&&_, _||_}
+use mathlib.Core.Logic.{_⊎_, inl, inr}
 use mathlib.Core.List.{List}
-use Prim.Native.Nat.{ℕ, zero, suc, _≤_}
-use native.Mathlib.Nat.{le-trans, lt-of-lt-of-le}
+use Prim.Native.Nat.{ℕ, zero, suc, _≤_, _<_}
+use native.Mathlib.Nat.{le-trans, lt-of-lt-of-le, eq-or-lt-of-le}
+use native.Mathlib.Omega.{arith}
 use lib.ListN.{length}
 use lib.Dec.{T, eqb, ltb, leb}
-use borrow.Author.Tests.{leb-false, lt-leb, ltb-false, le-ltb}
+use borrow.Author.Tests.{leb-false, leb-true, lt-leb, ltb-false, ltb-true, le-ltb}
 use Rattle.sheet.specs.Model.{Model, NoLarger}
 use Rattle.sheet.specs.Kind.{conditions, Role, symbol, a-pair, counts, kindOf}
 use Rattle.sheet.specs.Record.{Record, byteAt, recordAt, nextAt}
 use Rattle.sheet.specs.Reading.{Reading, tally, full, wrongItems, overLimit, _when_else_, refusalOf, pastAt, ReadResult, refusal, readOn, readFrom}
--- checked before the proofs
-use Rattle.sheet.proofs.Examples
+use Rattle.sheet.proofs.Take.{or-false}
 
--- what an instrument reads, beside what one that is no smaller reads
-pub data ReadsLike (M : Model) : ReadResult → ReadResult → Type 0 where
-  too-long : {x : ReadResult} (r : Reading) → ReadsLike M (refusal 1 (M .bytes) r) x
-  over-limit : {x : ReadResult} (at : ℕ) (r : Reading) → ReadsLike M (refusal 6 at r) x
-  the-same : {x : ReadResult} → ReadsLike M x x
+-- what an instrument M reads, beside what M′ reads, which is no smaller: 1 where it takes fewer bytes, 6 where it takes fewer points, 2 at a record of a
+-- kind that M′ alone takes, or the same
+pub data ReadsLike (M M′ : Model) (s : List ℕ) : ReadResult → ReadResult → Type 0 where
+  too-long : {x : ReadResult} (r : Reading) → M .bytes < M′ .bytes → ReadsLike M M′ s (refusal 1 (M .bytes) r) x
+  over-limit : {x : ReadResult} (at : ℕ) (r : Reading) → M .points < M′ .points → ReadsLike M M′ s (refusal 6 at r) x
+  unknown-kind : {x : ReadResult} (at : ℕ) (r : Reading) → M .kinds < byteAt s at → byteAt s at ≤ M′ .kinds → ReadsLike M M′ s (refusal 2 at r) x
+  the-same : {x : ReadResult} → ReadsLike M M′ s x x
 
 -- One record --------------------------------------------------------------------------------------------------------------
 
--- the numbers of its refusals
-data SixOrSame : ℕ → ℕ → Type 0 where
-  six : {n : ℕ} → SixOrSame 6 n
-  same : {n : ℕ} → SixOrSame n n
+or-right : (a b : Bool) → (a || b) ≡ true → a ≡ false → b ≡ true
+or-right true b h e = absurd (subst T e tt)
+or-right false b h e = h
 
--- 6 in its place among the others
-by-limit : (b2 b3 b4 b5 over over′ : Bool) (n : ℕ) → (over ≡ false → over′ ≡ false)
-    → SixOrSame (2 when b2 else 3 when b3 else 4 when b4 else 5 when b5 else 6 when over else n)
-    (2 when b2 else 3 when b3 else 4 when b4 else 5 when b5 else 6 when over′ else n)
-by-limit true b3 b4 b5 over over′ n h = same
-by-limit false true b4 b5 over over′ n h = same
-by-limit false false true b5 over over′ n h = same
-by-limit false false false true over over′ n h = same
-by-limit false false false false true over′ n h = six
-by-limit false false false false false over′ n h = subst (λ (b : Bool). SixOrSame n (6 when b else n)) (sym (h refl)) same
+-- where a model has room, one that takes as many points or more has; where only the second has room, it takes more points
+module _ (I I′ : Model) where
+  room-left : I .points ≤ I′ .points → (section n : ℕ) → full I section n ≡ false → full I′ section n ≡ false
+  room-left l zero n h = refl
+  room-left l (suc zero) n h = h
+  room-left l (suc (suc zero)) n h = lt-leb (I′ .points) n (lt-of-lt-of-le (leb-false (I .points) n h) l)
+  room-left l (suc (suc (suc zero))) n h = h
+  room-left l (suc (suc (suc (suc zero)))) n h = h
+  room-left l (suc (suc (suc (suc (suc k))))) n h = refl
 
--- where a model has room, one that takes as many points or more has
-module _ (I I′ : Model) (l : I .points ≤ I′ .points) where
-  room-left : (section n : ℕ) → full I section n ≡ false → full I′ section n ≡ false
-  room-left zero n h = refl
-  room-left (suc zero) n h = h
-  room-left (suc (suc zero)) n h = lt-leb (I′ .points) n (lt-of-lt-of-le (leb-false (I .points) n h) l)
-  room-left (suc (suc (suc zero))) n h = h
-  room-left (suc (suc (suc (suc zero)))) n h = h
-  room-left (suc (suc (suc (suc (suc k))))) n h = refl
+  within-limit : I .points ≤ I′ .points → (r : Reading) (x : Record) (section : ℕ) (k : Role) → overLimit I r x section k ≡ false
+      → overLimit I′ r x section k ≡ false
+  within-limit l r x section (symbol takes make) h = h
+  within-limit l r x section a-pair h = h
+  within-limit l r x section counts h = room-left l section (tally r section) h
 
-  within-limit : (r : Reading) (x : Record) (section : ℕ) (k : Role) → overLimit I r x section k ≡ false → overLimit I′ r x section k ≡ false
-  within-limit r x section (symbol takes make) h = h
-  within-limit r x section a-pair h = h
-  within-limit r x section counts h = room-left section (tally r section) h
+  more-room : (section n : ℕ) → full I section n ≡ true → full I′ section n ≡ false → I .points < I′ .points
+  more-room zero n h h′ = absurd (subst T (sym h) tt)
+  more-room (suc zero) n h h′ = absurd (subst T (sym h ∙ h′) tt)
+  more-room (suc (suc zero)) n h h′ = omega (arith, leb-true (I .points) n h, leb-false (I′ .points) n h′)
+  more-room (suc (suc (suc zero))) n h h′ = absurd (subst T (sym h ∙ h′) tt)
+  more-room (suc (suc (suc (suc zero)))) n h h′ = absurd (subst T (sym h ∙ h′) tt)
+  more-room (suc (suc (suc (suc (suc k))))) n h h′ = absurd (subst T (sym h) tt)
 
-module _ (M M′ : Model) (N : NoLarger M M′) where
-  module _ (s : List ℕ) where
-    module _ (at : ℕ) (r : Reading) where
-      abbrev overFor : Model → Bool
-      overFor I = overLimit I r (recordAt s at) (kindOf (byteAt s at) .section) (kindOf (byteAt s at) .role)
+  fewer-points : (r : Reading) (x : Record) (section : ℕ) (k : Role) → overLimit I r x section k ≡ true → overLimit I′ r x section k ≡ false
+      → I .points < I′ .points
+  fewer-points r x section (symbol takes make) h h′ = absurd (subst T (sym h ∙ h′) tt)
+  fewer-points r x section a-pair h h′ = absurd (subst T (sym h) tt)
+  fewer-points r x section counts h h′ = more-room section (tally r section) h h′
 
-      -- the larger one, with other kinds and events
-      abbrev with : ℕ → ℕ → Model
-      with kinds events = record { bytes = M′ .bytes; points = M′ .points; events = events; kinds = kinds }
+module _ (M M′ : Model) (s : List ℕ) (N : NoLarger M M′) where
+  module _ (at : ℕ) (r : Reading) where
+    abbrev b : ℕ
+    b = byteAt s at
 
-      same-otherwise : SixOrSame (refusalOf M s at r) (refusalOf (with (M .kinds) (M .events)) s at r)
-      same-otherwise =
-          let M″ = with (M .kinds) (M .events) in
-          by-limit (eqb (byteAt s at) 0 || ltb (M .kinds) (byteAt s at)) (ltb (length s) (nextAt s at))
-          (ltb (kindOf (byteAt s at) .section) (r .section) || (eqb (r .opened .section) conditions && ltb conditions (kindOf (byteAt s at) .section)))
-          (wrongItems (kindOf (byteAt s at) .section) (kindOf (byteAt s at) .role) (length (r .opened .items))) (overFor M) (overFor M″) _
-          (within-limit M M″ (N .points) r (recordAt s at) (kindOf (byteAt s at) .section) (kindOf (byteAt s at) .role))
+    -- the numbers of its refusals
+    data Beside : ℕ → ℕ → Type 0 where
+      two : {n : ℕ} → M .kinds < b → b ≤ M′ .kinds → Beside 2 n
+      six : {n : ℕ} → M .points < M′ .points → Beside 6 n
+      same : {n : ℕ} → Beside n n
 
-      numbers : SixOrSame (refusalOf M s at r) (refusalOf M′ s at r)
-      numbers =
-          subst (λ (kinds : ℕ). SixOrSame (refusalOf M s at r) (refusalOf (with kinds (M′ .events)) s at r)) (N .kinds)
-          (subst (λ (events : ℕ). SixOrSame (refusalOf M s at r) (refusalOf (with (M .kinds) events) s at r)) (N .events) same-otherwise)
+    abbrev is2For : Model → Bool
+    is2For I = eqb b 0 || ltb (I .kinds) b
 
-    -- All records -----------------------------------------------------------------------------------------------------------
+    abbrev is6For : Model → Bool
+    is6For I = overLimit I r (recordAt s at) (kindOf b .section) (kindOf b .role)
 
-    choose : (b : Bool) {x x′ y y′ : ReadResult} → ReadsLike M x x′ → ReadsLike M y y′ → ReadsLike M (cond b x y) (cond b x′ y′)
-    choose true h k = h
-    choose false h k = k
+    -- a kind that M′ alone takes, and one that M takes
+    new-kind : is2For M ≡ true → is2For M′ ≡ false → (M .kinds < b) × (b ≤ M′ .kinds)
+    new-kind h h′ =
+        let (not0, within) = or-false (eqb b 0) (ltb (M′ .kinds) b) h′ in
+        (ltb-true (M .kinds) b (or-right (eqb b 0) (ltb (M .kinds) b) h not0), ltb-false (M′ .kinds) b within)
 
-    past-record : (at : ℕ) (r : Reading) {n n′ : ℕ} {y y′ : ReadResult} → SixOrSame n n′ → ReadsLike M y y′
-        → ReadsLike M (y when eqb n 0 else refusal n at r) (y′ when eqb n′ 0 else refusal n′ at r)
-    past-record at r six h = over-limit at r
-    past-record at r (same {n}) h = choose (eqb n 0) h the-same
+    old-kind : is2For M ≡ false → is2For M′ ≡ false
+    old-kind h =
+        let (not0, within) = or-false (eqb b 0) (ltb (M .kinds) b) h in
+        simp (not0, le-ltb (M′ .kinds) b (le-trans (ltb-false (M .kinds) b within) (N .kinds)))
 
-    on : (fuel at : ℕ) (r : Reading) → ReadsLike M (readOn M s fuel at r) (readOn M′ s fuel at r)
-    unfolding readOn
-    on zero at r = the-same
-    on (suc fuel) at r = choose (leb (length s) at) the-same (past-record at r (numbers at r) (on fuel (nextAt s at) (pastAt s at r)))
+    -- the larger one, with other events
+    abbrev with : ℕ → Model
+    with events = record { bytes = M′ .bytes; points = M′ .points; events = events; kinds = M′ .kinds }
 
-    -- in whatever state reading starts
-    pub reads-like : (r : Reading) → ReadsLike M (readFrom M r s) (readFrom M′ r s)
-    unfolding readFrom
-    reads-like r = go (ltb (M .bytes) (length s)) (ltb (M′ .bytes) (length s)) refl refl
-      where
-        go : (b b′ : Bool) → ltb (M .bytes) (length s) ≡ b → ltb (M′ .bytes) (length s) ≡ b′
-            → ReadsLike M (cond b (refusal 1 (M .bytes) r) (readOn M s (length s) 0 r)) (cond b′ (refusal 1 (M′ .bytes) r) (readOn M′ s (length s) 0 r))
-        go true b′ e e′ = too-long r
-        go false true e e′ =
-            absurd (subst T (sym e′ ∙ le-ltb (M′ .bytes) (length s) (le-trans (ltb-false (M .bytes) (length s) e) (N .bytes))) tt)
-        go false false e e′ = on (length s) 0 r
+    abbrev M″ : Model
+    M″ = with (M .events)
+
+    -- 2 and 6 in their places among the others
+    by-tests : (b2 b2′ b3 b4 b5 b6 b6′ : Bool) (n : ℕ) → is2For M ≡ b2 → is2For M′ ≡ b2′ → is6For M ≡ b6 → is6For M″ ≡ b6′
+        → Beside (2 when b2 else 3 when b3 else 4 when b4 else 5 when b5 else 6 when b6 else n)
+        (2 when b2′ else 3 when b3 else 4 when b4 else 5 when b5 else 6 when b6′ else n)
+    by-tests true true b3 b4 b5 b6 b6′ n h h′ l l′ = same
+    by-tests true false b3 b4 b5 b6 b6′ n h h′ l l′ = let (above, taken) = new-kind h h′ in two above taken
+    by-tests false true b3 b4 b5 b6 b6′ n h h′ l l′ = absurd (subst T (sym h′ ∙ old-kind h) tt)
+    by-tests false false true b4 b5 b6 b6′ n h h′ l l′ = same
+    by-tests false false false true b5 b6 b6′ n h h′ l l′ = same
+    by-tests false false false false true b6 b6′ n h h′ l l′ = same
+    by-tests false false false false false true true n h h′ l l′ = same
+    by-tests false false false false false true false n h h′ l l′ = six (fewer-points M M″ r (recordAt s at) (kindOf b .section) (kindOf b .role) l l′)
+    by-tests false false false false false false true n h h′ l l′ =
+        absurd (subst T (sym l′ ∙ within-limit M M″ (N .points) r (recordAt s at) (kindOf b .section) (kindOf b .role) l) tt)
+    by-tests false false false false false false false n h h′ l l′ = same
+
+    numbers : Beside (refusalOf M s at r) (refusalOf M′ s at r)
+    numbers =
+        subst (λ (events : ℕ). Beside (refusalOf M s at r) (refusalOf (with events) s at r)) (N .events)
+        (by-tests (is2For M) (is2For M′) (ltb (length s) (nextAt s at))
+        (ltb (kindOf b .section) (r .section) || (eqb (r .opened .section) conditions && ltb conditions (kindOf b .section)))
+        (wrongItems (kindOf b .section) (kindOf b .role) (length (r .opened .items))) (is6For M) (is6For M″) _ refl refl refl refl)
+
+  -- All records -------------------------------------------------------------------------------------------------------------
+
+  choose : (b : Bool) {x x′ y y′ : ReadResult} → ReadsLike M M′ s x x′ → ReadsLike M M′ s y y′ → ReadsLike M M′ s (cond b x y) (cond b x′ y′)
+  choose true h k = h
+  choose false h k = k
+
+  past-record : (at : ℕ) (r : Reading) {n n′ : ℕ} {y y′ : ReadResult} → Beside at r n n′ → ReadsLike M M′ s y y′
+      → ReadsLike M M′ s (y when eqb n 0 else refusal n at r) (y′ when eqb n′ 0 else refusal n′ at r)
+  past-record at r (two above taken) h = unknown-kind at r above taken
+  past-record at r (six fewer) h = over-limit at r fewer
+  past-record at r (same {n}) h = choose (eqb n 0) h the-same
+
+  on : (fuel at : ℕ) (r : Reading) → ReadsLike M M′ s (readOn M s fuel at r) (readOn M′ s fuel at r)
+  unfolding readOn
+  on zero at r = the-same
+  on (suc fuel) at r = choose (leb (length s) at) the-same (past-record at r (numbers at r) (on fuel (nextAt s at) (pastAt s at r)))
+
+  -- in whatever state reading starts
+  pub reads-like : (r : Reading) → ReadsLike M M′ s (readFrom M r s) (readFrom M′ r s)
+  unfolding readFrom
+  reads-like r = go (ltb (M .bytes) (length s)) (ltb (M′ .bytes) (length s)) refl refl
+    where
+      both : (M .bytes ≡ M′ .bytes) ⊎ (M .bytes < M′ .bytes) → ReadsLike M M′ s (refusal 1 (M .bytes) r) (refusal 1 (M′ .bytes) r)
+      both (inl e) = subst (λ (n : ℕ). ReadsLike M M′ s (refusal 1 (M .bytes) r) (refusal 1 n r)) e the-same
+      both (inr l) = too-long r l
+
+      go : (b b′ : Bool) → ltb (M .bytes) (length s) ≡ b → ltb (M′ .bytes) (length s) ≡ b′
+          → ReadsLike M M′ s (cond b (refusal 1 (M .bytes) r) (readOn M s (length s) 0 r)) (cond b′ (refusal 1 (M′ .bytes) r) (readOn M′ s (length s) 0 r))
+      go true true e e′ = both (eq-or-lt-of-le (N .bytes))
+      go true false e e′ = too-long r (omega (arith, ltb-true (M .bytes) (length s) e, ltb-false (M′ .bytes) (length s) e′))
+      go false true e e′ =
+          absurd (subst T (sym e′ ∙ le-ltb (M′ .bytes) (length s) (le-trans (ltb-false (M .bytes) (length s) e) (N .bytes))) tt)
+      go false false e e′ = on (length s) 0 r

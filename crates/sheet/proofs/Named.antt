@@ -1,5 +1,6 @@
 -- In a sheet that is read whole every name exists, and the event of each step is one of the model's.
 use mathlib.Core.Path.{_≡_, sym, subst}
+use mathlib.Core.Option.{some}
 use mathlib.Core.List.{List, [], _∷_}
 use Prim.Native.Nat.{ℕ, zero, suc, _+_, _<_}
 use native.Mathlib.Nat.{not-suc-le-zero, le-of-suc-le-suc}
@@ -9,16 +10,21 @@ use lib.Dec.{T, ltb→lt}
 use Rattle.bits.proofs.Tests.{and-out}
 use Rattle.sheet.specs.Model.{Model}
 use Rattle.sheet.specs.Each.{Each}
-use Rattle.sheet.specs.Sheet.{Sheet}
+use Rattle.sheet.specs.Sheet.{Outcome, normal, failed, Method, Sheet, declaredFor}
 use Rattle.sheet.specs.Kind.{Field, a-set, Kind, a-kind, counts, kinds, kindOf, width}
 use Rattle.sheet.specs.Record.{Record, byteAt, valuesAt, recordAt, value}
 use Rattle.sheet.specs.Reading.{Counted, Reading, tally, exists, allExist, item, whole, readSheet}
 use Rattle.sheet.specs.Decode.{pointOf, methodOf, stepOf, sheetRead, sheetOf}
-use Rattle.sheet.specs.Names.{PointNamed, MethodNamed, StepNamed, NamesExist, EventBelow}
+use Rattle.sheet.specs.Names.{PointNamed, DeclaredNamed, MethodNamed, StepNamed, NamesExist, EventBelow}
 use Rattle.sheet.proofs.Each.{each-map, each-zip, each-mapped}
 use Rattle.sheet.proofs.Kind.{_and_, numbered}
 use Rattle.sheet.proofs.Laws.{Recorded, all-recorded, Named, all-named, own-tally}
 use Rattle.sheet.proofs.SheetOf.{sheet-is}
+
+-- what a method declares of each outcome
+outcomes : (n : ℕ) (x : Method) (o : Outcome) → DeclaredNamed n (some (x .normal)) → DeclaredNamed n (x .failing) → DeclaredNamed n (declaredFor o x)
+outcomes n x normal y z = y
+outcomes n x failed y z = z
 
 module _ (events : ℕ) (counted : ℕ → ℕ) where
   -- each field of a record exists
@@ -69,6 +75,9 @@ module _ (events : ℕ) (counted : ℕ → ℕ) where
       and pass-row
       and (λ at vs n. tt)
       and (λ at vs n. tt)
+      and failing-primitive-row
+      and failing-method-row
+      and failing-call-row
       and (λ i at vs n. tt))
     where
       point-row : Row 7 (kindOf 7)
@@ -83,8 +92,7 @@ module _ (events : ℕ) (counted : ℕ → ℕ) where
       primitive-row at vs n =
           record {
             pre-exists = ltb→lt _ _ (n 0 (omega arith));
-            trace-exists = ltb→lt _ _ (n 1 (omega arith));
-            future-exists = ltb→lt _ _ (n 2 (omega arith));
+            declared-named = λ o. outcomes _ _ o (ltb→lt _ _ (n 1 (omega arith)), ltb→lt _ _ (n 2 (omega arith))) tt;
             body-named = tt;
           }
 
@@ -92,19 +100,44 @@ module _ (events : ℕ) (counted : ℕ → ℕ) where
       method-row at vs n =
           record {
             pre-exists = ltb→lt _ _ (n 0 (omega arith));
-            trace-exists = ltb→lt _ _ (n 1 (omega arith));
-            future-exists = ltb→lt _ _ (n 2 (omega arith));
-            body-named = (ltb→lt _ _ (n 3 (omega arith)), ltb→lt _ _ (n 4 (omega arith)));
+            declared-named = λ o. outcomes _ _ o (ltb→lt _ _ (n 1 (omega arith)), ltb→lt _ _ (n 2 (omega arith))) tt;
+            body-named = (ltb→lt _ _ (n 3 (omega arith)), ltb→lt _ _ (n 4 (omega arith)), tt);
           }
 
       event-row : Row 10 (kindOf 10)
       event-row at vs n = ((ltb→lt _ _ (n 0 (omega arith)), ltb→lt _ _ (n 1 (omega arith))), ltb→lt _ _ (n 2 (omega arith)))
 
       call-row : Row 11 (kindOf 11)
-      call-row at vs n = ((ltb→lt _ _ (n 0 (omega arith)), ltb→lt _ _ (n 1 (omega arith)), ltb→lt _ _ (n 2 (omega arith))), tt)
+      call-row at vs n = ((ltb→lt _ _ (n 0 (omega arith)), ltb→lt _ _ (n 1 (omega arith)), tt, ltb→lt _ _ (n 2 (omega arith))), tt)
 
       pass-row : Row 12 (kindOf 12)
       pass-row at vs n = ((ltb→lt _ _ (n 0 (omega arith)), ltb→lt _ _ (n 1 (omega arith))), tt)
+
+      failing-primitive-row : Row 15 (kindOf 15)
+      failing-primitive-row at vs n =
+          record {
+            pre-exists = ltb→lt _ _ (n 0 (omega arith));
+            declared-named =
+                λ o.
+                outcomes _ _ o (ltb→lt _ _ (n 1 (omega arith)), ltb→lt _ _ (n 2 (omega arith))) (ltb→lt _ _ (n 3 (omega arith)), ltb→lt _ _ (n 4 (omega arith)));
+            body-named = tt;
+          }
+
+      failing-method-row : Row 16 (kindOf 16)
+      failing-method-row at vs n =
+          record {
+            pre-exists = ltb→lt _ _ (n 0 (omega arith));
+            declared-named =
+                λ o.
+                outcomes _ _ o (ltb→lt _ _ (n 1 (omega arith)), ltb→lt _ _ (n 2 (omega arith))) (ltb→lt _ _ (n 5 (omega arith)), ltb→lt _ _ (n 6 (omega arith)));
+            body-named = (ltb→lt _ _ (n 3 (omega arith)), ltb→lt _ _ (n 4 (omega arith)), ltb→lt _ _ (n 7 (omega arith)));
+          }
+
+      failing-call-row : Row 17 (kindOf 17)
+      failing-call-row at vs n = (
+        (ltb→lt _ _ (n 0 (omega arith)), ltb→lt _ _ (n 1 (omega arith)), ltb→lt _ _ (n 2 (omega arith)), ltb→lt _ _ (n 3 (omega arith))),
+        tt,
+      )
 
 -- Of the sheet --------------------------------------------------------------------------------------------------------------
 

@@ -8,7 +8,7 @@ use lib.Dec.{eqb, ltb}
 use Rattle.sheet.specs.Model.{Model}
 use Rattle.sheet.specs.Kind.{Kind, kindOf}
 use Rattle.sheet.specs.Record.{Record, byteAt, recordAt, nextAt}
-use Rattle.sheet.specs.Reading.{Reading, tally, wrongItems, overLimit, allExist, isPrimitive, refusalOf}
+use Rattle.sheet.specs.Reading.{Reading, tally, wrongItems, overLimit, allExist, isPrimitive, wrongOutcomes, refusalOf}
 
 module _ (M : Model) (s : List ℕ) (at : ℕ) (r : Reading) where
   abbrev x : Record
@@ -39,6 +39,9 @@ module _ (M : Model) (s : List ℕ) (at : ℕ) (r : Reading) where
   abbrev pub is-9 : Bool
   is-9 = isPrimitive x && eqb (length (r .own 3)) 0
 
+  abbrev pub is-18 : Bool
+  is-18 = wrongOutcomes r x
+
   pub two : is-2 ≡ true → refusalOf M s at r ≡ 2
   two e2 = rw e2
 
@@ -66,5 +69,9 @@ module _ (M : Model) (s : List ℕ) (at : ℕ) (r : Reading) where
               pub nine : is-9 ≡ true → refusalOf M s at r ≡ 9
               nine e9 = rw (e2, e3, e4, e5, e6, e7, e9)
 
-              pub takes : is-9 ≡ false → refusalOf M s at r ≡ 0
-              takes e9 = rw (e2, e3, e4, e5, e6, e7, e9)
+              module _ (e9 : is-9 ≡ false) where
+                pub eighteen : is-18 ≡ true → refusalOf M s at r ≡ 18
+                eighteen e18 = rw (e2, e3, e4, e5, e6, e7, e9, e18)
+
+                pub takes : is-18 ≡ false → refusalOf M s at r ≡ 0
+                takes e18 = rw (e2, e3, e4, e5, e6, e7, e9, e18)

@@ -1,4 +1,4 @@
--- A record that is taken: none of the refusals 2 to 7 and 9 applies to it.
+-- A record that is taken: none of the refusals 2 to 7, 9 and 18 applies to it.
 use mathlib.Core.Path.{_≡_, refl, sym, subst}
 use mathlib.Core.Bool.{Bool, true, false, not, _&&_, _||_}
 use mathlib.Core.List.{List}
@@ -10,7 +10,7 @@ use borrow.Author.Tests.{ltb-false, not-false}
 use Rattle.sheet.specs.Model.{Model}
 use Rattle.sheet.specs.Kind.{bodyLength, kindOf, sectionOf}
 use Rattle.sheet.specs.Record.{byteAt, valuesAt, recordAt, nextAt}
-use Rattle.sheet.specs.Reading.{Reading, tally, wrongItems, overLimit, isPrimitive, allExist, _when_else_, refusalOf}
+use Rattle.sheet.specs.Reading.{Reading, tally, wrongItems, overLimit, isPrimitive, allExist, wrongOutcomes, _when_else_, refusalOf}
 -- checked before the proofs
 use Rattle.sheet.proofs.Examples
 
@@ -56,6 +56,8 @@ pub record Took (M : Model) (s : List ℕ) (at : ℕ) (r : Reading) : Type 0 whe
   pub names : T (allExist (M .events) (tally r) (kindOf (byteAt s at) .fields) (recordAt s at .values))
   -- not 9
   pub first : (isPrimitive (recordAt s at) && eqb (length (r .own 3)) 0) ≡ false
+  -- not 18
+  pub outcomes : wrongOutcomes r (recordAt s at) ≡ false
 
 pub took : (M : Model) (s : List ℕ) (at : ℕ) (r : Reading) → refusalOf M s at r ≡ 0 → Took M s at r
 took M s at r e =
@@ -67,6 +69,7 @@ took M s at r e =
     let (six, e) = when-zero 5 (overLimit M r (recordAt s at) (sectionOf b) (kindOf b .role)) _ e in
     let (seven, e) = when-zero 6 (not (allExist (M .events) (tally r) (kindOf b .fields) (recordAt s at .values))) _ e in
     let (nine, e) = when-zero 8 (isPrimitive (recordAt s at) && eqb (length (r .own 3)) 0) _ e in
+    let (eighteen, e) = when-zero 17 (wrongOutcomes r (recordAt s at)) _ e in
     let (order, condition) = or-false (ltb (sectionOf b) (r .section)) (eqb (r .opened .section) 1 && ltb 1 (sectionOf b)) four in
     record {
       known = two;
@@ -77,4 +80,5 @@ took M s at r e =
       room = six;
       names = subst T (sym (not-false (allExist (M .events) (tally r) (kindOf b .fields) (recordAt s at .values)) seven)) tt;
       first = nine;
+      outcomes = eighteen;
     }

@@ -1,13 +1,13 @@
 -- Sheets in which a name does not exist: `NamesExist` does not hold of them. Each differs in one name from a sheet of which it holds. And a step with
 -- an event that the instrument has not, and a primitive.
-use mathlib.Core.Option.{none, some}
+use mathlib.Core.Option.{Option, none, some}
 use mathlib.Core.List.{[], _∷_}
 use Prim.Native.Nat.{ℕ}
 use native.Mathlib.Omega.{arith}
 use Rattle.condition.specs.Condition.{empty}
 use Rattle.sheet.specs.Each.{nil, cons}
-use Rattle.sheet.specs.Sheet.{Point, Method, Step, event-step, callFrom, pass-step, Sheet}
-use Rattle.sheet.specs.Names.{PointNamed, MethodNamed, StepNamed, NamesExist, HasBody, EventBelow}
+use Rattle.sheet.specs.Sheet.{Outcome, normal, failed, Point, Declared, Body, Method, Step, event-step, callFrom, failingCallFrom, pass-step, Sheet, declaredFor}
+use Rattle.sheet.specs.Names.{PointNamed, BodyNamed, DeclaredNamed, MethodNamed, StepNamed, NamesExist, HasBody, EventBelow}
 use Rattle.sheet.proofs.Each.{each-head}
 
 -- one condition, and the point, the method and the step that are given; so each name that exists is 0
@@ -17,24 +17,56 @@ sheet p m t = record { conditions = empty ∷ []; points = p ∷ []; methods = m
 abbrev point : ℕ → ℕ → ℕ → Point
 point past own due = record { past = past; own = own; due = due }
 
+abbrev declared : ℕ → ℕ → Declared
+declared trace future = record { trace = trace; future = future }
+
 abbrev method : ℕ → ℕ → ℕ → ℕ → ℕ → Method
 method pre trace future entry exit =
-    record { pre = pre; trace = trace; future = future; body = some (record { entry = entry; exit = exit }) }
+    record { pre = pre; normal = declared trace future; failing = none; body = some (record { entry = entry; exit = exit; failed-exit = none }) }
 
 abbrev primitive : ℕ → ℕ → ℕ → Method
-primitive pre trace future = record { pre = pre; trace = trace; future = future; body = none }
+primitive pre trace future = record { pre = pre; normal = declared trace future; failing = none; body = none }
+
+-- with two outcomes: the failed trace, failed future and failed exit
+abbrev failingMethod : ℕ → ℕ → ℕ → Method
+failingMethod trace future exit =
+    record { pre = 0; normal = declared 0 0; failing = some (declared trace future); body = some (record { entry = 0; exit = 0; failed-exit = some exit }) }
+
+abbrev failingPrimitive : ℕ → ℕ → Method
+failingPrimitive trace future = record { pre = 0; normal = declared 0 0; failing = some (declared trace future); body = none }
 
 -- every name exists, with a step of each kind
 all-named : (p : Point) (m : Method) (t : Step) → PointNamed 1 p → MethodNamed 1 1 m → StepNamed 1 1 t → NamesExist (sheet p m t)
 all-named p m t x y z = record { points-named = cons x nil; methods-named = cons y nil; steps-named = cons z nil }
 
+-- all names of a method with one outcome, and with two, are 0
+one-outcome : (b : Option Body) → BodyNamed 1 b → MethodNamed 1 1 (record { pre = 0; normal = declared 0 0; failing = none; body = b })
+one-outcome b h = record { pre-exists = omega arith; declared-named = go; body-named = h }
+  where
+    go : (o : Outcome) → DeclaredNamed 1 (declaredFor o (record { pre = 0; normal = declared 0 0; failing = none; body = b }))
+    go normal = (omega arith, omega arith)
+    go failed = tt
+
+two-outcomes : (b : Option Body) → BodyNamed 1 b → MethodNamed 1 1 (record { pre = 0; normal = declared 0 0; failing = some (declared 0 0); body = b })
+two-outcomes b h = record { pre-exists = omega arith; declared-named = go; body-named = h }
+  where
+    go : (o : Outcome) → DeclaredNamed 1 (declaredFor o (record { pre = 0; normal = declared 0 0; failing = some (declared 0 0); body = b }))
+    go normal = (omega arith, omega arith)
+    go failed = (omega arith, omega arith)
+
 all-exist : NamesExist (sheet (point 0 0 0) (method 0 0 0 0 0) (event-step 0 0 31))
     × NamesExist (sheet (point 0 0 0) (primitive 0 0 0) (callFrom 0 0 0))
     × NamesExist (sheet (point 0 0 0) (method 0 0 0 0 0) (pass-step 0 0))
+    × NamesExist (sheet (point 0 0 0) (failingMethod 0 0 0) (failingCallFrom 0 0 0 0))
+    × NamesExist (sheet (point 0 0 0) (failingPrimitive 0 0) (failingCallFrom 0 0 0 0))
 all-exist = (
-  all-named (point 0 0 0) (method 0 0 0 0 0) (event-step 0 0 31) (omega arith) (omega arith) (omega arith),
-  all-named (point 0 0 0) (primitive 0 0 0) (callFrom 0 0 0) (omega arith) (omega arith) (omega arith),
-  all-named (point 0 0 0) (method 0 0 0 0 0) (pass-step 0 0) (omega arith) (omega arith) (omega arith),
+  all-named (point 0 0 0) (method 0 0 0 0 0) (event-step 0 0 31) (omega arith) (one-outcome _ (omega arith, omega arith, tt)) (omega arith, omega arith),
+  all-named (point 0 0 0) (primitive 0 0 0) (callFrom 0 0 0) (omega arith) (one-outcome none tt) (omega arith, omega arith, tt, omega arith),
+  all-named (point 0 0 0) (method 0 0 0 0 0) (pass-step 0 0) (omega arith) (one-outcome _ (omega arith, omega arith, tt)) (omega arith, omega arith),
+  all-named (point 0 0 0) (failingMethod 0 0 0) (failingCallFrom 0 0 0 0) (omega arith) (two-outcomes _ (omega arith, omega arith, omega arith))
+      (omega arith, omega arith, omega arith, omega arith),
+  all-named (point 0 0 0) (failingPrimitive 0 0) (failingCallFrom 0 0 0 0) (omega arith) (two-outcomes none tt)
+      (omega arith, omega arith, omega arith, omega arith),
 )
 
 -- one name does not
@@ -52,16 +84,25 @@ no-pre : NamesExist (sheet (point 0 0 0) (method 1 0 0 0 0) (pass-step 0 0)) →
 no-pre n = omega (arith, each-head (n .methods-named) .pre-exists)
 
 no-trace : NamesExist (sheet (point 0 0 0) (method 0 1 0 0 0) (pass-step 0 0)) → ⊥
-no-trace n = omega (arith, each-head (n .methods-named) .trace-exists)
+no-trace n = omega (arith, each-head (n .methods-named) .declared-named normal .0)
 
 no-future : NamesExist (sheet (point 0 0 0) (method 0 0 1 0 0) (pass-step 0 0)) → ⊥
-no-future n = omega (arith, each-head (n .methods-named) .future-exists)
+no-future n = omega (arith, each-head (n .methods-named) .declared-named normal .1)
 
 no-entry : NamesExist (sheet (point 0 0 0) (method 0 0 0 1 0) (pass-step 0 0)) → ⊥
 no-entry n = omega (arith, each-head (n .methods-named) .body-named .0)
 
 no-exit : NamesExist (sheet (point 0 0 0) (method 0 0 0 0 1) (pass-step 0 0)) → ⊥
 no-exit n = omega (arith, each-head (n .methods-named) .body-named .1)
+
+no-failed-trace : NamesExist (sheet (point 0 0 0) (failingMethod 1 0 0) (pass-step 0 0)) → ⊥
+no-failed-trace n = omega (arith, each-head (n .methods-named) .declared-named failed .0)
+
+no-failed-future : NamesExist (sheet (point 0 0 0) (failingPrimitive 0 1) (pass-step 0 0)) → ⊥
+no-failed-future n = omega (arith, each-head (n .methods-named) .declared-named failed .1)
+
+no-failed-exit : NamesExist (sheet (point 0 0 0) (failingMethod 0 0 1) (pass-step 0 0)) → ⊥
+no-failed-exit n = omega (arith, each-head (n .methods-named) .body-named .2)
 
 no-primitive-pre : NamesExist (sheet (point 0 0 0) (primitive 1 0 0) (pass-step 0 0)) → ⊥
 no-primitive-pre n = omega (arith, each-head (n .methods-named) .pre-exists)
@@ -79,7 +120,13 @@ no-call-to : NamesExist (sheet (point 0 0 0) (method 0 0 0 0 0) (callFrom 0 1 0)
 no-call-to n = omega (arith, each-head (n .steps-named) .1)
 
 no-call-method : NamesExist (sheet (point 0 0 0) (method 0 0 0 0 0) (callFrom 0 0 1)) → ⊥
-no-call-method n = omega (arith, each-head (n .steps-named) .2)
+no-call-method n = omega (arith, each-head (n .steps-named) .3)
+
+no-failed-target : NamesExist (sheet (point 0 0 0) (failingMethod 0 0 0) (failingCallFrom 0 0 1 0)) → ⊥
+no-failed-target n = omega (arith, each-head (n .steps-named) .2)
+
+no-failing-call-method : NamesExist (sheet (point 0 0 0) (failingMethod 0 0 0) (failingCallFrom 0 0 0 1)) → ⊥
+no-failing-call-method n = omega (arith, each-head (n .steps-named) .3)
 
 no-pass-from : NamesExist (sheet (point 0 0 0) (method 0 0 0 0 0) (pass-step 1 0)) → ⊥
 no-pass-from n = omega (arith, each-head (n .steps-named) .0)

@@ -76,7 +76,7 @@ kinds =
     -- method with pre, trace, future, entry, exit, failed trace, failed future, failed exit"; 17: "a call with from, to, failed target, method"
     ∷ a-kind methods counts (a-name conditions ∷ a-name conditions ∷ a-name conditions ∷ a-name conditions ∷ a-name conditions ∷ [])
     ∷ a-kind methods counts
-        (a-name conditions ∷ a-name conditions ∷ a-name conditions ∷ a-name points ∷ a-name points ∷ a-name conditions ∷ a-name conditions ∷ a-name points ∷ [])
+    (a-name conditions ∷ a-name conditions ∷ a-name conditions ∷ a-name points ∷ a-name points ∷ a-name conditions ∷ a-name conditions ∷ a-name points ∷ [])
     ∷ a-kind steps counts (a-name points ∷ a-name points ∷ a-name points ∷ a-name methods ∷ [])
     ∷ []
 
