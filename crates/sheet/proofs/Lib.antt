@@ -15,6 +15,7 @@ pub mod Certified
 pub mod SheetOf
 pub mod Named
 pub mod First
+pub mod Outcomes
 pub mod Narrow
 pub mod Located
 mod Unnamed

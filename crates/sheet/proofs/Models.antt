@@ -60,7 +60,7 @@ module _ (I I′ : Model) where
   fewer-points r x section a-pair h h′ = absurd (subst T (sym h) tt)
   fewer-points r x section counts h h′ = more-room section (tally r section) h h′
 
-module _ (M M′ : Model) (s : List ℕ) (N : NoLarger M M′) where
+module _ (M M′ : Model) (N : NoLarger M M′) (s : List ℕ) where
   module _ (at : ℕ) (r : Reading) where
     abbrev b : ℕ
     b = byteAt s at

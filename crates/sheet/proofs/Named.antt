@@ -28,7 +28,7 @@ outcomes n x failed y z = z
 
 module _ (events : ℕ) (counted : ℕ → ℕ) where
   -- each field of a record exists
-  abbrev FieldsExist : List Field → Record → Type 0
+  abbrev pub FieldsExist : List Field → Record → Type 0
   FieldsExist fs x = (i : ℕ) → i < length fs → T (exists events counted (getD fs i a-set) (value x i))
 
   each-exists : (s : List ℕ) (fs : List Field) (at : ℕ) → T (allExist events counted fs (valuesAt s at fs))
@@ -39,7 +39,7 @@ module _ (events : ℕ) (counted : ℕ → ℕ) where
   each-exists s (f ∷ fs) at h (suc i) l =
       each-exists s fs (at + width f) (and-out (exists events counted f _) (allExist events counted fs _) h .1) i (le-of-suc-le-suc l)
 
-  at-exists : (s : List ℕ) (at : ℕ) → T (allExist events counted (kindOf (recordAt s at .kind) .fields) (recordAt s at .values))
+  pub at-exists : (s : List ℕ) (at : ℕ) → T (allExist events counted (kindOf (recordAt s at .kind) .fields) (recordAt s at .values))
       → FieldsExist (kindOf (recordAt s at .kind) .fields) (recordAt s at)
   unfolding recordAt
   at-exists s at h = each-exists s (kindOf (byteAt s at) .fields) (at + 1) h

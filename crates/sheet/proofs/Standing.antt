@@ -56,7 +56,7 @@ module _ (s : List ℕ) (at : ℕ) where
   building-now section o first (in-certificate t) = absurd (omega arith)
 
   -- a record of a section j in between starts where it is
-  alone : (section j : ℕ) (o : Opened) → section ≤ suc (suc j) → suc (suc j) < 5 → (eqb (o .section) 1 && true) ≡ false → Open s at section o
+  pub alone : (section j : ℕ) (o : Opened) → section ≤ suc (suc j) → suc (suc j) < 5 → (eqb (o .section) 1 && true) ≡ false → Open s at section o
       → startOf o at ≡ at
   alone section j o order few none-open closed = refl
   alone section j o order few none-open (in-condition b) = absurd (subst T none-open tt)
