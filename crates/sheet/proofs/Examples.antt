@@ -1,11 +1,12 @@
 -- Records, sheets and readings by evaluation: the table of kinds, the fields of a record of each kind and what they stand for, a sheet, each limit at its
--- last and at one more, the order of sections, refusals of one record in their order, what was counted before a refusal, and other instruments' limits.
+-- last and at one more, the order of sections, refusals of one record in their order, what was counted before a refusal, other instruments' limits, and
+-- methods with two outcomes and their calls.
 use mathlib.Core.Path.{_≡_, refl}
 use mathlib.Core.Option.{Option, none, some}
 use mathlib.Core.List.{List, [], _∷_, _++_, map}
 use Prim.Native.Nat.{ℕ, zero, suc}
 use native.Mathlib.Omega.{arith}
-use lib.ListN.{getD, replicate}
+use lib.ListN.{getD, replicate, set, take}
 use Rattle.condition.specs.Condition.{leaf, empty, join, either, star}
 use Rattle.certificate.specs.Certificate.{pair}
 use Rattle.sheet.specs.Model.{Model, large, entry, withKinds, NoLarger}
@@ -336,3 +337,157 @@ entry-rows-are-so = refl
 -- it is no larger than the large one
 pub entry-no-larger : NoLarger entry large
 entry-no-larger = record { bytes = omega arith; points = omega arith; events = refl; kinds = omega arith }
+
+-- Two outcomes ----------------------------------------------------------------------------------------------------------
+
+-- a record of names below 256
+abbrev shorts : List ℕ → List ℕ
+shorts [] = []
+shorts (v ∷ vs) = v ∷ 0 ∷ shorts vs
+
+abbrev naming : ℕ → List ℕ → List ℕ
+naming kind names = kind ∷ shorts names
+
+-- five conditions, three points, a method and a primitive with two outcomes, a method with one, and calls of each
+abbrev failingSheet : List ℕ
+failingSheet =
+    times 5 (0x02 ∷ 0x06 ∷ [])
+    ++ (times 3 point0
+    ++ (naming 0x10 (0 ∷ 1 ∷ 2 ∷ 0 ∷ 1 ∷ 3 ∷ 4 ∷ 2 ∷ [])
+    ++ (naming 0x0F (4 ∷ 3 ∷ 2 ∷ 1 ∷ 0 ∷ [])
+    ++ (naming 0x09 (1 ∷ 2 ∷ 3 ∷ 2 ∷ 0 ∷ [])
+    ++ (naming 0x11 (0 ∷ 1 ∷ 2 ∷ 1 ∷ [])
+    ++ (naming 0x11 (2 ∷ 0 ∷ 1 ∷ 0 ∷ [])
+    ++ naming 0x0B (1 ∷ 0 ∷ 2 ∷ [])))))))
+
+failing-sheet-is-so : sheetOf large failingSheet
+    ≡ record {
+      conditions = replicate 5 empty;
+      points = replicate 3 (record { past = 0; own = 0; due = 0 });
+      methods =
+          twoOutcomes 0 (declared 1 2) (declared 3 4) (body 0 1 (some 2))
+          ∷ twoOutcomes 4 (declared 3 2) (declared 1 0) none
+          ∷ oneOutcome 1 (declared 2 3) (body 2 0 none)
+          ∷ [];
+      steps = failingCallFrom 0 1 2 1 ∷ failingCallFrom 2 0 1 0 ∷ callFrom 1 0 2 ∷ [];
+      certificates = [];
+    }
+unfolding sheetOf
+failing-sheet-is-so = refl
+
+-- behind conditions, points and methods of these kinds
+abbrev counts : ℕ → ℕ → List ℕ → ℕ → List Counted
+counts c p kinds k = getD ([] ∷ replicate c (of 0) ∷ replicate p (of 0) ∷ map of kinds ∷ []) k []
+  where
+    of : ℕ → Counted
+    of kind = record { last = with kind []; opened = nothing }
+
+abbrev behind : List ℕ → List ℕ → List ℕ → Row
+behind kinds s refused = record { before = counts 1 1 kinds; bytes = s; refused = refused }
+
+abbrev call : ℕ → List ℕ
+call m = naming 0x0B (0 ∷ 0 ∷ m ∷ [])
+
+abbrev failingCall : ℕ → List ℕ
+failingCall m = naming 0x11 (0 ∷ 0 ∷ 0 ∷ m ∷ [])
+
+abbrev failingPrimitive0 : List ℕ
+failingPrimitive0 = naming 0x0F (replicate 5 0)
+
+abbrev failingMethod0 : List ℕ
+failingMethod0 = naming 0x10 (replicate 8 0)
+
+abbrev outcomeRows : List Row
+outcomeRows =
+    -- "18 when kind 11 names a method of kind 15 or 16, or kind 17 one of kind 8 or 9"; a call that is taken leads to the end, where the sheet has no method
+    behind (15 ∷ []) (call 0) (18 ∷ 0 ∷ [])
+    ∷ behind (16 ∷ []) (call 0) (18 ∷ 0 ∷ [])
+    ∷ behind (8 ∷ []) (failingCall 0) (18 ∷ 0 ∷ [])
+    ∷ behind (9 ∷ []) (failingCall 0) (18 ∷ 0 ∷ [])
+    ∷ behind (8 ∷ []) (call 0) (9 ∷ 7 ∷ [])
+    ∷ behind (9 ∷ []) (call 0) (9 ∷ 7 ∷ [])
+    ∷ behind (15 ∷ []) (failingCall 0) (9 ∷ 9 ∷ [])
+    ∷ behind (16 ∷ []) (failingCall 0) (9 ∷ 9 ∷ [])
+    -- of several methods the one that is named; "at that record"; also the sheet's own methods
+    ∷ behind (9 ∷ 15 ∷ 8 ∷ []) (call 1) (18 ∷ 0 ∷ [])
+    ∷ behind (9 ∷ 15 ∷ 8 ∷ []) (call 2) (9 ∷ 7 ∷ [])
+    ∷ behind (9 ∷ 15 ∷ 8 ∷ []) (failingCall 1) (9 ∷ 9 ∷ [])
+    ∷ behind (9 ∷ 15 ∷ 8 ∷ []) (failingCall 2) (18 ∷ 0 ∷ [])
+    ∷ behind (15 ∷ []) (pass0 ++ call 0) (18 ∷ 5 ∷ [])
+    ∷ after 1 1 0 0 (method0 ++ failingCall 0) (18 ∷ 11 ∷ [])
+    ∷ after 1 1 0 0 (failingMethod0 ++ call 0) (18 ∷ 17 ∷ [])
+    ∷ after 1 1 0 0 (failingMethod0 ++ failingCall 0) []
+    -- "after 7": a method, a point and a failed target that do not exist
+    ∷ behind (8 ∷ []) (failingCall 1) (7 ∷ 0 ∷ [])
+    ∷ behind (15 ∷ []) (naming 0x0B (1 ∷ 0 ∷ 0 ∷ [])) (7 ∷ 0 ∷ [])
+    ∷ behind (8 ∷ []) (naming 0x11 (0 ∷ 0 ∷ 1 ∷ 0 ∷ [])) (7 ∷ 0 ∷ [])
+    -- 9 for a first primitive of kind 15, and 7 before it; a method of kind 16 has a body
+    ∷ after 1 1 0 0 failingPrimitive0 (9 ∷ 0 ∷ [])
+    ∷ after 1 1 0 0 (naming 0x0F (0 ∷ 0 ∷ 0 ∷ 0 ∷ 1 ∷ [])) (7 ∷ 0 ∷ [])
+    ∷ after 1 1 0 0 failingMethod0 []
+    ∷ after 1 1 0 0 (method0 ++ failingPrimitive0) []
+    -- "64 methods; 512 steps": 15 and 16 count among the methods, 17 among the steps
+    ∷ after 1 1 63 0 failingMethod0 []
+    ∷ after 1 1 64 0 failingMethod0 (6 ∷ 0 ∷ [])
+    ∷ after 1 1 64 0 failingPrimitive0 (6 ∷ 0 ∷ [])
+    ∷ after 1 1 1 511 (failingCall 0) (18 ∷ 0 ∷ [])
+    ∷ after 1 1 1 512 (failingCall 0) (6 ∷ 0 ∷ [])
+    -- "in the sections of 8, 9 and 11"
+    ∷ after 1 1 0 0 (failingMethod0 ++ point0) (4 ∷ 17 ∷ [])
+    ∷ behind (16 ∷ []) (failingCall 0 ++ failingMethod0) (4 ∷ 9 ∷ [])
+    ∷ behind (16 ∷ []) (failingCall 0 ++ failingPrimitive0) (4 ∷ 9 ∷ [])
+    -- "The sheet 0F now gives `refused 3 at 0`"; bodies one byte short
+    ∷ after 0 0 0 0 (0x0F ∷ []) (3 ∷ 0 ∷ [])
+    ∷ after 1 1 1 0 (0x0F ∷ replicate 9 0) (3 ∷ 0 ∷ [])
+    ∷ after 1 1 1 0 (0x10 ∷ replicate 15 0) (3 ∷ 0 ∷ [])
+    ∷ after 1 1 1 0 (0x11 ∷ replicate 7 0) (3 ∷ 0 ∷ [])
+    ∷ []
+
+outcome-rows-are-so : map (λ x. numberAndPlace (readFrom large (startingFrom (x .before)) (x .bytes))) outcomeRows ≡ map (λ x. x .refused) outcomeRows
+unfolding readFrom
+outcome-rows-are-so = refl
+
+-- every name is judged: a record of a kind whose n fields are 0 but one, which is 1, by the number of that field
+judged : (ℕ → List Counted) → ℕ → ℕ → List (List ℕ)
+judged before kind n =
+    map (λ i. numberAndPlace (readFrom large (startingFrom before) (naming kind (set (replicate n 0) i 1)))) (take n (0 ∷ 1 ∷ 2 ∷ 3 ∷ 4 ∷ 5 ∷ 6 ∷ 7 ∷ []))
+
+abbrev unknown : List ℕ
+unknown = 7 ∷ 0 ∷ []
+
+-- conditions, where there is one, and points, where there is one: "pre, trace, future, failed trace, failed future"
+primitive-judged : judged (counts 1 2 []) 0x0F 5 ++ judged (counts 2 1 []) 0x0F 5 ≡ replicate 5 unknown ++ replicate 5 (9 ∷ 0 ∷ [])
+unfolding readFrom judged
+primitive-judged = refl
+
+-- "pre, trace, future, entry, exit, failed trace, failed future, failed exit"
+method-judged : judged (counts 1 2 []) 0x10 8 ++ judged (counts 2 1 []) 0x10 8
+    ≡ (unknown ∷ unknown ∷ unknown ∷ [] ∷ [] ∷ unknown ∷ unknown ∷ [] ∷ []) ++ ([] ∷ [] ∷ [] ∷ unknown ∷ unknown ∷ [] ∷ [] ∷ unknown ∷ [])
+unfolding readFrom judged
+method-judged = refl
+
+-- "from, to, failed target, method", where there is one point, and where there is one method
+call-judged : judged (counts 1 1 (16 ∷ 16 ∷ [])) 0x11 4 ++ judged (counts 1 2 (16 ∷ [])) 0x11 4
+    ≡ (unknown ∷ unknown ∷ unknown ∷ (9 ∷ 9 ∷ []) ∷ []) ++ ((9 ∷ 9 ∷ []) ∷ (9 ∷ 9 ∷ []) ∷ (9 ∷ 9 ∷ []) ∷ unknown ∷ [])
+unfolding readFrom judged
+call-judged = refl
+
+-- an instrument that takes the kinds of document 01 alone
+abbrev olderRows : List Row
+olderRows =
+    after 1 1 1 0 (0x0F ∷ []) (2 ∷ 0 ∷ [])
+    ∷ after 1 1 1 0 failingMethod0 (2 ∷ 0 ∷ [])
+    ∷ behind (16 ∷ []) (pass0 ++ failingCall 0) (2 ∷ 5 ∷ [])
+    ∷ after 1 1 0 0 (method0 ++ (0x0E ∷ [])) []
+    ∷ []
+
+older-rows-are-so : map (λ x. numberAndPlace (readFrom (withKinds 14 large) (startingFrom (x .before)) (x .bytes))) olderRows ≡ map (λ x. x .refused) olderRows
+unfolding readFrom
+older-rows-are-so = refl
+
+-- it is no larger, and the large one is no such one beside it
+pub older-no-larger : NoLarger (withKinds 14 large) large
+older-no-larger = record { bytes = omega arith; points = omega arith; events = refl; kinds = omega arith }
+
+larger-than-older : NoLarger large (withKinds 14 large) → ⊥
+larger-than-older n = omega (arith, n .kinds)

@@ -1,4 +1,5 @@
--- All that an index of a sheet needs: how many conditions, points, methods and steps there are, what stands at their offsets, and that names exist.
+-- All that an index of a sheet needs: how many conditions, points, methods and steps there are, what stands at their offsets, that names
+-- exist, and that outcomes fit.
 use mathlib.Core.Path.{_≡_, refl, sym, ap, ap₂, _∙_, subst}
 use mathlib.Core.Option.{some}
 use mathlib.Core.List.{List, _∷_, map}
@@ -14,13 +15,14 @@ use Rattle.sheet.specs.Kind.{conditions, points, methods, steps}
 use Rattle.sheet.specs.Reading.{Counted, Reading, startOf, startsOf, item, whole, readSheet}
 use Rattle.sheet.specs.Decode.{pointOf, methodOf, stepOf, sheetOf}
 use Rattle.sheet.specs.AtOffset.{pointAt, methodAt, stepAt, certificateAt}
-use Rattle.sheet.specs.Names.{NamesExist, HasBody, EventBelow}
+use Rattle.sheet.specs.Names.{NamesExist, HasBody, OutcomesFit, EventBelow}
 use Rattle.sheet.proofs.Laws.{Within, own-tally, none-over}
 use Rattle.sheet.proofs.Symbols.{Stands}
 use Rattle.sheet.proofs.Standing.{IsAt, ReadAt, read-at}
 use Rattle.sheet.proofs.SheetOf.{sheet-is}
 use Rattle.sheet.proofs.Named.{names-exist, events-below}
 use Rattle.sheet.proofs.First.{first-has-body}
+use Rattle.sheet.proofs.Outcomes.{outcomes-fit}
 
 -- the element with a number is what stands at the offset with that number, inside the sheet
 pub record Found {A : Type 0} (s : List ℕ) (at : ℕ → A) (xs : List A) (os : List ℕ) (i : ℕ) : Type 0 where
@@ -44,6 +46,7 @@ pub record Located (M : Model) (S : Sheet) (s : List ℕ) (offsets : ℕ → Lis
   pub names : NamesExist S
   pub events : Each (EventBelow (M .events)) (S .steps)
   pub first : HasBody (body S 0)
+  pub outcomes : OutcomesFit S
 
 module _ {A : Type 0} (s : List ℕ) (f : Counted → A) where
   as-many : (cs : List Counted) → length (map f cs) ≡ length (startsOf cs)
@@ -86,6 +89,7 @@ module _ (M : Model) (s : List ℕ) (r : Reading) (h : readSheet M s ≡ whole r
         names = subst NamesExist (sheet-is M s r h) (names-exist M s r h);
         events = subst (λ (S : Sheet). Each (EventBelow (M .events)) (S .steps)) (sheet-is M s r h) (events-below M s r h);
         first = subst (λ (S : Sheet). HasBody (body S 0)) (sheet-is M s r h) (first-has-body M s r h);
+        outcomes = subst OutcomesFit (sheet-is M s r h) (outcomes-fit M s r h);
       })
 
   -- the certificates are those that stand at their offsets

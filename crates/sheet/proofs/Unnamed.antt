@@ -1,13 +1,15 @@
 -- Sheets in which a name does not exist: `NamesExist` does not hold of them. Each differs in one name from a sheet of which it holds. And a step with
--- an event that the instrument has not, and a primitive.
+-- an event that the instrument has not, a primitive, and outcomes that do not fit.
+use mathlib.Core.Path.{refl, sym, subst}
 use mathlib.Core.Option.{Option, none, some}
 use mathlib.Core.List.{[], _∷_}
 use Prim.Native.Nat.{ℕ}
+use lib.Dec.{T}
 use native.Mathlib.Omega.{arith}
 use Rattle.condition.specs.Condition.{empty}
 use Rattle.sheet.specs.Each.{nil, cons}
 use Rattle.sheet.specs.Sheet.{Outcome, normal, failed, Point, Declared, Body, Method, Step, event-step, callFrom, failingCallFrom, pass-step, Sheet, declaredFor}
-use Rattle.sheet.specs.Names.{PointNamed, BodyNamed, DeclaredNamed, MethodNamed, StepNamed, NamesExist, HasBody, EventBelow}
+use Rattle.sheet.specs.Names.{PointNamed, BodyNamed, DeclaredNamed, MethodNamed, StepNamed, NamesExist, HasBody, ExitsFit, TargetsFit, OutcomesFit, EventBelow}
 use Rattle.sheet.proofs.Each.{each-head}
 
 -- one condition, and the point, the method and the step that are given; so each name that exists is 0
@@ -146,3 +148,40 @@ a-body = tt
 
 no-body : HasBody (primitive 0 0 0 .body) → ⊥
 no-body b = b
+
+-- Outcomes --------------------------------------------------------------------------------------------------------------
+
+-- a method and a call of it fit, with one outcome and with two
+fits : (m : Method) (t : Step) → ExitsFit (m .failing) (m .body) → TargetsFit (sheet (point 0 0 0) m t) t → OutcomesFit (sheet (point 0 0 0) m t)
+fits m t e f = record { exits-fit = cons e nil; targets-fit = cons f nil }
+
+all-fit : OutcomesFit (sheet (point 0 0 0) (method 0 0 0 0 0) (callFrom 0 0 0))
+    × OutcomesFit (sheet (point 0 0 0) (primitive 0 0 0) (callFrom 0 0 0))
+    × OutcomesFit (sheet (point 0 0 0) (failingMethod 0 0 0) (failingCallFrom 0 0 0 0))
+    × OutcomesFit (sheet (point 0 0 0) (failingPrimitive 0 0) (failingCallFrom 0 0 0 0))
+all-fit = (
+  fits (method 0 0 0 0 0) (callFrom 0 0 0) refl refl,
+  fits (primitive 0 0 0) (callFrom 0 0 0) tt refl,
+  fits (failingMethod 0 0 0) (failingCallFrom 0 0 0 0) refl refl,
+  fits (failingPrimitive 0 0) (failingCallFrom 0 0 0 0) tt refl,
+)
+
+-- what 18 is for
+no-target : OutcomesFit (sheet (point 0 0 0) (failingMethod 0 0 0) (callFrom 0 0 0)) → ⊥
+no-target f = subst T (sym (each-head (f .targets-fit))) tt
+
+no-target-for-primitive : OutcomesFit (sheet (point 0 0 0) (failingPrimitive 0 0) (callFrom 0 0 0)) → ⊥
+no-target-for-primitive f = subst T (sym (each-head (f .targets-fit))) tt
+
+stray-target : OutcomesFit (sheet (point 0 0 0) (method 0 0 0 0 0) (failingCallFrom 0 0 0 0)) → ⊥
+stray-target f = subst T (each-head (f .targets-fit)) tt
+
+-- a failed exit without a failed trace, and the other way
+abbrev withExit : Option Declared → Option ℕ → Method
+withExit failing exit = record { pre = 0; normal = declared 0 0; failing = failing; body = some (record { entry = 0; exit = 0; failed-exit = exit }) }
+
+stray-exit : OutcomesFit (sheet (point 0 0 0) (withExit none (some 0)) (pass-step 0 0)) → ⊥
+stray-exit f = subst T (each-head (f .exits-fit)) tt
+
+no-exit-for-failing : OutcomesFit (sheet (point 0 0 0) (withExit (some (declared 0 0)) none) (pass-step 0 0)) → ⊥
+no-exit-for-failing f = subst T (sym (each-head (f .exits-fit))) tt
