@@ -1,10 +1,10 @@
 -- Sheets in which a name does not exist: `NamesExist` does not hold of them. Each differs in one name from a sheet of which it holds. And a step with
 -- an event that the instrument has not, a primitive, and outcomes that do not fit.
-use mathlib.Core.Path.{refl, sym, subst}
+use mathlib.Core.Path.{_≡_}
+use mathlib.Core.Bool.{true, false}
 use mathlib.Core.Option.{Option, none, some}
 use mathlib.Core.List.{[], _∷_}
 use Prim.Native.Nat.{ℕ}
-use lib.Dec.{T}
 use native.Mathlib.Omega.{arith}
 use Rattle.condition.specs.Condition.{empty}
 use Rattle.sheet.specs.Each.{nil, cons}
@@ -46,15 +46,15 @@ one-outcome : (b : Option Body) → BodyNamed 1 b → MethodNamed 1 1 (record { 
 one-outcome b h = record { pre-exists = omega arith; declared-named = go; body-named = h }
   where
     go : (o : Outcome) → DeclaredNamed 1 (declaredFor o (record { pre = 0; normal = declared 0 0; failing = none; body = b }))
-    go normal = (omega arith, omega arith)
+    go normal = omega arith
     go failed = tt
 
 two-outcomes : (b : Option Body) → BodyNamed 1 b → MethodNamed 1 1 (record { pre = 0; normal = declared 0 0; failing = some (declared 0 0); body = b })
 two-outcomes b h = record { pre-exists = omega arith; declared-named = go; body-named = h }
   where
     go : (o : Outcome) → DeclaredNamed 1 (declaredFor o (record { pre = 0; normal = declared 0 0; failing = some (declared 0 0); body = b }))
-    go normal = (omega arith, omega arith)
-    go failed = (omega arith, omega arith)
+    go normal = omega arith
+    go failed = omega arith
 
 all-exist : NamesExist (sheet (point 0 0 0) (method 0 0 0 0 0) (event-step 0 0 31))
     × NamesExist (sheet (point 0 0 0) (primitive 0 0 0) (callFrom 0 0 0))
@@ -62,13 +62,11 @@ all-exist : NamesExist (sheet (point 0 0 0) (method 0 0 0 0 0) (event-step 0 0 3
     × NamesExist (sheet (point 0 0 0) (failingMethod 0 0 0) (failingCallFrom 0 0 0 0))
     × NamesExist (sheet (point 0 0 0) (failingPrimitive 0 0) (failingCallFrom 0 0 0 0))
 all-exist = (
-  all-named (point 0 0 0) (method 0 0 0 0 0) (event-step 0 0 31) (omega arith) (one-outcome _ (omega arith, omega arith, tt)) (omega arith, omega arith),
-  all-named (point 0 0 0) (primitive 0 0 0) (callFrom 0 0 0) (omega arith) (one-outcome none tt) (omega arith, omega arith, tt, omega arith),
-  all-named (point 0 0 0) (method 0 0 0 0 0) (pass-step 0 0) (omega arith) (one-outcome _ (omega arith, omega arith, tt)) (omega arith, omega arith),
-  all-named (point 0 0 0) (failingMethod 0 0 0) (failingCallFrom 0 0 0 0) (omega arith) (two-outcomes _ (omega arith, omega arith, omega arith))
-      (omega arith, omega arith, omega arith, omega arith),
-  all-named (point 0 0 0) (failingPrimitive 0 0) (failingCallFrom 0 0 0 0) (omega arith) (two-outcomes none tt)
-      (omega arith, omega arith, omega arith, omega arith),
+  all-named (point 0 0 0) (method 0 0 0 0 0) (event-step 0 0 31) (omega arith) (one-outcome _ (omega arith)) (omega arith),
+  all-named (point 0 0 0) (primitive 0 0 0) (callFrom 0 0 0) (omega arith) (one-outcome none tt) (omega arith),
+  all-named (point 0 0 0) (method 0 0 0 0 0) (pass-step 0 0) (omega arith) (one-outcome _ (omega arith)) (omega arith),
+  all-named (point 0 0 0) (failingMethod 0 0 0) (failingCallFrom 0 0 0 0) (omega arith) (two-outcomes _ (omega arith)) (omega arith),
+  all-named (point 0 0 0) (failingPrimitive 0 0) (failingCallFrom 0 0 0 0) (omega arith) (two-outcomes none tt) (omega arith),
 )
 
 -- one name does not
@@ -86,55 +84,55 @@ no-pre : NamesExist (sheet (point 0 0 0) (method 1 0 0 0 0) (pass-step 0 0)) →
 no-pre n = omega (arith, each-head (n .methods-named) .pre-exists)
 
 no-trace : NamesExist (sheet (point 0 0 0) (method 0 1 0 0 0) (pass-step 0 0)) → ⊥
-no-trace n = omega (arith, each-head (n .methods-named) .declared-named normal .0)
+no-trace n = omega (arith, each-head (n .methods-named) .declared-named normal)
 
 no-future : NamesExist (sheet (point 0 0 0) (method 0 0 1 0 0) (pass-step 0 0)) → ⊥
-no-future n = omega (arith, each-head (n .methods-named) .declared-named normal .1)
+no-future n = omega (arith, each-head (n .methods-named) .declared-named normal)
 
 no-entry : NamesExist (sheet (point 0 0 0) (method 0 0 0 1 0) (pass-step 0 0)) → ⊥
-no-entry n = omega (arith, each-head (n .methods-named) .body-named .0)
+no-entry n = omega (arith, each-head (n .methods-named) .body-named)
 
 no-exit : NamesExist (sheet (point 0 0 0) (method 0 0 0 0 1) (pass-step 0 0)) → ⊥
-no-exit n = omega (arith, each-head (n .methods-named) .body-named .1)
+no-exit n = omega (arith, each-head (n .methods-named) .body-named)
 
 no-failed-trace : NamesExist (sheet (point 0 0 0) (failingMethod 1 0 0) (pass-step 0 0)) → ⊥
-no-failed-trace n = omega (arith, each-head (n .methods-named) .declared-named failed .0)
+no-failed-trace n = omega (arith, each-head (n .methods-named) .declared-named failed)
 
 no-failed-future : NamesExist (sheet (point 0 0 0) (failingPrimitive 0 1) (pass-step 0 0)) → ⊥
-no-failed-future n = omega (arith, each-head (n .methods-named) .declared-named failed .1)
+no-failed-future n = omega (arith, each-head (n .methods-named) .declared-named failed)
 
 no-failed-exit : NamesExist (sheet (point 0 0 0) (failingMethod 0 0 1) (pass-step 0 0)) → ⊥
-no-failed-exit n = omega (arith, each-head (n .methods-named) .body-named .2)
+no-failed-exit n = omega (arith, each-head (n .methods-named) .body-named)
 
 no-primitive-pre : NamesExist (sheet (point 0 0 0) (primitive 1 0 0) (pass-step 0 0)) → ⊥
 no-primitive-pre n = omega (arith, each-head (n .methods-named) .pre-exists)
 
 no-event-from : NamesExist (sheet (point 0 0 0) (method 0 0 0 0 0) (event-step 1 0 0)) → ⊥
-no-event-from n = omega (arith, each-head (n .steps-named) .0)
+no-event-from n = omega (arith, each-head (n .steps-named))
 
 no-event-to : NamesExist (sheet (point 0 0 0) (method 0 0 0 0 0) (event-step 0 1 0)) → ⊥
-no-event-to n = omega (arith, each-head (n .steps-named) .1)
+no-event-to n = omega (arith, each-head (n .steps-named))
 
 no-call-from : NamesExist (sheet (point 0 0 0) (method 0 0 0 0 0) (callFrom 1 0 0)) → ⊥
-no-call-from n = omega (arith, each-head (n .steps-named) .0)
+no-call-from n = omega (arith, each-head (n .steps-named))
 
 no-call-to : NamesExist (sheet (point 0 0 0) (method 0 0 0 0 0) (callFrom 0 1 0)) → ⊥
-no-call-to n = omega (arith, each-head (n .steps-named) .1)
+no-call-to n = omega (arith, each-head (n .steps-named))
 
 no-call-method : NamesExist (sheet (point 0 0 0) (method 0 0 0 0 0) (callFrom 0 0 1)) → ⊥
-no-call-method n = omega (arith, each-head (n .steps-named) .3)
+no-call-method n = omega (arith, each-head (n .steps-named))
 
 no-failed-target : NamesExist (sheet (point 0 0 0) (failingMethod 0 0 0) (failingCallFrom 0 0 1 0)) → ⊥
-no-failed-target n = omega (arith, each-head (n .steps-named) .2)
+no-failed-target n = omega (arith, each-head (n .steps-named))
 
 no-failing-call-method : NamesExist (sheet (point 0 0 0) (failingMethod 0 0 0) (failingCallFrom 0 0 0 1)) → ⊥
-no-failing-call-method n = omega (arith, each-head (n .steps-named) .3)
+no-failing-call-method n = omega (arith, each-head (n .steps-named))
 
 no-pass-from : NamesExist (sheet (point 0 0 0) (method 0 0 0 0 0) (pass-step 1 0)) → ⊥
-no-pass-from n = omega (arith, each-head (n .steps-named) .0)
+no-pass-from n = omega (arith, each-head (n .steps-named))
 
 no-pass-to : NamesExist (sheet (point 0 0 0) (method 0 0 0 0 0) (pass-step 0 1)) → ⊥
-no-pass-to n = omega (arith, each-head (n .steps-named) .1)
+no-pass-to n = omega (arith, each-head (n .steps-named))
 
 -- of 32 events 31 is the last; a method has a body, and a primitive has none
 no-event : EventBelow 32 (event-step 0 0 32) → ⊥
@@ -160,28 +158,28 @@ all-fit : OutcomesFit (sheet (point 0 0 0) (method 0 0 0 0 0) (callFrom 0 0 0))
     × OutcomesFit (sheet (point 0 0 0) (failingMethod 0 0 0) (failingCallFrom 0 0 0 0))
     × OutcomesFit (sheet (point 0 0 0) (failingPrimitive 0 0) (failingCallFrom 0 0 0 0))
 all-fit = (
-  fits (method 0 0 0 0 0) (callFrom 0 0 0) refl refl,
-  fits (primitive 0 0 0) (callFrom 0 0 0) tt refl,
-  fits (failingMethod 0 0 0) (failingCallFrom 0 0 0 0) refl refl,
-  fits (failingPrimitive 0 0) (failingCallFrom 0 0 0 0) tt refl,
+  fits (method 0 0 0 0 0) (callFrom 0 0 0) (search) (search),
+  fits (primitive 0 0 0) (callFrom 0 0 0) (search) (search),
+  fits (failingMethod 0 0 0) (failingCallFrom 0 0 0 0) (search) (search),
+  fits (failingPrimitive 0 0) (failingCallFrom 0 0 0 0) (search) (search),
 )
 
 -- what 18 is for
-no-target : OutcomesFit (sheet (point 0 0 0) (failingMethod 0 0 0) (callFrom 0 0 0)) → ⊥
-no-target f = subst T (sym (each-head (f .targets-fit))) tt
+no-target : OutcomesFit (sheet (point 0 0 0) (failingMethod 0 0 0) (callFrom 0 0 0)) → false ≡ true
+no-target f = each-head (f .targets-fit)
 
-no-target-for-primitive : OutcomesFit (sheet (point 0 0 0) (failingPrimitive 0 0) (callFrom 0 0 0)) → ⊥
-no-target-for-primitive f = subst T (sym (each-head (f .targets-fit))) tt
+no-target-for-primitive : OutcomesFit (sheet (point 0 0 0) (failingPrimitive 0 0) (callFrom 0 0 0)) → false ≡ true
+no-target-for-primitive f = each-head (f .targets-fit)
 
-stray-target : OutcomesFit (sheet (point 0 0 0) (method 0 0 0 0 0) (failingCallFrom 0 0 0 0)) → ⊥
-stray-target f = subst T (each-head (f .targets-fit)) tt
+stray-target : OutcomesFit (sheet (point 0 0 0) (method 0 0 0 0 0) (failingCallFrom 0 0 0 0)) → true ≡ false
+stray-target f = each-head (f .targets-fit)
 
 -- a failed exit without a failed trace, and the other way
 abbrev withExit : Option Declared → Option ℕ → Method
 withExit failing exit = record { pre = 0; normal = declared 0 0; failing = failing; body = some (record { entry = 0; exit = 0; failed-exit = exit }) }
 
-stray-exit : OutcomesFit (sheet (point 0 0 0) (withExit none (some 0)) (pass-step 0 0)) → ⊥
-stray-exit f = subst T (each-head (f .exits-fit)) tt
+stray-exit : OutcomesFit (sheet (point 0 0 0) (withExit none (some 0)) (pass-step 0 0)) → true ≡ false
+stray-exit f = each-head (f .exits-fit)
 
-no-exit-for-failing : OutcomesFit (sheet (point 0 0 0) (withExit (some (declared 0 0)) none) (pass-step 0 0)) → ⊥
-no-exit-for-failing f = subst T (sym (each-head (f .exits-fit))) tt
+no-exit-for-failing : OutcomesFit (sheet (point 0 0 0) (withExit (some (declared 0 0)) none) (pass-step 0 0)) → false ≡ true
+no-exit-for-failing f = each-head (f .exits-fit)
