@@ -1,5 +1,5 @@
 -- The instruments by evaluation: the longest sheet that each reads, and one byte more; as many points as the entry instrument takes, and one more;
--- which number names which.
+-- the kinds that they take; which number names which.
 use mathlib.Core.Path.{_≡_, refl}
 use mathlib.Core.List.{List, [], _∷_, _++_, map}
 use Prim.Native.Nat.{ℕ, zero, suc}
@@ -58,6 +58,16 @@ too-many-points = refl
 read-by-large : numberAndPlace (readSheet (modelOf Large) (withPoints 65)) ≡ []
 unfolding readSheet
 read-by-large = refl
+
+-- both take kinds up to 17: a condition, a point, a method and a primitive with two outcomes, and a call of each; and none above
+abbrev withFailing : List ℕ
+withFailing =
+    (0x02 ∷ 0x06 ∷ []) ++ (points 1 ++ ((0x10 ∷ replicate 16 0) ++ ((0x0F ∷ replicate 10 0) ++ ((0x11 ∷ replicate 8 0) ++ (0x11 ∷ 0 ∷ 0 ∷ 0 ∷ 0 ∷ 0 ∷ 0 ∷ 1 ∷ 0 ∷ [])))))
+
+kinds-read : map (λ i. map (λ s. numberAndPlace (readSheet (modelOf i) s)) (withFailing ∷ (0x0F ∷ []) ∷ (0x12 ∷ []) ∷ [])) (Large ∷ Entry ∷ [])
+    ≡ replicate 2 ([] ∷ (3 ∷ 0 ∷ []) ∷ (2 ∷ 0 ∷ []) ∷ [])
+unfolding readSheet
+kinds-read = refl
 
 -- the numbers that name an instrument, and numbers beside them
 named : map instrumentOf (0 ∷ 1 ∷ 2 ∷ 3 ∷ 4294967297 ∷ []) ≡ Unknown ∷ Known Large ∷ Known Entry ∷ Unknown ∷ Unknown ∷ []
