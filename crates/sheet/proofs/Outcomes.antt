@@ -4,7 +4,7 @@ use mathlib.Core.Path.{_≡_, refl, sym, ap, _∙_, subst}
 use mathlib.Core.Bool.{Bool, true, false, not, cond, _&&_, _||_}
 use mathlib.Core.Option.{none, some}
 use mathlib.Core.List.{List, [], _∷_, _++_, map, append-assoc}
-use Prim.Native.Nat.{ℕ, zero, suc, _<_}
+use Prim.Native.Nat.{ℕ, zero, suc, _+_, _<_}
 use native.Mathlib.Nat.{le-of-suc-le-suc, not-suc-le-zero}
 use native.Mathlib.Omega.{arith}
 use lib.ListN.{length, getD, getElem?}
@@ -14,11 +14,13 @@ use Rattle.sheet.specs.Model.{Model}
 use Rattle.sheet.specs.Each.{Each, nil, cons}
 use Rattle.sheet.specs.Sheet.{failed, Declared, Body, Method, event-step, callFrom, failingCallFrom, pass-step, Sheet, declaredIn}
 use Rattle.sheet.specs.Kind.{methods, kindOf, sectionOf}
-use Rattle.sheet.specs.Record.{Record, byteAt, recordAt, nextAt, value}
-use Rattle.sheet.specs.Reading.{Counted, Reading, fresh, tally, startOf, startsOf, isPrimitive, hasTwoOutcomes, methodRecord, twoOutcomesIn, pastAt, whole, readSheet}
+use Rattle.sheet.specs.Record.{Record, byteAt, valuesAt, recordAt, nextAt, value}
+use Rattle.sheet.specs.Reading.{Counted, Reading, fresh, tally, startOf, startsOf, isPrimitive, hasTwoOutcomes, allExist, methodRecord, twoOutcomesIn, wrongOutcomes, pastAt, whole, readSheet}
 use Rattle.sheet.specs.Decode.{methodOf, stepOf, sheetRead, sheetOf}
+use Rattle.sheet.specs.AtOffset.{shortAt}
 use Rattle.sheet.specs.Names.{isSome, ExitsFit, TargetsFit, OutcomesFit}
 use Rattle.sheet.proofs.Each.{each-map, each-all, each-append, each-mapped}
+use Rattle.sheet.proofs.Fields.{shortsThen, names-alone}
 use Rattle.sheet.proofs.Take.{or-false, Took}
 use Rattle.sheet.proofs.ReadOn.{read-keeps}
 use Rattle.sheet.proofs.Own.{counted, own-cases}
@@ -66,27 +68,26 @@ and-false false b h e = absurd (subst T (sym e) tt)
 abbrev methodsIn : Reading → List Counted
 methodsIn r = r .before methods ++ r .own methods
 
+-- the fields of a record of the kind k exist: what 7 leaves
+fields-exist : (events : ℕ) (s : List ℕ) (at : ℕ) (r : Reading) (k : ℕ) → byteAt s at ≡ k
+    → T (allExist events (tally r) (kindOf (byteAt s at) .fields) (recordAt s at .values)) → FieldsExist events (tally r) (kindOf k .fields) (recordAt s at)
+unfolding recordAt
+fields-exist events s at r k e names =
+    subst (λ (k : ℕ). FieldsExist events (tally r) (kindOf k .fields) (recordAt s at)) e (at-exists events (tally r) s at names)
+
 module _ (M : Model) (s : List ℕ) where
   -- not 18, and not 7
   fits-now : (at : ℕ) (r : Reading) → Took M s at r → CallFits (methodsIn r) (recordAt s at)
   unfolding recordAt
   fits-now at r w =
-      let (no-11, no-17) = or-false (eqb (byteAt s at) 11 && twoOutcomesIn (methodRecord r (value x 2))) _ (w .outcomes) in
+      let (no-11, no-17) = or-false (eqb (byteAt s at) 11 && twoOutcomesIn (methodRecord r (value (recordAt s at) 2))) _ (w .outcomes) in
       record {
-        of-11 = λ e. calls-in (methodsIn r) (value x 2) (ltb→lt _ _ (exist 11 e 2 (omega arith))) (and-false (eqb (byteAt s at) 11) _ no-11 e);
-        of-17 =
-            λ e.
-            calls-in (methodsIn r) (value x 3) (ltb→lt _ _ (exist 17 e 3 (omega arith)))
-            (not-false _ (and-false (eqb (byteAt s at) 17) _ no-17 e));
+        of-11 = λ e. calls-in (methodsIn r) _ (ltb→lt _ _ (exist 11 e 2 (omega arith))) (and-false (eqb (byteAt s at) 11) _ no-11 e);
+        of-17 = λ e. calls-in (methodsIn r) _ (ltb→lt _ _ (exist 17 e 3 (omega arith))) (not-false _ (and-false (eqb (byteAt s at) 17) _ no-17 e));
       }
     where
-      x : Record
-      x = recordAt s at
-
       exist : (k : ℕ) → eqb (byteAt s at) k ≡ true → FieldsExist (M .events) (tally r) (kindOf k .fields) (recordAt s at)
-      exist k e =
-          subst (λ (k : ℕ). FieldsExist (M .events) (tally r) (kindOf k .fields) (recordAt s at)) (eqb-true (byteAt s at) k e)
-          (at-exists (M .events) (tally r) s at (w .names))
+      exist k e = fields-exist (M .events) s at r k (eqb-true (byteAt s at) k e) (w .names)
 
   -- each step's, and nothing was counted before the sheet
   abbrev StepsFit : ℕ → Reading → Type 0
@@ -176,12 +177,59 @@ pub methods-past : (s : List ℕ) (at : ℕ) (r : Reading) → (3 ≡ sectionOf 
     → MethodsStand s (pastAt s at r)
 methods-past s at r starts h = record { none-before = h .none-before; kinds = kinds-past s at r 3 starts (h .kinds) }
 
+-- the kind of its method with a number, at the offset where that starts
+abbrev pub methodKind : List ℕ → Reading → ℕ → ℕ
+methodKind s r m = byteAt s (getD (startsOf (r .own methods)) m 0)
+
 pub method-outcomes : (s : List ℕ) (r : Reading) → MethodsStand s r → (m : ℕ) → m < tally r methods
-    → twoOutcomesIn (methodRecord r m)
-    ≡ (eqb (byteAt s (getD (startsOf (r .own methods)) m 0)) 15 || eqb (byteAt s (getD (startsOf (r .own methods)) m 0)) 16)
+    → twoOutcomesIn (methodRecord r m) ≡ (eqb (methodKind s r m) 15 || eqb (methodKind s r m) 16)
 method-outcomes s r h m l =
     ap (λ (before : List Counted). twoOutcomesIn (getElem? (map (λ (c : Counted). c .last) (before ++ r .own 3)) m)) (h .none-before)
     ∙ two-outcomes-at s (h .kinds) m (subst (λ (before : List Counted). m < length (before ++ r .own 3)) (h .none-before) l)
+
+-- 18 by offsets: whether it applies to the record at an offset, where 7 does not
+module _ (events : ℕ) (s : List ℕ) (at : ℕ) (r : Reading) (h : MethodsStand s r)
+    (names : T (allExist events (tally r) (kindOf (byteAt s at) .fields) (recordAt s at .values))) where
+  -- the name in a field of a record whose fields are all names
+  named-in : (k i : ℕ) (ks : List ℕ) → byteAt s at ≡ k → valuesAt s (at + 1) (kindOf k .fields) ≡ shortsThen s at 1 ks []
+      → value (recordAt s at) i ≡ getD (shortsThen s at 1 ks []) i 0
+  unfolding recordAt
+  named-in k i ks e is = ap (λ (k : ℕ). getD (valuesAt s (at + 1) (kindOf k .fields)) i 0) e ∙ ap (λ (vs : List ℕ). getD vs i 0) is
+
+  outcomes-of : (m n : ℕ) → m < tally r methods → m ≡ n → twoOutcomesIn (methodRecord r m) ≡ (eqb (methodKind s r n) 15 || eqb (methodKind s r n) 16)
+  outcomes-of m n l e = method-outcomes s r h m l ∙ ap (λ (n : ℕ). eqb (methodKind s r n) 15 || eqb (methodKind s r n) 16) e
+
+  pub wrong-11 : byteAt s at ≡ 11
+      → wrongOutcomes r (recordAt s at) ≡ (eqb (methodKind s r (shortAt s (at + 5))) 15 || eqb (methodKind s r (shortAt s (at + 5))) 16)
+  unfolding recordAt
+  wrong-11 e =
+      ap (λ (k : ℕ). (eqb k 11 && twoOutcomesIn (methodRecord r (value x 2))) || (eqb k 17 && not (twoOutcomesIn (methodRecord r (value x 3))))) e
+      ∙ or-false-right (twoOutcomesIn (methodRecord r (value x 2)))
+      ∙ outcomes-of (value x 2) (shortAt s (at + 5)) (ltb→lt _ _ (fields-exist events s at r 11 e names 2 (omega arith)))
+      (named-in 11 2 (2 ∷ 2 ∷ 3 ∷ []) e (names-alone s at (2 ∷ 2 ∷ 3 ∷ [])))
+    where
+      x : Record
+      x = recordAt s at
+
+      or-false-right : (b : Bool) → (b || false) ≡ b
+      or-false-right true = refl
+      or-false-right false = refl
+
+  pub wrong-17 : byteAt s at ≡ 17
+      → wrongOutcomes r (recordAt s at) ≡ not (eqb (methodKind s r (shortAt s (at + 7))) 15 || eqb (methodKind s r (shortAt s (at + 7))) 16)
+  unfolding recordAt
+  wrong-17 e =
+      ap (λ (k : ℕ). (eqb k 11 && twoOutcomesIn (methodRecord r (value x 2))) || (eqb k 17 && not (twoOutcomesIn (methodRecord r (value x 3))))) e
+      ∙ ap not (outcomes-of (value x 3) (shortAt s (at + 7)) (ltb→lt _ _ (fields-exist events s at r 17 e names 3 (omega arith)))
+      (named-in 17 3 (2 ∷ 2 ∷ 2 ∷ 3 ∷ []) e (names-alone s at (2 ∷ 2 ∷ 2 ∷ 3 ∷ []))))
+    where
+      x : Record
+      x = recordAt s at
+
+-- no record of another kind has it
+pub never-wrong : (s : List ℕ) (at : ℕ) (r : Reading) → eqb (byteAt s at) 11 ≡ false → eqb (byteAt s at) 17 ≡ false → wrongOutcomes r (recordAt s at) ≡ false
+unfolding recordAt
+never-wrong s at r e f = rw (e, f)
 
 -- reading of a sheet that stands alone comes to an offset in a state: at the start, and past each record that is taken
 pub data Reached (M : Model) (s : List ℕ) : ℕ → Reading → Type 0 where
