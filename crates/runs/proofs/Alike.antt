@@ -9,9 +9,10 @@ use native.Mathlib.Omega.{arith}
 use lib.ListN.{getElem?}
 use Rattle.condition.specs.Condition.{empty, star, event, any, globally}
 use Rattle.condition.proofs.Words.{words}
-use Rattle.sheet.specs.Sheet.{event-step, callFrom, pass-step, Sheet, condition}
+use Rattle.sheet.specs.Sheet.{normal, event-step, callFrom, pass-step, Sheet, condition}
 use Rattle.runs.specs.Runs.{Call, Returned, Move, return, by-step, run}
 use Rattle.runs.specs.Owing.{InCaller, LiesInFuture}
+use Rattle.runs.proofs.Methods.{primitive, withBody}
 
 -- Method 0 goes from point 0 to 2. It calls the primitive 1, which raises nothing and asks that 0 does not come; then any number of times itself,
 -- by one step; then it passes or raises 2. At point 0 anything is due.
@@ -19,25 +20,22 @@ abbrev pub visits : Sheet
 visits = record {
   conditions = empty ∷ star (any 32) ∷ star (event 2) ∷ globally (2 ^ 32 - 1 - 1) ∷ [];
   points = record { past = 2; own = 0; due = 1 } ∷ record { past = 2; own = 2; due = 2 } ∷ record { past = 2; own = 2; due = 2 } ∷ [];
-  methods =
-      record { pre = 2; trace = 2; future = 2; body = some (record { entry = 0; exit = 2 }) }
-      ∷ record { pre = 1; trace = 0; future = 3; body = none }
-      ∷ [];
+  methods = withBody 2 2 2 0 2 ∷ primitive 1 0 3 ∷ [];
   steps = callFrom 0 1 1 ∷ callFrom 1 1 0 ∷ pass-step 1 2 ∷ event-step 1 2 2 ∷ [];
   certificates = [];
 }
 
 -- the primitive, method 0, the primitive again: now in the first of the two
 abbrev pub to-first : List Move
-to-first = by-step 0 [] ∷ by-step 1 [] ∷ by-step 0 [] ∷ []
+to-first = by-step 0 normal [] ∷ by-step 1 normal [] ∷ by-step 0 normal [] ∷ []
 
 -- it returns, to the outermost
 abbrev to-outermost : List Move
-to-outermost = to-first ++ (by-step 2 [] ∷ return ∷ [])
+to-outermost = to-first ++ (by-step 2 normal [] ∷ return normal ∷ [])
 
 -- the same step again: in the second
 abbrev to-second : List Move
-to-second = to-outermost ++ (by-step 1 [] ∷ [])
+to-second = to-outermost ++ (by-step 1 normal [] ∷ [])
 
 -- in the run of the moves, the last call to return (n = 0), the last but one (n = 1) and so on, if there is one
 abbrev returnedIn : List Move → ℕ → Option Returned
@@ -82,7 +80,12 @@ open-calls-are = (refl, refl, refl)
 
 -- the call of the primitive that the first made
 abbrev probed : Returned
-probed = record { call = record { method = 1; step = some 0; began = []; activation = record { number = 3; callers = 2 ∷ 0 ∷ [] } }; at = [] }
+probed =
+    record {
+      call = record { method = 1; step = some 0; began = []; activation = record { number = 3; callers = 2 ∷ 0 ∷ [] } };
+      outcome = normal;
+      at = [];
+    }
 
 pub is-probed : (returnedIn to-first 0 ≡ some probed) × (returnedIn to-outermost 1 ≡ some probed) × (returnedIn to-second 1 ≡ some probed)
 unfolding run

@@ -1,16 +1,16 @@
 -- Runs in which a future that is owed is not met: what is owed, as defined, does not hold of them.
 use mathlib.Core.Path.{_≡_, refl, subst}
 use mathlib.Core.Bool.{false}
-use mathlib.Core.Option.{none, some}
 use mathlib.Core.List.{List, [], _∷_, _++_, List·Memᴰ·head, List·Memᴰ·tail}
 use lib.Dec.{T}
 use Rattle.condition.specs.Condition.{Word, Condition, empty, join, either, star, Holds, event, any}
 use Rattle.condition.specs.Places.{accepts}
 use Rattle.condition.proofs.Words.{words}
 use Rattle.sheet.proofs.Each.{each-head, each-tail}
-use Rattle.sheet.specs.Sheet.{event-step, callFrom, Sheet}
+use Rattle.sheet.specs.Sheet.{normal, event-step, callFrom, Sheet}
 use Rattle.runs.specs.Runs.{Move, return, by-step, run}
 use Rattle.runs.specs.Owing.{Owing}
+use Rattle.runs.proofs.Methods.{primitive, withBody}
 
 -- what may follow the primitive: nothing more, or next the event 2 (advance); its trace is the one word 1 (close)
 abbrev asked : Condition
@@ -31,23 +31,19 @@ opening = record {
       ∷ record { past = 1; own = 1; due = 1 }
       ∷ record { past = 1; own = 1; due = 0 }
       ∷ [];
-  methods =
-      record { pre = 1; trace = 1; future = 0; body = some (record { entry = 0; exit = 2 }) }
-      ∷ record { pre = 1; trace = 1; future = 4; body = some (record { entry = 3; exit = 4 }) }
-      ∷ record { pre = 1; trace = 3; future = 4; body = none }
-      ∷ [];
+  methods = withBody 1 1 0 0 2 ∷ withBody 1 1 4 3 4 ∷ primitive 1 3 4 ∷ [];
   steps = callFrom 0 1 1 ∷ event-step 1 2 0 ∷ callFrom 3 4 2 ∷ callFrom 0 1 2 ∷ [];
   certificates = [];
 }
 
 -- control is in the activation that made the call, and open is due
-pub unmet-in-maker : Owing opening (run opening 0 (by-step 3 (1 ∷ []) ∷ [])) → ⊥
+pub unmet-in-maker : Owing opening (run opening 0 (by-step 3 normal (1 ∷ []) ∷ [])) → ⊥
 unfolding run
 unmet-in-maker o = lacks asked (0 ∷ []) refl (each-head o (List·Memᴰ·head refl) (0 ∷ []) (0, tt, refl))
 
 -- the moves to where method 1, which made the call, returns
 abbrev to-return : List Move
-to-return = by-step 0 [] ∷ by-step 2 (1 ∷ []) ∷ return ∷ []
+to-return = by-step 0 normal [] ∷ by-step 2 normal (1 ∷ []) ∷ return normal ∷ []
 
 -- control is in that activation's caller, and open is due
 pub unmet-in-caller : Owing opening (run opening 0 to-return) → ⊥
@@ -60,6 +56,6 @@ unfolding run
 unmet-of-body o = lacks asked (0 ∷ []) refl (each-head o (List·Memᴰ·head refl) (0 ∷ []) (0, tt, refl))
 
 -- open has been raised, and nothing more is due
-pub unmet-since : Owing opening (run opening 0 (to-return ++ (by-step 1 [] ∷ []))) → ⊥
+pub unmet-since : Owing opening (run opening 0 (to-return ++ (by-step 1 normal [] ∷ []))) → ⊥
 unfolding run
 unmet-since o = lacks asked (0 ∷ []) refl (each-head (each-tail o) (List·Memᴰ·tail (List·Memᴰ·head refl)) [] refl)

@@ -12,7 +12,7 @@ use lib.ListN.{length, getD, take, drop, take-append-drop}
 use lib.Seq.{take-suc, take-all, take-length}
 use Rattle.sheet.specs.Each.{Each, nil, cons}
 use Rattle.sheet.proofs.Each.{each-map, each-zip, each-head, each-tail, each-append, each-left, each-right, each-is-member, each-mapped, each-member}
-use Rattle.sheet.specs.Sheet.{CallStep, Sheet}
+use Rattle.sheet.specs.Sheet.{normal, CallStep, Sheet}
 use Rattle.runs.specs.Runs.{Call, Returned, State, calls, start, Move, return, callersNow, newCall, runOn, run}
 use Rattle.runs.specs.Owing.{callNumber, IsCaller, stateAfter, HowBegan, at-start, by-move, ToldApart}
 use Rattle.runs.proofs.Moves.{Makes, event-made, pass-made, primitive-made, open-made, return-made, move-case, run-append, run-on-keeps, run-keeps}
@@ -76,10 +76,10 @@ module _ (S : Sheet) where
   made-told : (s t : State) → Makes S s t → NumbersAt s → ToldAt s → ToldAt t
   made-told s t (event-made i found) n g = g
   made-told s t (pass-made i found) n g = g
-  made-told s t (primitive-made {t = x} i w found at is h) n g =
+  made-told s t (primitive-made {t = x} i o w found at is to h) n g =
       record { numbers = nodup-moved (newCall s i x) (s .open-calls) _ (new-nodup s i x n g); stacked = g .stacked }
   made-told s t (open-made {t = x} i found at is) n g = record { numbers = new-nodup s i x n g; stacked = upon (callers-are (g .stacked)) (g .stacked) }
-  made-told s t (return-made {c = c} {cs = cs} opened is at) n g =
+  made-told s t (return-made {c = c} {cs = cs} o opened is at to) n g =
       let k : Told (c ∷ cs) (s .returned-calls) = subst (λ x. Told x (s .returned-calls)) opened g in
       record { numbers = nodup-moved c cs (returned s) (k .numbers); stacked = stacked-below (k .stacked) }
 
@@ -107,20 +107,20 @@ module _ (S : Sheet) where
   made-calls : (s t : State) → Makes S s t → Each (OldOrNew s) (calls t)
   made-calls s t (event-made i found) = all-old s
   made-calls s t (pass-made i found) = all-old s
-  made-calls s t (primitive-made {t = x} i w found at is h) =
+  made-calls s t (primitive-made {t = x} i o w found at is to h) =
       each-moved (newCall s i x) (s .open-calls) (returned s) .0 (cons (new refl refl refl) (all-old s))
   made-calls s t (open-made i found at is) = cons (new refl refl refl) (all-old s)
-  made-calls s t (return-made {c = c} {cs = cs} opened is at) =
+  made-calls s t (return-made {c = c} {cs = cs} o opened is at to) =
       each-moved c cs (returned s) .0
       (subst (λ (xs : List Call). Each (OldOrNew s) (xs ++ returned s)) opened (all-old s))
 
   made-stay : (s t : State) → Makes S s t → Each (λ c. List·Memᴰ c (calls t)) (calls s)
   made-stay s t (event-made i found) = each-is-member (calls s)
   made-stay s t (pass-made i found) = each-is-member (calls s)
-  made-stay s t (primitive-made {t = x} i w found at is h) =
+  made-stay s t (primitive-made {t = x} i o w found at is to h) =
       each-tail (each-moved (newCall s i x) (s .open-calls) (returned s) .1 (each-is-member _))
   made-stay s t (open-made i found at is) = each-tail (each-is-member _)
-  made-stay s t (return-made {c = c} {cs = cs} opened is at) =
+  made-stay s t (return-made {c = c} {cs = cs} o opened is at to) =
       subst (λ (xs : List Call). Each (λ d. List·Memᴰ d (calls t)) (xs ++ returned s)) (sym opened)
       (each-moved c cs (returned s) .1 (each-is-member _))
 
@@ -147,9 +147,9 @@ module _ (S : Sheet) where
             subst (λ (xs : List Move). Each (OldOrNew (at k)) (calls (run S m xs))) (take-all k ms l ∙ sym (take-all (suc k) ms (omega arith)))
             (all-old (at k))
         go (no n) =
-            let x = getD ms k return in
+            let x = getD ms k (return normal) in
             subst (λ (t : State). Each (OldOrNew (at k)) (calls t))
-            (sym (ap (run S m) (take-suc ms k return (lt-of-not-le n)) ∙ run-append S m (take k ms) (x ∷ [])))
+            (sym (ap (run S m) (take-suc ms k (return normal) (lt-of-not-le n)) ∙ run-append S m (take k ms) (x ∷ [])))
             (made-one k x)
 
     -- How each call began ---------------------------------------------------------------------------------------------------

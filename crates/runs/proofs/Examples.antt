@@ -7,15 +7,16 @@ use mathlib.Core.Option.{none, some}
 use mathlib.Core.List.{List, [], _∷_, _++_, map}
 use Rattle.condition.specs.Condition.{Word, empty, join, star, event, any, _⊆_}
 use Rattle.sheet.specs.Each.{nil, cons}
-use Rattle.sheet.specs.Sheet.{Point, Method, event-step, callFrom, pass-step, Sheet}
+use Rattle.sheet.specs.Sheet.{normal, failed, Point, Method, event-step, callFrom, pass-step, Sheet}
 use Rattle.runs.specs.Rules.{_isIn_, holdsEmpty, _of_says_, exitRules, returnRules, firstsRules, rules, AllMet}
 use Rattle.runs.specs.Runs.{Call, Returned, State, Move, return, by-step, run}
+use Rattle.runs.proofs.Methods.{primitive, withBody}
 
 abbrev anywhere : Point
 anywhere = record { past = 0; own = 0; due = 0 }
 
 abbrev with-body : ℕ → ℕ → Method
-with-body entry exit = record { pre = 0; trace = 0; future = 0; body = some (record { entry = entry; exit = exit }) }
+with-body entry exit = withBody 0 0 0 entry exit
 
 -- Method 0 goes from point 0 to 3: it raises 2, calls method 1 and passes. Method 1 goes from point 4 to 5: it calls the primitive 2, whose
 -- trace is the one word 7. Step 4 leads out of the exit of method 0.
@@ -23,7 +24,7 @@ abbrev sheet : Sheet
 sheet = record {
   conditions = star (any 32) ∷ event 7 ∷ [];
   points = anywhere ∷ anywhere ∷ anywhere ∷ anywhere ∷ anywhere ∷ anywhere ∷ [];
-  methods = with-body 0 3 ∷ with-body 4 5 ∷ record { pre = 0; trace = 1; future = 0; body = none } ∷ [];
+  methods = with-body 0 3 ∷ with-body 4 5 ∷ primitive 0 1 0 ∷ [];
   steps = event-step 0 1 2 ∷ callFrom 1 2 1 ∷ pass-step 2 3 ∷ callFrom 4 5 2 ∷ event-step 3 3 5 ∷ [];
   certificates = [];
 }
@@ -40,7 +41,7 @@ of-2 = record { method = 2; step = some 3; began = 2 ∷ []; activation = record
 
 infix 30 _returned-at_
 abbrev _returned-at_ : Call → Word → Returned
-c returned-at h = record { call = c; at = h }
+c returned-at h = record { call = c; outcome = normal; at = h }
 
 -- a state before the end: the history, the point, the open and the returned calls
 abbrev midway : Word → ℕ → List Call → List Returned → State
@@ -67,27 +68,27 @@ m leaves s = record { made = m; leaves = s }
 abbrev rows : List Row
 rows =
     -- control is not at the exit of method 0
-    (return leaves midway [] 0 (of-0 ∷ []) [])
+    (return normal leaves midway [] 0 (of-0 ∷ []) [])
     -- the event step
-    ∷ (by-step 0 [] leaves midway (2 ∷ []) 1 (of-0 ∷ []) [])
+    ∷ (by-step 0 normal [] leaves midway (2 ∷ []) 1 (of-0 ∷ []) [])
     -- control is no longer at that step's from, and there is no step 9
-    ∷ (by-step 0 [] leaves midway (2 ∷ []) 1 (of-0 ∷ []) [])
-    ∷ (by-step 9 [] leaves midway (2 ∷ []) 1 (of-0 ∷ []) [])
+    ∷ (by-step 0 normal [] leaves midway (2 ∷ []) 1 (of-0 ∷ []) [])
+    ∷ (by-step 9 normal [] leaves midway (2 ∷ []) 1 (of-0 ∷ []) [])
     -- the call of method 1
-    ∷ (by-step 1 [] leaves midway (2 ∷ []) 4 (of-1 ∷ of-0 ∷ []) [])
+    ∷ (by-step 1 normal [] leaves midway (2 ∷ []) 4 (of-1 ∷ of-0 ∷ []) [])
     -- the call of the primitive, with a word that is not of its trace and with one that is
-    ∷ (by-step 3 (8 ∷ []) leaves midway (2 ∷ []) 4 (of-1 ∷ of-0 ∷ []) [])
-    ∷ (by-step 3 (7 ∷ []) leaves midway (2 ∷ 7 ∷ []) 5 (of-1 ∷ of-0 ∷ []) ((of-2 returned-at (2 ∷ 7 ∷ [])) ∷ []))
+    ∷ (by-step 3 normal (8 ∷ []) leaves midway (2 ∷ []) 4 (of-1 ∷ of-0 ∷ []) [])
+    ∷ (by-step 3 normal (7 ∷ []) leaves midway (2 ∷ 7 ∷ []) 5 (of-1 ∷ of-0 ∷ []) ((of-2 returned-at (2 ∷ 7 ∷ [])) ∷ []))
     -- method 1 returns to the target of step 1
-    ∷ (return leaves midway (2 ∷ 7 ∷ []) 2 (of-0 ∷ []) ((of-1 returned-at (2 ∷ 7 ∷ [])) ∷ (of-2 returned-at (2 ∷ 7 ∷ [])) ∷ []))
+    ∷ (return normal leaves midway (2 ∷ 7 ∷ []) 2 (of-0 ∷ []) ((of-1 returned-at (2 ∷ 7 ∷ [])) ∷ (of-2 returned-at (2 ∷ 7 ∷ [])) ∷ []))
     -- the pass
-    ∷ (by-step 2 [] leaves midway (2 ∷ 7 ∷ []) 3 (of-0 ∷ []) ((of-1 returned-at (2 ∷ 7 ∷ [])) ∷ (of-2 returned-at (2 ∷ 7 ∷ [])) ∷ []))
+    ∷ (by-step 2 normal [] leaves midway (2 ∷ 7 ∷ []) 3 (of-0 ∷ []) ((of-1 returned-at (2 ∷ 7 ∷ [])) ∷ (of-2 returned-at (2 ∷ 7 ∷ [])) ∷ []))
     -- method 0 returns, and the run ends
-    ∷ (return leaves at-end)
+    ∷ (return normal leaves at-end)
     -- moves after the end, also by a step whose from is the point where control is
-    ∷ (return leaves at-end)
-    ∷ (by-step 2 [] leaves at-end)
-    ∷ (by-step 4 [] leaves at-end)
+    ∷ (return normal leaves at-end)
+    ∷ (by-step 2 normal [] leaves at-end)
+    ∷ (by-step 4 normal [] leaves at-end)
     ∷ []
 
 -- the states of a run of the moves before, then each row's
@@ -118,10 +119,7 @@ told = record {
   conditions =
       event 0 ∷ event 1 ∷ event 2 ∷ event 3 ∷ event 4 ∷ event 5 ∷ event 6 ∷ event 7 ∷ event 8 ∷ event 9 ∷ event 10 ∷ event 11 ∷ [];
   points = record { past = 0; own = 1; due = 2 } ∷ record { past = 3; own = 4; due = 5 } ∷ [];
-  methods =
-      record { pre = 6; trace = 7; future = 8; body = some (record { entry = 0; exit = 1 }) }
-      ∷ record { pre = 9; trace = 10; future = 11; body = none }
-      ∷ [];
+  methods = withBody 6 7 8 0 1 ∷ primitive 9 10 11 ∷ [];
   steps = event-step 0 1 31 ∷ callFrom 0 1 1 ∷ pass-step 0 1 ∷ [];
   certificates = [];
 }
@@ -152,9 +150,10 @@ M-rules = cons refl (cons refl (cons in-itself (cons refl (cons in-itself (cons 
 
 -- More of both sheets -----------------------------------------------------------------------------------------------------
 
--- a word that is given with an event step, with the call of a method with body, or with a pass is not read
+-- a word or an outcome that is given with an event step, with the call of a method with body, or with a pass is not read
 words-unread : run sheet 0
-    (by-step 0 (9 ∷ []) ∷ by-step 1 (9 ∷ []) ∷ by-step 3 (7 ∷ []) ∷ return ∷ by-step 2 (9 ∷ []) ∷ return ∷ []) ≡ at-end
+    (by-step 0 failed (9 ∷ []) ∷ by-step 1 failed (9 ∷ []) ∷ by-step 3 normal (7 ∷ []) ∷ return normal ∷ by-step 2 failed (9 ∷ []) ∷ return normal ∷ [])
+    ≡ at-end
 unfolding run
 words-unread = refl
 
@@ -172,10 +171,10 @@ unfolding firstsRules
 rules-of-starts = refl
 
 -- the rules of an exit and of a return, numbered from 20 on; the return is to point 1, the step's own target is point 0
-rules-of-exit : exitRules told 20 0 1 ≡ (20 of 0 says event 4 isIn event 7) ∷ (21 of 0 says event 8 isIn event 5) ∷ []
+rules-of-exit : exitRules told 20 0 normal 1 ≡ (20 of 0 says event 4 isIn event 7) ∷ (21 of 0 says event 8 isIn event 5) ∷ []
 rules-of-exit = refl
 
-rules-of-return : returnRules told 20 3 (record { from = 0; to = 0; method = 1 }) 1
+rules-of-return : returnRules told 20 3 (record { from = 0; to = 0; failed-to = none; method = 1 }) normal 1
     ≡ (20 of 3 says join (event 0) (event 10) isIn event 3)
     ∷ (21 of 3 says join (event 1) (event 10) isIn event 4)
     ∷ (22 of 3 says event 5 isIn event 11)

@@ -6,7 +6,7 @@ use mathlib.Core.List.{List, [], _∷_, _++_}
 use Rattle.condition.specs.Condition.{Word}
 use Rattle.sheet.specs.Each.{Each, nil, cons}
 use Rattle.sheet.proofs.Each.{each-map, each-head, each-tail}
-use Rattle.sheet.specs.Sheet.{Sheet}
+use Rattle.sheet.specs.Sheet.{Outcome, Sheet}
 use Rattle.runs.specs.Runs.{Call, Returned, State, Extends, Grown, start, Move, newCall, run}
 use Rattle.runs.proofs.Adds.{Adds, adds-word, adds-more, adds-nothing}
 use Rattle.runs.proofs.Moves.{Makes, event-made, pass-made, primitive-made, open-made, return-made, run-keeps}
@@ -38,9 +38,9 @@ raise-grows w g =
       returned = each-map (λ r. grows-more w) (g .returned);
     }
 
-return-grows : {h : Word} {cs : List Call} {rs : List Returned} (c : Call) → Grows (c .began) h → EachGrows h cs rs
-    → EachGrows h cs (record { call = c; at = h } ∷ rs)
-return-grows {h} c b g = record { opened = g .opened; raised = cons b (g .raised); returned = cons (grows-self h) (g .returned) }
+return-grows : {h : Word} {cs : List Call} {rs : List Returned} (c : Call) (o : Outcome) → Grows (c .began) h → EachGrows h cs rs
+    → EachGrows h cs (record { call = c; outcome = o; at = h } ∷ rs)
+return-grows {h} c o b g = record { opened = g .opened; raised = cons b (g .raised); returned = cons (grows-self h) (g .returned) }
 
 abbrev EachGrowsAt : State → Type 0
 EachGrowsAt s = EachGrows (s .history) (s .open-calls) (s .returned-calls)
@@ -49,13 +49,13 @@ module _ (S : Sheet) where
   made-grows : (s t : State) → s .ended ≡ false → Makes S s t → EachGrowsAt s → EachGrowsAt t
   made-grows s t z (event-made {a = a} i found) g = raise-grows (a ∷ []) g
   made-grows s t z (pass-made i found) g = raise-grows [] g
-  made-grows s t z (primitive-made {t = x} i w found at is h) g =
-      return-grows (newCall s i x) (grows-more w (grows-self (s .history))) (raise-grows w g)
+  made-grows s t z (primitive-made {t = x} i o w found at is to h) g =
+      return-grows (newCall s i x) o (grows-more w (grows-self (s .history))) (raise-grows w g)
   made-grows s t z (open-made i found at is) g =
       record { opened = cons (grows-self (s .history)) (g .opened); raised = g .raised; returned = g .returned }
-  made-grows s t z (return-made {c = c} {cs = cs} opened is at) g =
+  made-grows s t z (return-made {c = c} {cs = cs} o opened is at to) g =
       let k : EachGrows (s .history) (c ∷ cs) (s .returned-calls) = subst (λ x. EachGrows (s .history) x (s .returned-calls)) opened g in
-      return-grows c (each-head (k .opened)) record { opened = each-tail (k .opened); raised = k .raised; returned = k .returned }
+      return-grows c o (each-head (k .opened)) record { opened = each-tail (k .opened); raised = k .raised; returned = k .returned }
 
   start-grows : (m : ℕ) → EachGrowsAt (start S m)
   unfolding start

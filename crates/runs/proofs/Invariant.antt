@@ -6,7 +6,7 @@ use mathlib.Core.Option.{Option, none, some}
 use mathlib.Core.List.{List, [], _∷_, _++_}
 use Rattle.condition.specs.Condition.{Word, Holds}
 use Rattle.sheet.specs.Each.{Each}
-use Rattle.sheet.specs.Sheet.{Step, Sheet, past, own, due}
+use Rattle.sheet.specs.Sheet.{Outcome, Step, Sheet, past, own, due, body, exitIn}
 use Rattle.runs.specs.Runs.{Call, Returned, State, preOf, traceOf, futureOf, fromOf, madeBy, targetOr}
 use Rattle.runs.proofs.Adds.{Adds}
 use Rattle.runs.proofs.Rules.{ReturnRules}
@@ -34,12 +34,16 @@ module _ (S : Sheet) where
 
   -- wherever a return from c leads, the step that made c has the rules of that return
   abbrev pub ReturnsWell : Call → Option Step → Type 0
-  ReturnsWell c t = (here : ℕ) → ReturnRules S (source t) (targetOr here t) (traceOf S c) (futureOf S c)
+  ReturnsWell c t = (here : ℕ) (o : Outcome) (q : ℕ) → targetOr here o t ≡ some q → ReturnRules S (source t) q (traceOf S c o) (futureOf S c o)
 
-  -- Control is at p after h. The future of the outermost call holds the empty word. Each other call was made by a step with its rules, and its
-  -- caller stands where that step starts, after the history at the call's beginning.
+  -- the future of each outcome that c may end by holds the empty word
+  abbrev pub EndsWell : Call → Type 0
+  EndsWell c = (o : Outcome) (e : ℕ) → exitIn o (body S (c .method)) ≡ some e → Holds (futureOf S c o) []
+
+  -- Control is at p after h. The outermost call may end. Each other call was made by a step with its rules, and its caller stands where that step
+  -- starts, after the history at the call's beginning.
   pub data Frames : ℕ → Word → List Call → Type 0 where
-    outermost : {p : ℕ} {h : Word} {c : Call} → Stands p h c → Holds (futureOf S c) [] → Frames p h (c ∷ [])
+    outermost : {p : ℕ} {h : Word} {c : Call} → Stands p h c → EndsWell c → Frames p h (c ∷ [])
     inner : {p : ℕ} {h : Word} {c : Call} {cs : List Call} → Stands p h c → ReturnsWell c (madeBy S (c .step))
         → Frames (origin c) (c .began) cs → Frames p h (c ∷ cs)
 
@@ -47,20 +51,20 @@ module _ (S : Sheet) where
 
   pub record Well (r : Returned) : Type 0 where
     pub began : Begun (r .call)
-    pub raised : Adds (r .call .began) (r .at) (Holds (traceOf S (r .call)))
+    pub raised : Adds (r .call .began) (r .at) (Holds (traceOf S (r .call) (r .outcome)))
 
-  -- what was raised since r's return, followed by any word of the due at p, is in r's future
+  -- what was raised since r's return, followed by any word of the due at p, is in the future of r's outcome
   abbrev pub Due : Returned → ℕ → Word → Type 0
-  Due r p h = Adds (r .at) h (λ u. (v : Word) → Holds (due S p) v → Holds (futureOf S (r .call)) (u ++ v))
+  Due r p h = Adds (r .at) h (λ u. (v : Word) → Holds (due S p) v → Holds (futureOf S (r .call) (r .outcome)) (u ++ v))
 
   -- it is so where the active call stands, or where one below it stands; the calls above that one began after r's return, and are not r's callers
   pub data Owed (r : Returned) : ℕ → Word → List Call → Type 0 where
     here : {p : ℕ} {h : Word} {c : Call} {cs : List Call} → Due r p h → Owed r p h (c ∷ cs)
     below : {p : ℕ} {h : Word} {c : Call} {cs : List Call} → (IsCaller c (r .call) → ⊥) → Owed r (origin c) (c .began) cs → Owed r p h (c ∷ cs)
 
-  -- what was raised since r's return is in r's future
+  -- what was raised since r's return is in the future of r's outcome
   abbrev pub Ended : Word → Returned → Type 0
-  Ended h r = Adds (r .at) h (Holds (futureOf S (r .call)))
+  Ended h r = Adds (r .at) h (Holds (futureOf S (r .call) (r .outcome)))
 
   -- The state ------------------------------------------------------------------------------------------------------------
 

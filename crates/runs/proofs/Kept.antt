@@ -8,7 +8,7 @@ use lib.ListN.{getElem?}
 use Rattle.condition.specs.Condition.{Word, Holds}
 use Rattle.sheet.specs.Each.{Each, nil, cons}
 use Rattle.sheet.proofs.Each.{each-map, each-zip}
-use Rattle.sheet.specs.Sheet.{Body, CallStep, call-step, Sheet, past, body}
+use Rattle.sheet.specs.Sheet.{Outcome, Body, CallStep, call-step, Sheet, past, body, exitIn, targetFor}
 use Rattle.runs.specs.Runs.{Call, Returned, State, preOf, traceOf, futureOf, entryOf, start, Move, raise, newCall, openCall, returnedNow, madeBy, targetOr, noneOpen, close, run}
 use Rattle.runs.specs.Owing.{IsCaller}
 use Rattle.sheet.specs.Names.{HasBody}
@@ -19,7 +19,7 @@ use Rattle.runs.proofs.Numbers.{NumbersAt, next-is-new, made-numbers, s
 use Rattle.runs.proofs.Invariant.{Begun, Stands, source, origin, ReturnsWell, Frames, outermost, inner, Well, Due, Ended, Owed, here, below, Running, Good, running, over}
 
 module _ (S : Sheet) where
-  -- A word is raised: rules 7 to 9, 11, 12 and 14 to 17 -------------------------------------------------------------------
+  -- A word is raised: rules 7 to 9, 11, 12 and 14 to 19, and 21 ---------------------------------------------------------------
 
   module _ {p q : ℕ} {w : Word} (l : Leads S p w q) where
     advance-stands : {h : Word} {c : Call} → Stands S p h c → Stands S q (h ++ w) c
@@ -36,7 +36,7 @@ module _ (S : Sheet) where
     advance : {h : Word} {cs : List Call} {rs : List Returned} → Running S p h cs rs → Running S q (h ++ w) cs rs
     advance g = record { frames = advance-frames (g .frames); owed = each-map advance-owed (g .owed); well = g .well }
 
-  -- A call begins: rules 3, 4 and 10, and 13 of a primitive, which returns at once -----------------------------------------
+  -- A call begins: rules 3, 4 and 10, and 13 or 20 of a primitive, which returns at once -----------------------------------
 
   frames-past : {p : ℕ} {h : Word} {cs : List Call} → Frames S p h cs → Holds (past S p) h
   frames-past (outermost x f) = x .in-past
@@ -52,13 +52,15 @@ module _ (S : Sheet) where
     begun : Begun S (newCall s i t)
     begun = k .rule-10 _ (frames-past (g .frames))
 
-    primitive-good : (w : Word) → Holds (traceOf S (newCall s i t)) w → Good S (returnedNow (newCall s i t) (raise w (t .to) s))
-    primitive-good w h =
-        let a : Running S (t .to) (s .history ++ w) (s .open-calls) (s .returned-calls) = advance (k .return .leads w h) g in
+    primitive-good : (o : Outcome) (w : Word) {q : ℕ} → targetFor o t ≡ some q → Holds (traceOf S (newCall s i t) o) w
+        → Good S (returnedNow (newCall s i t) o (raise w q s))
+    primitive-good o w {q} to h =
+        let rules = k .returns o q to in
+        let a : Running S q (s .history ++ w) (s .open-calls) (s .returned-calls) = advance (rules .leads w h) g in
         running going
         record {
           frames = a .frames;
-          owed = cons (owed-here _ (a .frames) (adds-nothing (k .return .rule-13))) (a .owed);
+          owed = cons (owed-here _ (a .frames) (adds-nothing (rules .rule-13-20))) (a .owed);
           well = cons (record { began = begun; raised = record { word = w; is = refl; inside = h } }) (g .well);
         }
 
@@ -71,7 +73,7 @@ module _ (S : Sheet) where
           frames =
               inner
               (record { in-pre = begun; in-past = rules .rule-3 _ begun; in-own = adds-nothing (rules .rule-4) })
-              (subst (ReturnsWell S (newCall s i t)) (sym found) (λ here. k .return))
+              (subst (ReturnsWell S (newCall s i t)) (sym found) (λ here. k .returns))
               (from (λ p. Frames S p (s .history) (s .open-calls)) (g .frames));
           owed = each-zip (λ r o n. below n (from (λ p. Owed S r p (s .history) (s .open-calls)) o)) (g .owed) new;
           well = g .well;
@@ -80,34 +82,34 @@ module _ (S : Sheet) where
         from : (P : ℕ → Type 0) → P (t .from) → P (origin S (newCall s i t))
         from P = subst P (sym (ap (source S) found))
 
-  -- A call returns: rules 5, 6 and 13 -------------------------------------------------------------------------------------
+  -- A call returns: rules 5, 6 and 13, or 22, 23 and 20 ---------------------------------------------------------------------
 
-  module _ {p : ℕ} {h : Word} (c : Call) (e : ExitRules S (traceOf S c) (futureOf S c) p) (x : Stands S p h c) where
-    well-now : Well S (record { call = c; at = h })
-    well-now = record { began = x .in-pre; raised = adds-weaker (x .in-own) (e .rule-5) }
+  module _ {p : ℕ} {h : Word} (c : Call) (o : Outcome) (e : ExitRules S (traceOf S c o) (futureOf S c o) p) (x : Stands S p h c) where
+    well-now : Well S (record { call = c; outcome = o; at = h })
+    well-now = record { began = x .in-pre; raised = adds-weaker (x .in-own) (e .rule-5-22) }
 
     -- the outermost
-    met-at-end : (r : Returned) → Holds (futureOf S c) [] → Owed S r p h (c ∷ []) → Ended S h r
-    met-at-end r f (here d) = adds-weaker d (λ u k. rw append-nil at (k [] (e .rule-6 [] f)))
-    met-at-end r f (below n o) = absurd (elim o [ ])
+    met-at-end : (r : Returned) → Holds (futureOf S c o) [] → Owed S r p h (c ∷ []) → Ended S h r
+    met-at-end r f (here d) = adds-weaker d (λ u k. rw append-nil at (k [] (e .rule-6-23 [] f)))
+    met-at-end r f (below n d) = absurd (elim d [ ])
 
     -- another, to the target q of its step
-    module _ {q : ℕ} {cs : List Call} (k : ReturnRules S (origin S c) q (traceOf S c) (futureOf S c)) (f : Frames S (origin S c) (c .began) cs) where
+    module _ {q : ℕ} {cs : List Call} (k : ReturnRules S (origin S c) q (traceOf S c o) (futureOf S c o)) (f : Frames S (origin S c) (c .began) cs) where
       back-leads : Leads S (origin S c) (x .in-own .word) q
-      back-leads = k .leads (x .in-own .word) (e .rule-5 _ (x .in-own .inside))
+      back-leads = k .leads (x .in-own .word) (e .rule-5-22 _ (x .in-own .inside))
 
       back-frames : Frames S q h cs
       back-frames = subst (λ y. Frames S q y cs) (sym (x .in-own .is)) (advance-frames back-leads f)
 
       back-owed : (r : Returned) → Owed S r p h (c ∷ cs) → Owed S r q h cs
-      back-owed r (here d) = owed-here r back-frames (adds-weaker d (λ u f v y. f v (e .rule-6 v (k .rule-13 v y))))
-      back-owed r (below n o) = subst (λ y. Owed S r q y cs) (sym (x .in-own .is)) (advance-owed back-leads r o)
+      back-owed r (here d) = owed-here r back-frames (adds-weaker d (λ u f v y. f v (e .rule-6-23 v (k .rule-13-20 v y))))
+      back-owed r (below n d) = subst (λ y. Owed S r q y cs) (sym (x .in-own .is)) (advance-owed back-leads r d)
 
-      back : {rs : List Returned} → Running S p h (c ∷ cs) rs → Running S q h cs (record { call = c; at = h } ∷ rs)
+      back : {rs : List Returned} → Running S p h (c ∷ cs) rs → Running S q h cs (record { call = c; outcome = o; at = h } ∷ rs)
       back g =
           record {
             frames = back-frames;
-            owed = cons (owed-here _ back-frames (adds-nothing (k .rule-13))) (each-map back-owed (g .owed));
+            owed = cons (owed-here _ back-frames (adds-nothing (k .rule-13-20))) (each-map back-owed (g .owed));
             well = cons well-now (g .well);
           }
 
@@ -115,17 +117,18 @@ module _ (S : Sheet) where
   some-open (outermost x f) = refl
   some-open (inner x k f) = refl
 
-  return-good : (s : State) {c : Call} {cs : List Call} → ExitRules S (traceOf S c) (futureOf S c) (s .point)
-      → Frames S (s .point) (s .history) (c ∷ cs) → Running S (s .point) (s .history) (c ∷ cs) (s .returned-calls)
-      → Good S (close s c cs (targetOr (s .point) (madeBy S (c .step))))
-  return-good s {c} e (outermost x f) g =
+  return-good : (s : State) {c : Call} {cs : List Call} {o : Outcome} {q : ℕ} → ExitRules S (traceOf S c o) (futureOf S c o) (s .point)
+      → exitIn o (body S (c .method)) ≡ some (s .point) → targetOr (s .point) o (madeBy S (c .step)) ≡ some q
+      → Frames S (s .point) (s .history) (c ∷ cs) → Running S (s .point) (s .history) (c ∷ cs) (s .returned-calls) → Good S (close s o c cs q)
+  return-good s {c} {o = o} e at to (outermost x ends) g =
+      let f = ends o (s .point) at in
       over refl
       record {
         none-open = refl;
-        met = cons (adds-nothing f) (each-map (λ r. met-at-end c e x r f) (g .owed));
-        well = cons (well-now c e x) (g .well);
+        met = cons (adds-nothing f) (each-map (λ r. met-at-end c o e x r f) (g .owed));
+        well = cons (well-now c o e x) (g .well);
       }
-  return-good s {c} e (inner x k f) g = running (some-open f) (back c e x (k (s .point)) f g)
+  return-good s {c} {o = o} {q = q} e at to (inner x k f) g = running (some-open f) (back c o e x (k (s .point) o q to) f g)
 
   -- Every move -----------------------------------------------------------------------------------------------------------
 
@@ -141,13 +144,13 @@ module _ (S : Sheet) where
     made-good s t z made n (over e g) = absurd (false≢true (sym z ∙ e))
     made-good s t z (event-made i found) n (running e g) = running z (advance (subst (StepRules S) found (R .steps i)) g)
     made-good s t z (pass-made i found) n (running e g) = running z (advance (subst (StepRules S) found (R .steps i)) g)
-    made-good s t z (primitive-made i w found at is h) n (running e g) =
-        primitive-good s z i (subst (StepRules S) found (R .steps i)) (stands-at s at g) w h
+    made-good s t z (primitive-made i o w found at is to h) n (running e g) =
+        primitive-good s z i (subst (StepRules S) found (R .steps i)) (stands-at s at g) o w to h
     made-good s t z (open-made {t = x} i found at is) n (running e g) =
         open-good s z i (subst (StepRules S) found (R .steps i)) (stands-at s at g) found (rules-of (newCall s i x) is) (next-is-new s i x n)
-    made-good s t z (return-made {c = c} opened is at) n (running e g) =
+    made-good s t z (return-made {c = c} o opened is at to) n (running e g) =
         let k = subst (λ cs. Running S (s .point) (s .history) cs (s .returned-calls)) opened g in
-        return-good s (subst (ExitRules S (traceOf S c) (futureOf S c)) (sym at) (rules-of c is .exit)) (k .frames) k
+        return-good s (rules-of c is .exits o (s .point) at) (ap (exitIn o) is ∙ at) to (k .frames) k
 
     start-good : HasBody (body S m₀) → Good S (start S m₀)
     unfolding start
@@ -160,7 +163,7 @@ module _ (S : Sheet) where
               frames =
                   outermost
                   (record { in-pre = R .first .rule-1; in-past = b .rule-3 [] (R .first .rule-1); in-own = adds-nothing (b .rule-4) })
-                  (R .first .rule-2);
+                  (R .first .rule-2-24);
               owed = nil;
               well = nil;
             }

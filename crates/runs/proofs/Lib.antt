@@ -4,6 +4,7 @@ pub mod Unsafe
 pub mod Rules
 pub mod Count
 pub mod Adds
+pub mod Methods
 pub mod Moves
 pub mod Grow
 pub mod Numbers

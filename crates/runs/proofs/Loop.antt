@@ -13,7 +13,7 @@ use Rattle.bits.specs.Bits.{has}
 use Rattle.condition.specs.Condition.{Word, Condition, empty, join, either, star, any, event, Holds}
 use Rattle.condition.specs.Places.{accepts}
 use Rattle.certificate.specs.Certificate.{Certificate}
-use Rattle.sheet.specs.Sheet.{Point, CallStep, event-step, call-step, pass-step, Sheet, body}
+use Rattle.sheet.specs.Sheet.{normal, Point, CallStep, event-step, call-step, pass-step, Sheet, body}
 use Rattle.sheet.proofs.Each.{each-member}
 use Rattle.sheet.specs.Names.{HasBody}
 use Rattle.runs.specs.Rules.{rulesFrom, AllMet}
@@ -41,11 +41,11 @@ module _ (S : Sheet) (r : Returned) (h : Word) where
   later-kept : (s t : State) → s .ended ≡ false → Makes S s t → Later r h s → Later r h t
   later-kept s t z (event-made {q = q} {a = a} i found) l = raised-later s (a ∷ []) q l
   later-kept s t z (pass-made {q = q} i found) l = raised-later s [] q l
-  later-kept s t z (primitive-made {t = x} i w found at is held) l =
-      let k = raised-later s w (x .to) l in
+  later-kept s t z (primitive-made {q = q} i o w found at is to held) l =
+      let k = raised-later s w q l in
       record { returned = List·Memᴰ·tail (k .returned); added = k .added; goes-on = k .goes-on }
   later-kept s t z (open-made i found at is) l = record { returned = l .returned; added = l .added; goes-on = l .goes-on }
-  later-kept s t z (return-made opened is at) l =
+  later-kept s t z (return-made o opened is at to) l =
       record { returned = List·Memᴰ·tail (l .returned); added = l .added; goes-on = l .goes-on }
 
   later : (s : State) (ms : List Move) → Later r h s → Later r h (runOn S s ms)
@@ -53,7 +53,8 @@ module _ (S : Sheet) (r : Returned) (h : Word) where
 
 -- Going round twice -----------------------------------------------------------------------------------------------------
 
--- A run that ends, in which the call of a primitive by the step `close` is followed, without an event between them, by an event step that raises 0:
+-- A run that ends, in which a call of a primitive by the step `close` returns normally and is followed, without an event between them, by an event
+-- step that raises 0:
 -- "called last in a loop whose body starts with event 0".
 pub record TwiceRound (S : Sheet) (m : ℕ) (close : CallStep) : Type 0 where
   pub before : List Move
@@ -66,42 +67,42 @@ pub record TwiceRound (S : Sheet) (m : ℕ) (close : CallStep) : Type 0 where
   pub last-is : getElem? (S .steps) last ≡ some (call-step close)
   pub last-from : run S m before .point ≡ close .from
   pub primitive : body S (close .method) ≡ none
-  pub in-trace : accepts (traceOf S (newCall (run S m before) last close)) word ≡ true
+  pub in-trace : accepts (traceOf S (newCall (run S m before) last close) normal) word ≡ true
   -- the way back, which raises nothing
-  pub quiet : runOn S (move S (run S m before) (by-step last word)) between .history ≡ run S m before .history ++ word
+  pub quiet : runOn S (move S (run S m before) (by-step last normal word)) between .history ≡ run S m before .history ++ word
   -- the first step of the second round
   pub first : ℕ
   pub first-to : ℕ
-  pub still-running : runOn S (move S (run S m before) (by-step last word)) between .ended ≡ false
-  pub first-is : getElem? (S .steps) first ≡ some (event-step (runOn S (move S (run S m before) (by-step last word)) between .point) first-to 0)
+  pub still-running : runOn S (move S (run S m before) (by-step last normal word)) between .ended ≡ false
+  pub first-is : getElem? (S .steps) first ≡ some (event-step (runOn S (move S (run S m before) (by-step last normal word)) between .point) first-to 0)
   -- the run ends
-  pub ends : run S m (before ++ (by-step last word ∷ (between ++ (by-step first [] ∷ after)))) .ended ≡ true
+  pub ends : run S m (before ++ (by-step last normal word ∷ (between ++ (by-step first normal [] ∷ after)))) .ended ≡ true
 
 module _ (S : Sheet) (m : ℕ) (close : CallStep) (t : TwiceRound S m close) where
   abbrev s₁ : State
   s₁ = run S m (t .before)
 
   abbrev s₂ : State
-  s₂ = move S s₁ (by-step (t .last) (t .word))
+  s₂ = move S s₁ (by-step (t .last) normal (t .word))
 
   abbrev s₃ : State
   s₃ = runOn S s₂ (t .between)
 
   abbrev s₄ : State
-  s₄ = move S s₃ (by-step (t .first) [])
+  s₄ = move S s₃ (by-step (t .first) normal [])
 
   abbrev all-moves : List Move
-  all-moves = t .before ++ (by-step (t .last) (t .word) ∷ (t .between ++ (by-step (t .first) [] ∷ t .after)))
+  all-moves = t .before ++ (by-step (t .last) normal (t .word) ∷ (t .between ++ (by-step (t .first) normal [] ∷ t .after)))
 
   -- the call that ends the first round
   abbrev closed : Returned
-  closed = record { call = newCall s₁ (t .last) close; at = s₁ .history ++ t .word }
+  closed = record { call = newCall s₁ (t .last) close; outcome = normal; at = s₁ .history ++ t .word }
 
-  closes : s₂ ≡ returnedNow (newCall s₁ (t .last) close) (raise (t .word) (close .to) s₁)
-  closes = by-trace S s₁ (t .last) (t .word) (t .running) close (t .last-is) (t .last-from) (t .primitive) true (t .in-trace)
+  closes : s₂ ≡ returnedNow (newCall s₁ (t .last) close) normal (raise (t .word) (close .to) s₁)
+  closes = by-trace S s₁ (t .last) normal (t .word) (t .running) close (t .last-is) (t .last-from) (t .primitive) refl true (t .in-trace)
 
   opens : s₄ ≡ raise (0 ∷ []) (t .first-to) s₃
-  opens = step-made S s₃ (t .first) [] (t .still-running) (event-step (s₃ .point) (t .first-to) 0) (t .first-is) refl
+  opens = step-made S s₃ (t .first) normal [] (t .still-running) (event-step (s₃ .point) (t .first-to) 0) (t .first-is) refl
 
   on-next : (s : State) (x : Move) (xs : List Move) → runOn S s (x ∷ xs) ≡ runOn S (move S s x) xs
   unfolding runOn
@@ -135,12 +136,12 @@ module _ (S : Sheet) (m : ℕ) (close : CallStep) (t : TwiceRound S m close) whe
       ∙ drop-append-seam (closed .at) (0 ∷ closed-then-0 .added)
 
   -- where no word of close's future starts with 0, the rules are not all true
-  pub not-all-met : HasBody (body S m) → ((v : Word) → Holds (futureOf S (closed .call)) (0 ∷ v) → ⊥) → AllMet (rulesFrom (m ∷ []) S) → ⊥
+  pub not-all-met : HasBody (body S m) → ((v : Word) → Holds (futureOf S (closed .call) normal) (0 ∷ v) → ⊥) → AllMet (rulesFrom (m ∷ []) S) → ⊥
   not-all-met b no-0 h =
       let ended = runs-are-safe S (m ∷ []) h m (List·Memᴰ·head refl) b all-moves .ended-well (t .ends) in
       no-0 (closed-then-0 .added)
-      (subst (Holds (futureOf S (closed .call))) since-close
-      (each-member (λ r. Holds (futureOf S (r .call)) (since (r .at) (run S m all-moves .history))) ended (closed-then-0 .returned)))
+      (subst (Holds (futureOf S (closed .call) normal)) since-close
+      (each-member (λ r. Holds (futureOf S (r .call) (r .outcome)) (since (r .at) (run S m all-moves .history))) ended (closed-then-0 .returned)))
 
 -- The future of document 01: "With 0 open, 1 close, 2 advance" --------------------------------------------------------------
 
@@ -165,15 +166,20 @@ no-0 v (inr h) =
 module _ (conditions : List Condition) (points : List Point) (pre trace future close-pre : ℕ) (certificates : List Certificate) where
   -- the call of "close"
   abbrev closing : CallStep
-  closing = record { from = 1; to = 2; method = 1 }
+  closing = record { from = 1; to = 2; failed-to = none; method = 1 }
 
   abbrev loop : Sheet
   loop = record {
     conditions = event 1 ∷ advanceNext ∷ conditions;
     points = points;
     methods =
-        record { pre = pre; trace = trace; future = future; body = some (record { entry = 0; exit = 3 }) }
-        ∷ record { pre = close-pre; trace = 0; future = 1; body = none }
+        record {
+          pre = pre;
+          normal = record { trace = trace; future = future };
+          failing = none;
+          body = some (record { entry = 0; exit = 3; failed-exit = none });
+        }
+        ∷ record { pre = close-pre; normal = record { trace = 0; future = 1 }; failing = none; body = none }
         ∷ [];
     steps = event-step 0 1 0 ∷ call-step closing ∷ pass-step 2 0 ∷ pass-step 2 3 ∷ [];
     certificates = certificates;
@@ -182,9 +188,9 @@ module _ (conditions : List Condition) (points : List Point) (pre trace future c
   twice-round : TwiceRound loop 0 closing
   unfolding run
   twice-round = record {
-    before = by-step 0 [] ∷ [];
-    between = by-step 2 [] ∷ [];
-    after = by-step 1 (1 ∷ []) ∷ by-step 3 [] ∷ return ∷ [];
+    before = by-step 0 normal [] ∷ [];
+    between = by-step 2 normal [] ∷ [];
+    after = by-step 1 normal (1 ∷ []) ∷ by-step 3 normal [] ∷ return normal ∷ [];
     last = 1;
     word = 1 ∷ [];
     running = refl;

@@ -10,13 +10,18 @@ use Rattle.bits.proofs.Tests.{T-true, T-false}
 use Rattle.condition.specs.Condition.{Word, Condition, Holds}
 use Rattle.condition.specs.Places.{accepts}
 use Rattle.condition.proofs.Words.{words}
-use Rattle.sheet.specs.Sheet.{Body, CallStep, Step, event-step, call-step, pass-step, Sheet, body}
-use Rattle.runs.specs.Runs.{Call, State, traceOf, start, Move, return, by-step, raise, newCall, openCall, returnedNow, makeCall, makeStep, fromOf, tryStep, madeBy, targetOr, close, exitsAt, tryReturn, tryMove, move, MadeByTrace, runOn, run}
+use Rattle.sheet.specs.Sheet.{Outcome, Body, CallStep, Step, event-step, call-step, pass-step, Sheet, body, exitFor, exitIn, targetFor}
+use Rattle.runs.specs.Runs.{Call, State, traceOf, start, Move, return, by-step, raise, newCall, openCall, returnedNow, makeReturn, makeCall, makeStep, fromOf, tryStep, madeBy, targetOr, close, closeTo, isAt, tryReturn, tryMove, move, MadeByTrace, runOn, run}
 
 -- what holds of both sides holds of the choice
 by-test : {A : Type 0} (P : A → Type 0) (b : Bool) {x y : A} → (b ≡ true → P x) → (b ≡ false → P y) → P (cond b x y)
 by-test P true f g = f refl
 by-test P false f g = g refl
+
+-- a choice between a state and itself
+either-way : (b : Bool) (s : State) → cond b s s ≡ s
+either-way true s = refl
+either-way false s = refl
 
 same-number : (m n : ℕ) → eqb m n ≡ true → m ≡ n
 same-number m n e = eqb→eq m n (subst T (sym e) tt)
@@ -29,42 +34,60 @@ module _ (S : Sheet) where
   pub data Makes (s : State) : State → Type 0 where
     event-made : {q a : ℕ} (i : ℕ) → getElem? (S .steps) i ≡ some (event-step (s .point) q a) → Makes s (raise (a ∷ []) q s)
     pass-made : {q : ℕ} (i : ℕ) → getElem? (S .steps) i ≡ some (pass-step (s .point) q) → Makes s (raise [] q s)
-    primitive-made : {t : CallStep} (i : ℕ) (w : Word) → getElem? (S .steps) i ≡ some (call-step t) → s .point ≡ t .from
-        → body S (t .method) ≡ none → Holds (traceOf S (newCall s i t)) w → Makes s (returnedNow (newCall s i t) (raise w (t .to) s))
+    primitive-made : {t : CallStep} {q : ℕ} (i : ℕ) (o : Outcome) (w : Word) → getElem? (S .steps) i ≡ some (call-step t) → s .point ≡ t .from
+        → body S (t .method) ≡ none → targetFor o t ≡ some q → Holds (traceOf S (newCall s i t) o) w
+        → Makes s (returnedNow (newCall s i t) o (raise w q s))
     open-made : {t : CallStep} {b : Body} (i : ℕ) → getElem? (S .steps) i ≡ some (call-step t) → s .point ≡ t .from
         → body S (t .method) ≡ some b → Makes s (openCall (newCall s i t) (b .entry) s)
-    return-made : {c : Call} {cs : List Call} {b : Body} → s .open-calls ≡ c ∷ cs → body S (c .method) ≡ some b → s .point ≡ b .exit
-        → Makes s (close s c cs (targetOr (s .point) (madeBy S (c .step))))
+    return-made : {c : Call} {cs : List Call} {b : Body} {q : ℕ} (o : Outcome) → s .open-calls ≡ c ∷ cs → body S (c .method) ≡ some b
+        → exitFor o b ≡ some (s .point) → targetOr (s .point) o (madeBy S (c .step)) ≡ some q → Makes s (close s o c cs q)
 
   -- what holds of s, and of what each move that can be made from s leads to, holds after trying any move
   module _ (P : State → Type 0) (s : State) (same : P s) (made : (t : State) → Makes s t → P t) where
-    call-case : {t : CallStep} (i : ℕ) (w : Word) → getElem? (S .steps) i ≡ some (call-step t) → s .point ≡ t .from → (d : Option Body)
-        → body S (t .method) ≡ d → P (makeCall S s (newCall s i t) w (t .to) d)
-    call-case {t} i w found at none is =
-        by-test P _ (λ e. made _ (primitive-made i w found at is (held (traceOf S (newCall s i t)) w e))) (λ e. same)
-    call-case i w found at (some b) is = made _ (open-made i found at is)
+    module _ (i : ℕ) (o : Outcome) (w : Word) where
+      primitive-case : {t : CallStep} → getElem? (S .steps) i ≡ some (call-step t) → s .point ≡ t .from → body S (t .method) ≡ none
+          → (q : Option ℕ) → targetFor o t ≡ q → P (makeReturn s (newCall s i t) o w (traceOf S (newCall s i t) o) q)
+      primitive-case found at is none to = same
+      primitive-case {t} found at is (some q) to =
+          by-test P _ (λ e. made _ (primitive-made i o w found at is to (held (traceOf S (newCall s i t) o) w e))) (λ e. same)
 
-    step-case : (i : ℕ) (w : Word) (t : Step) → getElem? (S .steps) i ≡ some t → s .point ≡ fromOf t → P (makeStep S s i w t)
-    step-case i w (event-step p q a) found at = made _ (event-made i (rw at found))
-    step-case i w (call-step t) found at = call-case i w found at (body S (t .method)) refl
-    step-case i w (pass-step p q) found at = made _ (pass-made i (rw at found))
+      call-case : {t : CallStep} → getElem? (S .steps) i ≡ some (call-step t) → s .point ≡ t .from → (d : Option Body) → body S (t .method) ≡ d
+          → P (makeCall S s (newCall s i t) o w (targetFor o t) d)
+      call-case {t} found at none is = primitive-case found at is (targetFor o t) refl
+      call-case found at (some b) is = made _ (open-made i found at is)
 
-    try-step-case : (i : ℕ) (w : Word) (t : Option Step) → getElem? (S .steps) i ≡ t → P (tryStep S s i w t)
-    try-step-case i w none found = same
-    try-step-case i w (some t) found = by-test P _ (λ e. step-case i w t found (same-number _ _ e)) (λ e. same)
+      step-case : (t : Step) → getElem? (S .steps) i ≡ some t → s .point ≡ fromOf t → P (makeStep S s i o w t)
+      step-case (event-step p q a) found at = made _ (event-made i (rw at found))
+      step-case (call-step t) found at = call-case found at (body S (t .method)) refl
+      step-case (pass-step p q) found at = made _ (pass-made i (rw at found))
 
-    exit-case : {c : Call} {cs : List Call} → s .open-calls ≡ c ∷ cs → (d : Option Body) → body S (c .method) ≡ d
-        → P (cond (exitsAt d (s .point)) (close s c cs (targetOr (s .point) (madeBy S (c .step)))) s)
-    exit-case e none is = same
-    exit-case e (some b) is = by-test P _ (λ x. made _ (return-made e is (same-number _ _ x))) (λ x. same)
+      try-step-case : (t : Option Step) → getElem? (S .steps) i ≡ t → P (tryStep S s i o w t)
+      try-step-case none found = same
+      try-step-case (some t) found = by-test P _ (λ e. step-case t found (same-number _ _ e)) (λ e. same)
 
-    try-return-case : (cs : List Call) → s .open-calls ≡ cs → P (tryReturn S s cs)
-    try-return-case [] e = same
-    try-return-case (c ∷ cs) e = exit-case e (body S (c .method)) refl
+    module _ (o : Outcome) where
+      close-case : {c : Call} {cs : List Call} {b : Body} → s .open-calls ≡ c ∷ cs → body S (c .method) ≡ some b → exitFor o b ≡ some (s .point)
+          → (q : Option ℕ) → targetOr (s .point) o (madeBy S (c .step)) ≡ q → P (closeTo s o c cs q)
+      close-case opened is at none to = same
+      close-case opened is at (some q) to = made _ (return-made o opened is at to)
+
+      exit-case : {c : Call} {cs : List Call} {b : Body} → s .open-calls ≡ c ∷ cs → body S (c .method) ≡ some b → (e : Option ℕ) → exitFor o b ≡ e
+          → P (cond (isAt e (s .point)) (closeTo s o c cs (targetOr (s .point) o (madeBy S (c .step)))) s)
+      exit-case opened is none at = same
+      exit-case opened is (some e) at = by-test P _ (λ x. close-case opened is (at ∙ ap some (sym (same-number _ _ x))) _ refl) (λ x. same)
+
+      body-case : {c : Call} {cs : List Call} → s .open-calls ≡ c ∷ cs → (d : Option Body) → body S (c .method) ≡ d
+          → P (cond (isAt (exitIn o d) (s .point)) (closeTo s o c cs (targetOr (s .point) o (madeBy S (c .step)))) s)
+      body-case opened none is = same
+      body-case opened (some b) is = exit-case opened is (exitFor o b) refl
+
+      try-return-case : (cs : List Call) → s .open-calls ≡ cs → P (tryReturn S s o cs)
+      try-return-case [] opened = same
+      try-return-case (c ∷ cs) opened = body-case opened (body S (c .method)) refl
 
     try-move-case : (m : Move) → P (tryMove S s m)
-    try-move-case return = try-return-case (s .open-calls) refl
-    try-move-case (by-step i w) = try-step-case i w (getElem? (S .steps) i) refl
+    try-move-case (return o) = try-return-case o (s .open-calls) refl
+    try-move-case (by-step i o w) = try-step-case i o w (getElem? (S .steps) i) refl
 
   -- what holds of s, and of what each move that is made leads to, holds after any move
   pub move-case : (P : State → Type 0) (s : State) → P s → ((t : State) → s .ended ≡ false → Makes s t → P t) → (m : Move) → P (move S s m)
@@ -94,28 +117,56 @@ module _ (S : Sheet) where
     pub run-keeps : (m : ℕ) → P (start S m) → (ms : List Move) → P (run S m ms)
     run-keeps m h ms = subst P (run-is m ms) (run-on-keeps (start S m) ms h)
 
--- A step that starts where control is, and a primitive's step, which is made with exactly the words of its trace -----------------
+-- A step that starts where control is, and a primitive's step: without a target for the outcome it changes nothing, with one it is made with exactly
+-- the words of that outcome's trace -----------------------------------------------------------------------------------------
 
-module _ (S : Sheet) (s : State) (i : ℕ) (w : Word) (going : s .ended ≡ false) where
-  pub step-made : (t : Step) → getElem? (S .steps) i ≡ some t → s .point ≡ fromOf t → move S s (by-step i w) ≡ makeStep S s i w t
+module _ (S : Sheet) (s : State) (i : ℕ) (o : Outcome) (w : Word) (going : s .ended ≡ false) where
+  pub step-made : (t : Step) → getElem? (S .steps) i ≡ some t → s .point ≡ fromOf t → move S s (by-step i o w) ≡ makeStep S s i o w t
   unfolding move
   step-made t found at =
-      ap (λ (b : Bool). cond b s (tryMove S s (by-step i w))) going
-      ∙ (ap (tryStep S s i w) found
-      ∙ ap (λ (b : Bool). cond b (makeStep S s i w t) s) (subst (λ x. eqb (s .point) x ≡ true) at (T-true _ (eqb-refl (s .point)))))
+      ap (λ (b : Bool). cond b s (tryMove S s (by-step i o w))) going
+      ∙ (ap (tryStep S s i o w) found
+      ∙ ap (λ (b : Bool). cond b (makeStep S s i o w t) s) (subst (λ x. eqb (s .point) x ≡ true) at (T-true _ (eqb-refl (s .point)))))
 
   module _ (t : CallStep) (found : getElem? (S .steps) i ≡ some (call-step t)) (at : s .point ≡ t .from) (primitive : body S (t .method) ≡ none) where
-    pub by-trace : (b : Bool) → accepts (traceOf S (newCall s i t)) w ≡ b
-        → move S s (by-step i w) ≡ cond b (returnedNow (newCall s i t) (raise w (t .to) s)) s
-    by-trace b e =
+    by-target : (q : Option ℕ) → targetFor o t ≡ q
+        → move S s (by-step i o w) ≡ makeReturn s (newCall s i t) o w (traceOf S (newCall s i t) o) q
+    by-target q to =
         step-made (call-step t) found at
-        ∙ (ap (makeCall S s (newCall s i t) w (t .to)) primitive
-        ∙ ap (λ (x : Bool). cond x (returnedNow (newCall s i t) (raise w (t .to) s)) s) e)
+        ∙ (ap (makeCall S s (newCall s i t) o w (targetFor o t)) primitive
+        ∙ ap (makeReturn s (newCall s i t) o w (traceOf S (newCall s i t) o)) to)
 
-    pub made-by-trace : MadeByTrace S s i t w
-    made-by-trace =
-        let T = traceOf S (newCall s i t) in
+    -- a call without a failed target does not fail
+    pub nowhere-to : targetFor o t ≡ none → move S s (by-step i o w) ≡ s
+    nowhere-to to = by-target none to
+
+    pub by-trace : {q : ℕ} → targetFor o t ≡ some q → (b : Bool) → accepts (traceOf S (newCall s i t) o) w ≡ b
+        → move S s (by-step i o w) ≡ cond b (returnedNow (newCall s i t) o (raise w q s)) s
+    by-trace {q} to b e = by-target (some q) to ∙ ap (λ (x : Bool). cond x (returnedNow (newCall s i t) o (raise w q s)) s) e
+
+    pub made-by-trace : {q : ℕ} → targetFor o t ≡ some q → MadeByTrace S s i t o q w
+    made-by-trace to =
+        let T = traceOf S (newCall s i t) o in
         record {
-          made = λ h. by-trace true (T-true (accepts T w) (words T w .1 h));
-          not-made = λ n. by-trace false (T-false (accepts T w) (λ a. n (words T w .0 a)));
+          made = λ h. by-trace to true (T-true (accepts T w) (words T w .1 h));
+          not-made = λ n. by-trace to false (T-false (accepts T w) (λ a. n (words T w .0 a)));
         }
+
+-- A return by an outcome for which the method has no exit, or its call no target, changes nothing ---------------------------
+
+module _ (S : Sheet) (s : State) (o : Outcome) {c : Call} {cs : List Call} (opened : s .open-calls ≡ c ∷ cs) where
+  returning : move S s (return o) ≡ cond (s .ended) s (tryReturn S s o (c ∷ cs))
+  unfolding move
+  returning = ap (λ (x : List Call). cond (s .ended) s (tryReturn S s o x)) opened
+
+  pub no-exit : exitIn o (body S (c .method)) ≡ none → move S s (return o) ≡ s
+  no-exit e =
+      returning
+      ∙ (ap (λ (x : Option ℕ). cond (s .ended) s (cond (isAt x (s .point)) (closeTo s o c cs (targetOr (s .point) o (madeBy S (c .step)))) s)) e
+      ∙ either-way (s .ended) s)
+
+  pub no-target : targetOr (s .point) o (madeBy S (c .step)) ≡ none → move S s (return o) ≡ s
+  no-target e =
+      returning
+      ∙ (ap (λ (x : Option ℕ). cond (s .ended) s (cond (isAt (exitIn o (body S (c .method))) (s .point)) (closeTo s o c cs x) s)) e
+      ∙ (ap (cond (s .ended) s) (either-way (isAt (exitIn o (body S (c .method))) (s .point)) s) ∙ either-way (s .ended) s))

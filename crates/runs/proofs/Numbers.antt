@@ -55,7 +55,7 @@ module _ (S : Sheet) where
   pub made-numbers : (s t : State) → Makes S s t → NumbersAt s → NumbersAt t
   made-numbers s t (event-made i found) g = g
   made-numbers s t (pass-made i found) g = g
-  made-numbers s t (primitive-made {t = x} i w found at is h) g =
+  made-numbers s t (primitive-made {t = x} i o w found at is to h) g =
       record {
         opened = each-map (more-calls (omega arith)) (g .opened);
         returned = cons (new-numbered s i x g (omega arith)) (each-map (λ r. more-calls (omega arith) (r .call)) (g .returned));
@@ -65,7 +65,7 @@ module _ (S : Sheet) where
         opened = cons (new-numbered s i x g (omega arith)) (each-map (more-calls (omega arith)) (g .opened));
         returned = each-map (λ r. more-calls (omega arith) (r .call)) (g .returned);
       }
-  made-numbers s t (return-made {c = c} {cs = cs} opened is at) g =
+  made-numbers s t (return-made {c = c} {cs = cs} o opened is at to) g =
       let k : Numbers (c ∷ cs) (s .returned-calls) = subst (λ x. Numbers x (s .returned-calls)) opened g in
       record {
         opened = each-map (more-calls (omega arith)) (each-tail (k .opened));

@@ -8,10 +8,11 @@ use native.Mathlib.Omega.{arith}
 use Rattle.condition.specs.Condition.{Word, event}
 use Rattle.condition.specs.Places.{accepts}
 use Rattle.condition.proofs.Words.{words}
-use Rattle.sheet.specs.Sheet.{CallStep, event-step, call-step, Sheet}
+use Rattle.sheet.specs.Sheet.{Outcome, normal, failed, CallStep, event-step, call-step, Sheet}
 use Rattle.sheet.proofs.Each.{each-head}
 use lib.ListN.{length, getD}
 use Rattle.runs.specs.Runs.{Call, Returned, State, Grown, move, MadeByTrace}
+use Rattle.runs.proofs.Methods.{primitive}
 
 -- Histories ---------------------------------------------------------------------------------------------------------------
 
@@ -25,23 +26,23 @@ state h cs rs = record { history = h; open-calls = cs; returned-calls = rs; poin
 not-since-beginning : Grown (state (2 ∷ []) (began-after (1 ∷ []) ∷ []) []) → ⊥
 not-since-beginning g = let e = ap (λ (w : Word). getD w 0 0) (each-head (g .since-beginning)) in omega (arith, e)
 
-not-while-open : Grown (state (2 ∷ []) [] (record { call = began-after (1 ∷ []); at = 2 ∷ [] } ∷ [])) → ⊥
+not-while-open : Grown (state (2 ∷ []) [] (record { call = began-after (1 ∷ []); outcome = normal; at = 2 ∷ [] } ∷ [])) → ⊥
 not-while-open g = let e = ap (λ (w : Word). getD w 0 0) (each-head (g .while-open)) in omega (arith, e)
 
-not-since-return : Grown (state (2 ∷ []) [] (record { call = began-after []; at = 1 ∷ [] } ∷ [])) → ⊥
+not-since-return : Grown (state (2 ∷ []) [] (record { call = began-after []; outcome = normal; at = 1 ∷ [] } ∷ [])) → ⊥
 not-since-return g = let e = ap (λ (w : Word). getD w 0 0) (each-head (g .since-return)) in omega (arith, e)
 
 -- Steps -------------------------------------------------------------------------------------------------------------------
 
 -- step 0 calls the primitive 0, whose trace is the one word 7; step 1 raises 3
 abbrev called : CallStep
-called = record { from = 0; to = 0; method = 0 }
+called = record { from = 0; to = 0; failed-to = none; method = 0 }
 
 abbrev sheet : Sheet
 sheet = record {
   conditions = event 7 ∷ [];
   points = record { past = 0; own = 0; due = 0 } ∷ [];
-  methods = record { pre = 0; trace = 0; future = 0; body = none } ∷ [];
+  methods = primitive 0 0 0 ∷ [];
   steps = call-step called ∷ event-step 0 0 3 ∷ [];
   certificates = [];
 }
@@ -50,14 +51,14 @@ abbrev over : State
 over = record { history = []; open-calls = []; returned-calls = []; point = 0; ended = true }
 
 -- after the end the primitive is not called with a word of its trace
-not-made-after-end : MadeByTrace sheet over 0 called (7 ∷ []) → ⊥
+not-made-after-end : MadeByTrace sheet over 0 called normal 0 (7 ∷ []) → ⊥
 unfolding move accepts
 not-made-after-end m =
     let e = ap (λ (s : State). length (s .returned-calls)) (m .made (words (event 7) (7 ∷ []) .0 tt)) in
     omega (arith, e)
 
 -- with the word 8, which is not of that trace, the event step changes the run
-made-by-event : MadeByTrace sheet (state [] [] []) 1 called (8 ∷ []) → ⊥
+made-by-event : MadeByTrace sheet (state [] [] []) 1 called normal 0 (8 ∷ []) → ⊥
 unfolding move accepts
 made-by-event m =
     let e = ap (λ (s : State). length (s .history)) (m .not-made (λ h. words (event 7) (8 ∷ []) .1 h)) in

@@ -23,7 +23,7 @@ module _ (S : Sheet) where
   returned-begun : {rs : List Returned} → Each (Well S) rs → Each (Begun S) (map (λ r. r .call) rs)
   returned-begun w = each-mapped (Begun S) (λ r. r .call) (each-map (λ r x. x .began) w)
 
-  all-raised : {rs : List Returned} → Each (Well S) rs → Each (λ r. Holds (traceOf S (r .call)) (raised r)) rs
+  all-raised : {rs : List Returned} → Each (Well S) rs → Each (λ r. Holds (traceOf S (r .call) (r .outcome)) (raised r)) rs
   all-raised = each-map (λ r x. adds-since (x .raised))
 
   good-is-safe : {s : State} → Good S s → Safe S s

@@ -2,22 +2,17 @@
 -- Each sheet differs in one condition of one method from a sheet whose same runs are safe.
 use mathlib.Core.Path.{_≡_, refl}
 use mathlib.Core.Bool.{false≢true}
-use mathlib.Core.Option.{none, some}
 use mathlib.Core.List.{List, [], _∷_, _++_}
 use Prim.Native.Nat.{ℕ}
 use Rattle.condition.specs.Condition.{Condition, empty, join, event}
 use Rattle.condition.proofs.Words.{words}
 use Rattle.sheet.specs.Each.{nil, cons}
 use Rattle.sheet.proofs.Each.{each-head, each-tail}
-use Rattle.sheet.specs.Sheet.{Point, Method, event-step, callFrom, Sheet}
+use Rattle.sheet.specs.Sheet.{normal, Point, event-step, callFrom, Sheet}
 use Rattle.runs.specs.Runs.{Move, return, by-step, run, Safe}
+use Rattle.runs.proofs.Methods.{primitive, withBody}
 
 -- The sheets --------------------------------------------------------------------------------------------------------------
-
--- a method by its conditions pre, trace and future, and its entry and exit
-abbrev method : ℕ → ℕ → ℕ → ℕ → ℕ → Method
-method pre trace future entry exit =
-    record { pre = pre; trace = trace; future = future; body = some (record { entry = entry; exit = exit }) }
 
 -- runs don't look at a point's conditions
 abbrev somewhere : Point
@@ -26,32 +21,32 @@ somewhere = record { past = 0; own = 0; due = 0 }
 abbrev all-three : Condition
 all-three = join (event 0) (join (event 1) (event 2))
 
--- Method 0 goes from point 0 to 3: it raises 0, calls method 1 and raises 2. Method 1 goes from point 4 to 5 and raises 1. Each condition holds
+-- Method 0 goes from point 0 to 3: it raises 0, calls withBody 1 and raises 2. Method 1 goes from point 4 to 5 and raises 1. Each condition holds
 -- one word: the empty word, 0, 1, 2, and 0 1 2. The methods' conditions are given by their numbers, the outer method's first.
 abbrev sheet : ℕ → ℕ → ℕ → ℕ → ℕ → ℕ → Sheet
 sheet pre0 trace0 future0 pre1 trace1 future1 = record {
   conditions = empty ∷ event 0 ∷ event 1 ∷ event 2 ∷ all-three ∷ [];
   points = somewhere ∷ somewhere ∷ somewhere ∷ somewhere ∷ somewhere ∷ somewhere ∷ [];
-  methods = method pre0 trace0 future0 0 3 ∷ method pre1 trace1 future1 4 5 ∷ [];
+  methods = withBody pre0 trace0 future0 0 3 ∷ withBody pre1 trace1 future1 4 5 ∷ [];
   steps = event-step 0 1 0 ∷ callFrom 1 2 1 ∷ event-step 4 5 1 ∷ event-step 2 3 2 ∷ [];
   certificates = [];
 }
 
--- the moves to where method 1 is open, to where it has returned, and to the end
+-- the moves to where withBody 1 is open, to where it has returned, and to the end
 abbrev to-inner : List Move
-to-inner = by-step 0 [] ∷ by-step 1 [] ∷ []
+to-inner = by-step 0 normal [] ∷ by-step 1 normal [] ∷ []
 
 abbrev to-return : List Move
-to-return = to-inner ++ (by-step 2 [] ∷ return ∷ [])
+to-return = to-inner ++ (by-step 2 normal [] ∷ return normal ∷ [])
 
 abbrev to-end : List Move
-to-end = to-return ++ (by-step 3 [] ∷ return ∷ [])
+to-end = to-return ++ (by-step 3 normal [] ∷ return normal ∷ [])
 
 -- Runs that are not safe --------------------------------------------------------------------------------------------------
 
 -- Each sheet differs from `kept`, below, in one condition of one method; of `kept` the same runs are safe.
 
--- the pre of method 0 lacks the empty word: while it is open, and when it has returned
+-- the pre of withBody 0 lacks the empty word: while it is open, and when it has returned
 abbrev pre-outer : Sheet
 pre-outer = sheet 1 4 0 1 2 3
 
@@ -63,7 +58,7 @@ pub pre-of-returned-outermost : Safe pre-outer (run pre-outer 0 to-end) → ⊥
 unfolding run
 pre-of-returned-outermost s = words (event 0) [] .1 (each-head (s .began-well))
 
--- the pre of method 1 lacks the word 0: while it is open, and when it has returned
+-- the pre of withBody 1 lacks the word 0: while it is open, and when it has returned
 abbrev pre-inner : Sheet
 pre-inner = sheet 0 4 0 0 2 3
 
@@ -75,7 +70,7 @@ pub pre-of-returned-inner : Safe pre-inner (run pre-inner 0 to-return) → ⊥
 unfolding run
 pre-of-returned-inner s = words empty (0 ∷ []) .1 (each-head (each-tail (s .began-well)))
 
--- the trace of method 0 lacks the word 0 1 2
+-- the trace of withBody 0 lacks the word 0 1 2
 abbrev trace-outer : Sheet
 trace-outer = sheet 0 0 0 1 2 3
 
@@ -83,7 +78,7 @@ pub trace-of-outermost : Safe trace-outer (run trace-outer 0 to-end) → ⊥
 unfolding run
 trace-of-outermost s = words empty (0 ∷ 1 ∷ 2 ∷ []) .1 (each-head (s .raised-well))
 
--- the trace of method 1 lacks the word 1
+-- the trace of withBody 1 lacks the word 1
 abbrev trace-inner : Sheet
 trace-inner = sheet 0 4 0 1 0 3
 
@@ -91,7 +86,7 @@ pub trace-of-inner : Safe trace-inner (run trace-inner 0 to-return) → ⊥
 unfolding run
 trace-of-inner s = words empty (1 ∷ []) .1 (each-head (s .raised-well))
 
--- the future of method 0 lacks the empty word
+-- the future of withBody 0 lacks the empty word
 abbrev future-outer : Sheet
 future-outer = sheet 0 4 1 1 2 3
 
@@ -99,7 +94,7 @@ pub future-of-outermost : Safe future-outer (run future-outer 0 to-end) → ⊥
 unfolding run
 future-of-outermost s = words (event 0) [] .1 (each-head (s .ended-well refl))
 
--- the future of method 1 lacks the word 2
+-- the future of withBody 1 lacks the word 2
 abbrev future-inner : Sheet
 future-inner = sheet 0 4 0 1 2 0
 
@@ -109,7 +104,7 @@ future-of-inner s = words empty (2 ∷ []) .1 (each-head (each-tail (s .ended-we
 
 -- The same runs, safe ------------------------------------------------------------------------------------------------------
 
--- method 0 begins with no events, raises 0 1 2, and nothing follows; method 1 begins after 0 and raises 1, and 2 follows
+-- withBody 0 begins with no events, raises 0 1 2, and nothing follows; withBody 1 begins after 0 and raises 1, and 2 follows
 abbrev kept : Sheet
 kept = sheet 0 4 0 1 2 3
 
@@ -151,26 +146,26 @@ kept-at-end =
 
 -- A primitive ---------------------------------------------------------------------------------------------------------------
 
--- As `kept`, but method 1 calls the primitive 2, whose pre, trace and future are given; its call has two callers. A primitive raises a word of its
+-- As `kept`, but withBody 1 calls the primitive 2, whose pre, trace and future are given; its call has two callers. A primitive raises a word of its
 -- trace or is not called, so pre and future are left to break.
 abbrev calling : ℕ → ℕ → ℕ → Sheet
 calling pre trace future = record {
   conditions = empty ∷ event 0 ∷ event 1 ∷ event 2 ∷ all-three ∷ [];
   points = somewhere ∷ somewhere ∷ somewhere ∷ somewhere ∷ somewhere ∷ somewhere ∷ [];
-  methods = method 0 4 0 0 3 ∷ method 1 2 3 4 5 ∷ record { pre = pre; trace = trace; future = future; body = none } ∷ [];
+  methods = withBody 0 4 0 0 3 ∷ withBody 1 2 3 4 5 ∷ primitive pre trace future ∷ [];
   steps = event-step 0 1 0 ∷ callFrom 1 2 1 ∷ callFrom 4 5 2 ∷ event-step 2 3 2 ∷ [];
   certificates = [];
 }
 
 -- the moves to where the primitive has returned, to where its caller has, and to the end
 abbrev to-primitive : List Move
-to-primitive = to-inner ++ (by-step 2 (1 ∷ []) ∷ [])
+to-primitive = to-inner ++ (by-step 2 normal (1 ∷ []) ∷ [])
 
 abbrev past-caller : List Move
-past-caller = to-primitive ++ (return ∷ [])
+past-caller = to-primitive ++ (return normal ∷ [])
 
 abbrev past-all : List Move
-past-all = past-caller ++ (by-step 3 [] ∷ return ∷ [])
+past-all = past-caller ++ (by-step 3 normal [] ∷ return normal ∷ [])
 
 -- the pre of the primitive lacks the word 0
 pub pre-of-primitive : Safe (calling 0 2 3) (run (calling 0 2 3) 0 to-primitive) → ⊥
