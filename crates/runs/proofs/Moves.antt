@@ -117,8 +117,7 @@ module _ (S : Sheet) where
     pub run-keeps : (m : ℕ) → P (start S m) → (ms : List Move) → P (run S m ms)
     run-keeps m h ms = subst P (run-is m ms) (run-on-keeps (start S m) ms h)
 
--- A step that starts where control is, and a primitive's step: without a target for the outcome it changes nothing, with one it is made with exactly
--- the words of that outcome's trace -----------------------------------------------------------------------------------------
+-- A step that starts where control is, and a primitive's step, which is made with exactly the words of the outcome's trace ------
 
 module _ (S : Sheet) (s : State) (i : ℕ) (o : Outcome) (w : Word) (going : s .ended ≡ false) where
   pub step-made : (t : Step) → getElem? (S .steps) i ≡ some t → s .point ≡ fromOf t → move S s (by-step i o w) ≡ makeStep S s i o w t
@@ -128,45 +127,60 @@ module _ (S : Sheet) (s : State) (i : ℕ) (o : Outcome) (w : Word) (going : s .
       ∙ (ap (tryStep S s i o w) found
       ∙ ap (λ (b : Bool). cond b (makeStep S s i o w t) s) (subst (λ x. eqb (s .point) x ≡ true) at (T-true _ (eqb-refl (s .point)))))
 
-  module _ (t : CallStep) (found : getElem? (S .steps) i ≡ some (call-step t)) (at : s .point ≡ t .from) (primitive : body S (t .method) ≡ none) where
-    by-target : (q : Option ℕ) → targetFor o t ≡ q
-        → move S s (by-step i o w) ≡ makeReturn s (newCall s i t) o w (traceOf S (newCall s i t) o) q
-    by-target q to =
+  module _ (t : CallStep) (found : getElem? (S .steps) i ≡ some (call-step t)) (at : s .point ≡ t .from) (primitive : body S (t .method) ≡ none)
+      {q : ℕ} (to : targetFor o t ≡ some q) where
+    pub by-trace : (b : Bool) → accepts (traceOf S (newCall s i t) o) w ≡ b
+        → move S s (by-step i o w) ≡ cond b (returnedNow (newCall s i t) o (raise w q s)) s
+    by-trace b e =
         step-made (call-step t) found at
         ∙ (ap (makeCall S s (newCall s i t) o w (targetFor o t)) primitive
-        ∙ ap (makeReturn s (newCall s i t) o w (traceOf S (newCall s i t) o)) to)
+        ∙ (ap (makeReturn s (newCall s i t) o w (traceOf S (newCall s i t) o)) to
+        ∙ ap (λ (x : Bool). cond x (returnedNow (newCall s i t) o (raise w q s)) s) e))
 
-    -- a call without a failed target does not fail
-    pub nowhere-to : targetFor o t ≡ none → move S s (by-step i o w) ≡ s
-    nowhere-to to = by-target none to
-
-    pub by-trace : {q : ℕ} → targetFor o t ≡ some q → (b : Bool) → accepts (traceOf S (newCall s i t) o) w ≡ b
-        → move S s (by-step i o w) ≡ cond b (returnedNow (newCall s i t) o (raise w q s)) s
-    by-trace {q} to b e = by-target (some q) to ∙ ap (λ (x : Bool). cond x (returnedNow (newCall s i t) o (raise w q s)) s) e
-
-    pub made-by-trace : {q : ℕ} → targetFor o t ≡ some q → MadeByTrace S s i t o q w
-    made-by-trace to =
+    pub made-by-trace : MadeByTrace S s i t o q w
+    made-by-trace =
         let T = traceOf S (newCall s i t) o in
         record {
-          made = λ h. by-trace to true (T-true (accepts T w) (words T w .1 h));
-          not-made = λ n. by-trace to false (T-false (accepts T w) (λ a. n (words T w .0 a)));
+          made = λ h. by-trace true (T-true (accepts T w) (words T w .1 h));
+          not-made = λ n. by-trace false (T-false (accepts T w) (λ a. n (words T w .0 a)));
         }
 
--- A return by an outcome for which the method has no exit, or its call no target, changes nothing ---------------------------
+-- Without a target for the outcome a primitive's step changes nothing, and without an exit or a target for it a return --------------
 
-module _ (S : Sheet) (s : State) (o : Outcome) {c : Call} {cs : List Call} (opened : s .open-calls ≡ c ∷ cs) where
-  returning : move S s (return o) ≡ cond (s .ended) s (tryReturn S s o (c ∷ cs))
+module _ (S : Sheet) (s : State) (o : Outcome) where
+  pub step-without-target : (i : ℕ) (w : Word) {t : CallStep} → getElem? (S .steps) i ≡ some (call-step t) → body S (t .method) ≡ none
+      → targetFor o t ≡ none → move S s (by-step i o w) ≡ s
   unfolding move
-  returning = ap (λ (x : List Call). cond (s .ended) s (tryReturn S s o x)) opened
+  step-without-target i w {t} found primitive nowhere =
+      ap (λ (x : Option Step). cond (s .ended) s (tryStep S s i o w x)) found
+      ∙ (ap (λ (x : State). cond (s .ended) s (cond (eqb (s .point) (t .from)) x s)) stays
+      ∙ (ap (cond (s .ended) s) (either-way (eqb (s .point) (t .from)) s) ∙ either-way (s .ended) s))
+    where
+      stays : makeStep S s i o w (call-step t) ≡ s
+      stays =
+          ap (makeCall S s (newCall s i t) o w (targetFor o t)) primitive
+          ∙ ap (makeReturn s (newCall s i t) o w (traceOf S (newCall s i t) o)) nowhere
 
-  pub no-exit : exitIn o (body S (c .method)) ≡ none → move S s (return o) ≡ s
-  no-exit e =
-      returning
-      ∙ (ap (λ (x : Option ℕ). cond (s .ended) s (cond (isAt x (s .point)) (closeTo s o c cs (targetOr (s .point) o (madeBy S (c .step)))) s)) e
-      ∙ either-way (s .ended) s)
+  module _ (c : Call) (cs : List Call) (opened : s .open-calls ≡ c ∷ cs) where
+    abbrev exit : Option ℕ
+    exit = exitIn o (body S (c .method))
 
-  pub no-target : targetOr (s .point) o (madeBy S (c .step)) ≡ none → move S s (return o) ≡ s
-  no-target e =
-      returning
-      ∙ (ap (λ (x : Option ℕ). cond (s .ended) s (cond (isAt (exitIn o (body S (c .method))) (s .point)) (closeTo s o c cs x) s)) e
-      ∙ (ap (cond (s .ended) s) (either-way (isAt (exitIn o (body S (c .method))) (s .point)) s) ∙ either-way (s .ended) s))
+    abbrev target : Option ℕ
+    target = targetOr (s .point) o (madeBy S (c .step))
+
+    -- a return with the exit e to q
+    abbrev tried : Option ℕ → Option ℕ → State
+    tried e q = cond (s .ended) s (cond (isAt e (s .point)) (closeTo s o c cs q) s)
+
+    returning : move S s (return o) ≡ tried exit target
+    unfolding move
+    returning = ap (λ (x : List Call). cond (s .ended) s (tryReturn S s o x)) opened
+
+    pub return-without-exit : exitIn o (body S (c .method)) ≡ none → move S s (return o) ≡ s
+    return-without-exit e = returning ∙ (ap (λ x. tried x target) e ∙ either-way (s .ended) s)
+
+    pub return-without-target : targetOr (s .point) o (madeBy S (c .step)) ≡ none → move S s (return o) ≡ s
+    return-without-target e =
+        returning
+        ∙ (ap (tried exit) e
+        ∙ (ap (cond (s .ended) s) (either-way (isAt exit (s .point)) s) ∙ either-way (s .ended) s))
