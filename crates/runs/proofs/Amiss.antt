@@ -6,11 +6,12 @@ use lib.Dec.{T}
 use Rattle.condition.specs.Condition.{Word, Condition, empty, join, either, star, Holds, event, any}
 use Rattle.condition.specs.Places.{accepts}
 use Rattle.condition.proofs.Words.{words}
+use Rattle.sheet.specs.Each.{nil, cons}
 use Rattle.sheet.proofs.Each.{each-head, each-tail}
-use Rattle.sheet.specs.Sheet.{normal, event-step, callFrom, Sheet}
+use Rattle.sheet.specs.Sheet.{normal, failed, event-step, callFrom, failingCallFrom, Sheet}
 use Rattle.runs.specs.Runs.{Move, return, by-step, run}
 use Rattle.runs.specs.Owing.{Owing}
-use Rattle.runs.proofs.Methods.{primitive, withBody}
+use Rattle.runs.proofs.Methods.{primitive, withBody, failingPrimitive, failingWithBody}
 
 -- what may follow the primitive: nothing more, or next the event 2 (advance); its trace is the one word 1 (close)
 abbrev asked : Condition
@@ -59,3 +60,35 @@ unmet-of-body o = lacks asked (0 ∷ []) refl (each-head o (List·Memᴰ·head r
 pub unmet-since : Owing opening (run opening 0 (to-return ++ (by-step 1 normal [] ∷ []))) → ⊥
 unfolding run
 unmet-since o = lacks asked (0 ∷ []) refl (each-head (each-tail o) (List·Memᴰ·tail (List·Memᴰ·head refl)) [] refl)
+
+-- Calls that fail: as `opening`, where the failed futures of method 1 and of the primitive do not allow open, and their futures ask for it.
+abbrev failing : Sheet
+failing = record {
+  conditions = opening .conditions;
+  points = opening .points;
+  methods = withBody 1 1 0 0 2 ∷ failingWithBody 1 1 2 3 4 1 4 4 ∷ failingPrimitive 1 3 2 3 4 ∷ [];
+  steps = failingCallFrom 0 1 1 1 ∷ event-step 1 2 0 ∷ failingCallFrom 3 4 4 2 ∷ failingCallFrom 0 1 1 2 ∷ [];
+  certificates = [];
+}
+
+-- of the primitive, in the activation that made the call
+pub unmet-of-failed : Owing failing (run failing 0 (by-step 3 failed (1 ∷ []) ∷ [])) → ⊥
+unfolding run
+unmet-of-failed o = lacks asked (0 ∷ []) refl (each-head o (List·Memᴰ·head refl) (0 ∷ []) (0, tt, refl))
+
+abbrev to-failure : List Move
+to-failure = by-step 0 normal [] ∷ by-step 2 failed (1 ∷ []) ∷ return failed ∷ []
+
+-- of the primitive, in that activation's caller, and of method 1, in the activation that made it
+pub unmet-of-failed-in-caller : Owing failing (run failing 0 to-failure) → ⊥
+unfolding run
+unmet-of-failed-in-caller o = lacks asked (0 ∷ []) refl (each-head (each-tail o) (List·Memᴰ·tail (List·Memᴰ·head refl)) (0 ∷ []) (0, tt, refl))
+
+pub unmet-of-failed-body : Owing failing (run failing 0 to-failure) → ⊥
+unfolding run
+unmet-of-failed-body o = lacks asked (0 ∷ []) refl (each-head o (List·Memᴰ·head refl) (0 ∷ []) (0, tt, refl))
+
+-- of the same call, where it does not fail, what is owed holds
+pub met-of-normal : Owing failing (run failing 0 (by-step 3 normal (1 ∷ []) ∷ []))
+unfolding run
+met-of-normal = cons (λ i v h. h) nil

@@ -12,7 +12,7 @@ use Rattle.runs.specs.Rules.{_isIn_, holdsEmpty, _of_says_, exitRules, r
 use Rattle.runs.specs.Runs.{Call, Returned, State, Move, return, by-step, run}
 use Rattle.runs.proofs.Methods.{primitive, withBody}
 
-abbrev anywhere : Point
+abbrev pub anywhere : Point
 anywhere = record { past = 0; own = 0; due = 0 }
 
 abbrev with-body : ℕ → ℕ → Method
@@ -30,7 +30,7 @@ sheet = record {
 }
 
 -- its calls
-abbrev of-0 : Call
+abbrev pub of-0 : Call
 of-0 = record { method = 0; step = none; began = []; activation = record { number = 0; callers = [] } }
 
 abbrev of-1 : Call
@@ -40,11 +40,11 @@ abbrev of-2 : Call
 of-2 = record { method = 2; step = some 3; began = 2 ∷ []; activation = record { number = 2; callers = 1 ∷ 0 ∷ [] } }
 
 infix 30 _returned-at_
-abbrev _returned-at_ : Call → Word → Returned
+abbrev pub _returned-at_ : Call → Word → Returned
 c returned-at h = record { call = c; outcome = normal; at = h }
 
 -- a state before the end: the history, the point, the open and the returned calls
-abbrev midway : Word → ℕ → List Call → List Returned → State
+abbrev pub midway : Word → ℕ → List Call → List Returned → State
 midway h p cs rs = record { history = h; open-calls = cs; returned-calls = rs; point = p; ended = false }
 
 abbrev at-end : State
@@ -57,12 +57,12 @@ at-end = record {
 }
 
 -- a move and the state that it leaves
-record Row : Type 0 where
-  made : Move
-  leaves : State
+pub record Row : Type 0 where
+  pub made : Move
+  pub leaves : State
 
 infix 20 _leaves_
-abbrev _leaves_ : Move → State → Row
+abbrev pub _leaves_ : Move → State → Row
 m leaves s = record { made = m; leaves = s }
 
 abbrev rows : List Row
@@ -92,11 +92,11 @@ rows =
     ∷ []
 
 -- the states of a run of the moves before, then each row's
-abbrev states : List Move → List Row → List State
-states before [] = []
-states before (x ∷ xs) = let now = before ++ (x .made ∷ []) in run sheet 0 now ∷ states now xs
+abbrev pub states : Sheet → List Move → List Row → List State
+states S before [] = []
+states S before (x ∷ xs) = let now = before ++ (x .made ∷ []) in run S 0 now ∷ states S now xs
 
-pub rows-are-so : states [] rows ≡ map (λ x. x .leaves) rows
+pub rows-are-so : states sheet [] rows ≡ map (λ x. x .leaves) rows
 unfolding run
 rows-are-so = refl
 

@@ -15,6 +15,7 @@ pub mod Kept
 pub mod Safe
 pub mod Owing
 pub mod Examples
+pub mod Failing
 pub mod Loop
 mod Nouns
 mod Refuted

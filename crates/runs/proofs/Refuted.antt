@@ -1,5 +1,5 @@
--- What the facts of runs say is false of other states and steps: of states whose histories do not go on from each other, after the end, and of a
--- step that calls no primitive.
+-- What the facts of runs say is false of other states and steps: of states whose histories do not go on from each other, after the end, of a step that
+-- calls no primitive, and of an outcome that a step has no target for.
 use mathlib.Core.Path.{ap}
 use mathlib.Core.Bool.{true, false}
 use mathlib.Core.Option.{none}
@@ -8,11 +8,11 @@ use native.Mathlib.Omega.{arith}
 use Rattle.condition.specs.Condition.{Word, event}
 use Rattle.condition.specs.Places.{accepts}
 use Rattle.condition.proofs.Words.{words}
-use Rattle.sheet.specs.Sheet.{Outcome, normal, failed, CallStep, event-step, call-step, Sheet}
+use Rattle.sheet.specs.Sheet.{normal, failed, CallStep, event-step, call-step, Sheet}
 use Rattle.sheet.proofs.Each.{each-head}
 use lib.ListN.{length, getD}
 use Rattle.runs.specs.Runs.{Call, Returned, State, Grown, move, MadeByTrace}
-use Rattle.runs.proofs.Methods.{primitive}
+use Rattle.runs.proofs.Methods.{failingPrimitive}
 
 -- Histories ---------------------------------------------------------------------------------------------------------------
 
@@ -34,7 +34,7 @@ not-since-return g = let e = ap (λ (w : Word). getD w 0 0) (each-head (g .since
 
 -- Steps -------------------------------------------------------------------------------------------------------------------
 
--- step 0 calls the primitive 0, whose trace is the one word 7; step 1 raises 3
+-- step 0 calls the primitive 0, whose trace and failed trace are the one word 7, and has no failed target; step 1 raises 3
 abbrev called : CallStep
 called = record { from = 0; to = 0; failed-to = none; method = 0 }
 
@@ -42,7 +42,7 @@ abbrev sheet : Sheet
 sheet = record {
   conditions = event 7 ∷ [];
   points = record { past = 0; own = 0; due = 0 } ∷ [];
-  methods = primitive 0 0 0 ∷ [];
+  methods = failingPrimitive 0 0 0 0 0 ∷ [];
   steps = call-step called ∷ event-step 0 0 3 ∷ [];
   certificates = [];
 }
@@ -62,4 +62,11 @@ made-by-event : MadeByTrace sheet (state [] [] []) 1 called normal 0 (8 ∷ []) 
 unfolding move accepts
 made-by-event m =
     let e = ap (λ (s : State). length (s .history)) (m .not-made (λ h. words (event 7) (8 ∷ []) .1 h)) in
+    omega (arith, e)
+
+-- failing, the primitive is not called with a word of its failed trace
+not-made-without-target : MadeByTrace sheet (state [] [] []) 0 called failed 0 (7 ∷ []) → ⊥
+unfolding move accepts
+not-made-without-target m =
+    let e = ap (λ (s : State). length (s .returned-calls)) (m .made (words (event 7) (7 ∷ []) .0 tt)) in
     omega (arith, e)

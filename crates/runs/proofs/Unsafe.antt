@@ -1,5 +1,6 @@
--- Runs that are not safe, one for each thing that demand 3 asks: pre, trace and future, of the outermost call, of an inner one and of a primitive.
--- Each sheet differs in one condition of one method from a sheet whose same runs are safe.
+-- Runs that are not safe, one for each thing that demand 3 asks: pre, trace and future, of the outermost call, of an inner one and of a primitive;
+-- and of calls that fail, whose trace and future are those of their outcome. Each sheet differs in one condition of one method from a sheet whose same
+-- runs are safe.
 use mathlib.Core.Path.{_≡_, refl}
 use mathlib.Core.Bool.{false≢true}
 use mathlib.Core.List.{List, [], _∷_, _++_}
@@ -8,9 +9,9 @@ use Rattle.condition.specs.Condition.{Condition, empty, join, event}
 use Rattle.condition.proofs.Words.{words}
 use Rattle.sheet.specs.Each.{nil, cons}
 use Rattle.sheet.proofs.Each.{each-head, each-tail}
-use Rattle.sheet.specs.Sheet.{normal, Point, event-step, callFrom, Sheet}
+use Rattle.sheet.specs.Sheet.{normal, failed, Point, event-step, callFrom, failingCallFrom, Sheet}
 use Rattle.runs.specs.Runs.{Move, return, by-step, run, Safe}
-use Rattle.runs.proofs.Methods.{primitive, withBody}
+use Rattle.runs.proofs.Methods.{primitive, withBody, failingPrimitive, failingWithBody}
 
 -- The sheets --------------------------------------------------------------------------------------------------------------
 
@@ -190,6 +191,105 @@ primitive-at-return =
 pub primitive-at-end : Safe (calling 1 2 3) (run (calling 1 2 3) 0 past-all)
 unfolding run
 primitive-at-end =
+    record {
+      began-well = cons refl (cons (words (event 0) (0 ∷ []) .0 tt) (cons (words (event 0) (0 ∷ []) .0 tt) nil));
+      raised-well =
+          cons (words all-three (0 ∷ 1 ∷ 2 ∷ []) .0 tt) (cons (words (event 1) (1 ∷ []) .0 tt) (cons (words (event 1) (1 ∷ []) .0 tt) nil));
+      ended-well = λ e. cons refl (cons (words (event 2) (2 ∷ []) .0 tt) (cons (words (event 2) (2 ∷ []) .0 tt) nil));
+    }
+
+-- Calls that fail -----------------------------------------------------------------------------------------------------------
+
+-- As the first sheets, but both methods may fail where they return, and method 1 leads to the same point then. Their traces and futures are given: those
+-- of the outer method, its failed ones, those of the inner method, its failed ones.
+abbrev failing : ℕ → ℕ → ℕ → ℕ → ℕ → ℕ → ℕ → ℕ → Sheet
+failing trace0 future0 failed-trace0 failed-future0 trace1 future1 failed-trace1 failed-future1 = record {
+  conditions = empty ∷ event 0 ∷ event 1 ∷ event 2 ∷ all-three ∷ [];
+  points = somewhere ∷ somewhere ∷ somewhere ∷ somewhere ∷ somewhere ∷ somewhere ∷ [];
+  methods =
+      failingWithBody 0 trace0 future0 0 3 failed-trace0 failed-future0 3
+      ∷ failingWithBody 1 trace1 future1 4 5 failed-trace1 failed-future1 5
+      ∷ [];
+  steps = event-step 0 1 0 ∷ failingCallFrom 1 2 2 1 ∷ event-step 4 5 1 ∷ event-step 2 3 2 ∷ [];
+  certificates = [];
+}
+
+-- the moves to where method 1 has failed, and to the end, where method 0 fails
+abbrev to-failure : List Move
+to-failure = to-inner ++ (by-step 2 normal [] ∷ return failed ∷ [])
+
+abbrev to-failed-end : List Move
+to-failed-end = to-failure ++ (by-step 3 normal [] ∷ return failed ∷ [])
+
+-- the failed trace of method 0 lacks the word 0 1 2, which its trace holds
+pub failed-trace-of-outermost : Safe (failing 4 0 0 0 2 3 2 3) (run (failing 4 0 0 0 2 3 2 3) 0 to-failed-end) → ⊥
+unfolding run
+failed-trace-of-outermost s = words empty (0 ∷ 1 ∷ 2 ∷ []) .1 (each-head (s .raised-well))
+
+-- the failed trace of method 1 lacks the word 1, which its trace holds
+pub failed-trace-of-inner : Safe (failing 4 0 4 0 2 3 0 3) (run (failing 4 0 4 0 2 3 0 3) 0 to-failure) → ⊥
+unfolding run
+failed-trace-of-inner s = words empty (1 ∷ []) .1 (each-head (s .raised-well))
+
+-- the failed future of method 0 lacks the empty word, which its future holds
+pub failed-future-of-outermost : Safe (failing 4 0 4 1 2 3 2 3) (run (failing 4 0 4 1 2 3 2 3) 0 to-failed-end) → ⊥
+unfolding run
+failed-future-of-outermost s = words (event 0) [] .1 (each-head (s .ended-well refl))
+
+-- the failed future of method 1 lacks the word 2, which its future holds
+pub failed-future-of-inner : Safe (failing 4 0 4 0 2 3 2 0) (run (failing 4 0 4 0 2 3 2 0) 0 to-failed-end) → ⊥
+unfolding run
+failed-future-of-inner s = words empty (2 ∷ []) .1 (each-head (each-tail (s .ended-well refl)))
+
+-- The same runs, safe: the failed traces and futures hold these words, and the others lack them, each of the four.
+abbrev failing-kept : Sheet
+failing-kept = failing 0 1 4 0 0 0 2 3
+
+pub failing-kept-at-failure : Safe failing-kept (run failing-kept 0 to-failure)
+unfolding run
+failing-kept-at-failure =
+    record {
+      began-well = cons refl (cons (words (event 0) (0 ∷ []) .0 tt) nil);
+      raised-well = cons (words (event 1) (1 ∷ []) .0 tt) nil;
+      ended-well = λ e. absurd (false≢true e);
+    }
+
+pub failing-kept-at-end : Safe failing-kept (run failing-kept 0 to-failed-end)
+unfolding run
+failing-kept-at-end =
+    record {
+      began-well = cons refl (cons (words (event 0) (0 ∷ []) .0 tt) nil);
+      raised-well = cons (words all-three (0 ∷ 1 ∷ 2 ∷ []) .0 tt) (cons (words (event 1) (1 ∷ []) .0 tt) nil);
+      ended-well = λ e. cons refl (cons (words (event 2) (2 ∷ []) .0 tt) nil);
+    }
+
+-- of this sheet the runs that return without failing are not safe
+pub kept-of-failing-only : Safe failing-kept (run failing-kept 0 to-return) → ⊥
+unfolding run
+kept-of-failing-only s = words empty (1 ∷ []) .1 (each-head (s .raised-well))
+
+-- A primitive that fails: as `calling`, where its call leads to the same point if it fails. Its future and its failed future are given.
+abbrev calling-failing : ℕ → ℕ → Sheet
+calling-failing future failed-future = record {
+  conditions = empty ∷ event 0 ∷ event 1 ∷ event 2 ∷ all-three ∷ [];
+  points = somewhere ∷ somewhere ∷ somewhere ∷ somewhere ∷ somewhere ∷ somewhere ∷ [];
+  methods = withBody 0 4 0 0 3 ∷ withBody 1 2 3 4 5 ∷ failingPrimitive 1 0 future 2 failed-future ∷ [];
+  steps = event-step 0 1 0 ∷ callFrom 1 2 1 ∷ failingCallFrom 4 5 5 2 ∷ event-step 2 3 2 ∷ [];
+  certificates = [];
+}
+
+abbrev past-all-failing : List Move
+past-all-failing = to-inner ++ (by-step 2 failed (1 ∷ []) ∷ return normal ∷ by-step 3 normal [] ∷ return normal ∷ [])
+
+-- its failed future lacks the word 2, which its future holds
+pub failed-future-of-primitive : Safe (calling-failing 3 0) (run (calling-failing 3 0) 0 past-all-failing) → ⊥
+unfolding run
+failed-future-of-primitive s = words empty (2 ∷ []) .1 (each-head (each-tail (each-tail (s .ended-well refl))))
+
+-- and the same run, safe, where its future lacks that word
+pub failing-primitive-at-end : Safe (calling-failing 0 3) (run (calling-failing 0 3) 0 past-all-failing)
+unfolding run
+failing-primitive-at-end =
     record {
       began-well = cons refl (cons (words (event 0) (0 ∷ []) .0 tt) (cons (words (event 0) (0 ∷ []) .0 tt) nil));
       raised-well =
