@@ -222,24 +222,24 @@ abbrev to-failed-end : List Move
 to-failed-end = to-failure ++ (by-step 3 normal [] ∷ return failed ∷ [])
 
 -- the failed trace of method 0 lacks the word 0 1 2, which its trace holds
-pub failed-trace-of-outermost : Safe (failing 4 0 0 0 2 3 2 3) (run (failing 4 0 0 0 2 3 2 3) 0 to-failed-end) → ⊥
+pub trace-of-failed-outermost : Safe (failing 4 0 0 0 2 3 2 3) (run (failing 4 0 0 0 2 3 2 3) 0 to-failed-end) → ⊥
 unfolding run
-failed-trace-of-outermost s = words empty (0 ∷ 1 ∷ 2 ∷ []) .1 (each-head (s .raised-well))
+trace-of-failed-outermost s = words empty (0 ∷ 1 ∷ 2 ∷ []) .1 (each-head (s .raised-well))
 
 -- the failed trace of method 1 lacks the word 1, which its trace holds
-pub failed-trace-of-inner : Safe (failing 4 0 4 0 2 3 0 3) (run (failing 4 0 4 0 2 3 0 3) 0 to-failure) → ⊥
+pub trace-of-failed-inner : Safe (failing 4 0 4 0 2 3 0 3) (run (failing 4 0 4 0 2 3 0 3) 0 to-failure) → ⊥
 unfolding run
-failed-trace-of-inner s = words empty (1 ∷ []) .1 (each-head (s .raised-well))
+trace-of-failed-inner s = words empty (1 ∷ []) .1 (each-head (s .raised-well))
 
 -- the failed future of method 0 lacks the empty word, which its future holds
-pub failed-future-of-outermost : Safe (failing 4 0 4 1 2 3 2 3) (run (failing 4 0 4 1 2 3 2 3) 0 to-failed-end) → ⊥
+pub future-of-failed-outermost : Safe (failing 4 0 4 1 2 3 2 3) (run (failing 4 0 4 1 2 3 2 3) 0 to-failed-end) → ⊥
 unfolding run
-failed-future-of-outermost s = words (event 0) [] .1 (each-head (s .ended-well refl))
+future-of-failed-outermost s = words (event 0) [] .1 (each-head (s .ended-well refl))
 
 -- the failed future of method 1 lacks the word 2, which its future holds
-pub failed-future-of-inner : Safe (failing 4 0 4 0 2 3 2 0) (run (failing 4 0 4 0 2 3 2 0) 0 to-failed-end) → ⊥
+pub future-of-failed-inner : Safe (failing 4 0 4 0 2 3 2 0) (run (failing 4 0 4 0 2 3 2 0) 0 to-failed-end) → ⊥
 unfolding run
-failed-future-of-inner s = words empty (2 ∷ []) .1 (each-head (each-tail (s .ended-well refl)))
+future-of-failed-inner s = words empty (2 ∷ []) .1 (each-head (each-tail (s .ended-well refl)))
 
 -- The same runs, safe: the failed traces and futures hold these words, and the others lack them, each of the four.
 abbrev failing-kept : Sheet
@@ -282,9 +282,9 @@ abbrev past-all-failing : List Move
 past-all-failing = to-inner ++ (by-step 2 failed (1 ∷ []) ∷ return normal ∷ by-step 3 normal [] ∷ return normal ∷ [])
 
 -- its failed future lacks the word 2, which its future holds
-pub failed-future-of-primitive : Safe (calling-failing 3 0) (run (calling-failing 3 0) 0 past-all-failing) → ⊥
+pub future-of-failed-primitive : Safe (calling-failing 3 0) (run (calling-failing 3 0) 0 past-all-failing) → ⊥
 unfolding run
-failed-future-of-primitive s = words empty (2 ∷ []) .1 (each-head (each-tail (each-tail (s .ended-well refl))))
+future-of-failed-primitive s = words empty (2 ∷ []) .1 (each-head (each-tail (each-tail (s .ended-well refl))))
 
 -- and the same run, safe, where its future lacks that word
 pub failing-primitive-at-end : Safe (calling-failing 0 3) (run (calling-failing 0 3) 0 past-all-failing)
