@@ -295,7 +295,7 @@ to-open = join (event 0) to-close
 abbrev nothing : Condition
 nothing = join empty empty
 
--- point 0 is the entry, point 1 is where the gate is open, point 2 is the exit; the last number is the failed future of the primitive
+-- point 0 is the entry, point 1 is where the gate is open, point 2 is the exit; the failed future of the primitive is given
 abbrev gateWith : ℕ → Sheet
 gateWith failed-future = record {
   conditions = empty ∷ event 0 ∷ to-close ∷ opened ∷ either closed nothing ∷ either to-open nothing ∷ [];
@@ -331,11 +331,14 @@ gate-rules =
 pub gate-runs : (ms : List Move) → Safe gate (run gate 0 ms)
 gate-runs ms = runs-are-safe gate (0 ∷ []) gate-rules 0 (List·Memᴰ·head refl) tt ms
 
-pub not-opened : run gate 0 (by-step 0 failed [] ∷ return normal ∷ []) .history ≡ []
+abbrev not-opening : List Move
+not-opening = by-step 0 failed [] ∷ return normal ∷ []
+
+pub not-opened : (run gate 0 not-opening .history ≡ []) × (run gate 0 not-opening .ended ≡ true)
 unfolding run
-not-opened = refl
+not-opened = (refl, refl)
 
 -- if the failed future asked for a close too, that run would not be safe
-pub close-asked : Safe (gateWith 2) (run (gateWith 2) 0 (by-step 0 failed [] ∷ return normal ∷ [])) → ⊥
+pub close-asked : Safe (gateWith 2) (run (gateWith 2) 0 not-opening) → ⊥
 unfolding run
 close-asked s = words to-close [] .1 (each-head (each-tail (s .ended-well refl)))
