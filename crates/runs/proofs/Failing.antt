@@ -12,8 +12,8 @@ use Rattle.bits.proofs.Sets.{has-none}
 use Rattle.condition.specs.Condition.{Word, Condition, empty, join, either, star, event, any, Holds, _⊆_}
 use Rattle.condition.proofs.Words.{words}
 use Rattle.sheet.specs.Each.{Each, nil, cons}
-use Rattle.sheet.proofs.Each.{each-map, each-tail, each-head}
-use Rattle.sheet.specs.Sheet.{Outcome, normal, failed, Declared, Point, event-step, callFrom, failingCallFrom, pass-step, Sheet, conditionNamed, declaredIn, trace, body, exitFor, exitIn}
+use Rattle.sheet.proofs.Each.{each-head, each-tail}
+use Rattle.sheet.specs.Sheet.{Outcome, normal, failed, Declared, event-step, callFrom, failingCallFrom, pass-step, Sheet, conditionNamed, declaredIn, trace, body, exitIn}
 use Rattle.runs.specs.Rules.{_isIn_, holdsEmpty, _of_says_, rulesFrom, rules, AllMet, count}
 use Rattle.runs.specs.Runs.{Call, Returned, State, start, Move, return, by-step, run, Safe}
 use Rattle.runs.proofs.Methods.{primitive, withBody, failingPrimitive, failingWithBody}
