@@ -3,7 +3,7 @@ use Prim.Native.Nat.{ℕ, _≤_}
 use mathlib.Core.Path.{_≡_}
 
 pub record Model : Type 0 where
-  -- "65,536 bytes"; "512 points"; "Events are 0 to 31": how many there are; "kind not 1 to 14": the highest kind that is taken, 17 since Ask 2
+  -- "65,536 bytes"; "512 points"; "Events are 0 to 31": how many there are; "kind not 1 to 14": the highest kind that is taken, 17 with those of Ask 2
   pub bytes : ℕ
   pub points : ℕ
   pub events : ℕ
