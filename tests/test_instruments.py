@@ -107,7 +107,8 @@ class Limits(unittest.TestCase):
                    "refused 7 at 450")
         for length in range(1, 7):
             self.same(full + POINT[:length], "refused 3 at 450")
-        self.same(full + b"\x0f" + POINT, "refused 2 at 450")
+        self.same(full + b"\x12" + POINT, "refused 2 at 450")
+        self.same(full + b"\x0f" + POINT, "refused 3 at 450")
         self.same(full + b"\x02" + POINT, "refused 4 at 450")
         self.same(full + METHOD + POINT, "refused 4 at 461")
         self.same(full + r.primitive(0, 0, 0), "refused 9 at 450")

@@ -87,7 +87,7 @@ class SheetsToTry(unittest.TestCase):
 
     def test_refusals(self):
         self.check("", "refused 9 at 0")
-        self.check("0F", "refused 2 at 0")
+        self.check("0F", "refused 3 at 0")
         self.check("01", "refused 3 at 0")
         self.check("03", "refused 5 at 0")
         self.check("02 06 07 01 00 00 00 00 00", "refused 7 at 2")
@@ -348,7 +348,8 @@ class Loader(unittest.TestCase):
 
     def test_word_test_order(self):
         long = (40,) * 4097
-        self.assertEqual(word_line(b"\x0f", 9, long), "refused 2 at 0")
+        self.assertEqual(word_line(b"\x12", 9, long), "refused 2 at 0")
+        self.assertEqual(word_line(b"\x0f", 9, long), "refused 3 at 0")
         self.assertEqual(word_line(FRONT, 1, long), "refused 14")
         self.assertEqual(word_line(FRONT, 0, long), "refused 12")
         self.assertEqual(word_line(FRONT, 0, (0, 40) * 2048), "refused 13 at 1")

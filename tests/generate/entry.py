@@ -17,7 +17,7 @@ from .draws import Draws
 from .plans import SHAPES
 from .refusals import (SMALL, SMALL_BYTES, Case, limit_cases, random_cases,
                        record_cases, refused)
-from .true_sheets import true_sheets
+from .true_sheets import renamed, true_sheets
 from .words import (Group, answer, refusal_group, refused_sheet_groups,
                     sheet_of, short_groups, true_sheet_groups)
 
@@ -72,7 +72,9 @@ def point_order_cases(instrument):
     for length in range(1, 7):
         yield refused(f"3 over 6: point cut to {length}", 3, full, POINT[:length])
     for kind in (0, 15, 255):
-        yield refused("2 before 6", 2, full, bytes([kind]), POINT)
+        # The body of kind 15 is longer than what follows.
+        yield refused("2 or 3 before 6", 3 if kind == 15 else 2, full,
+                      bytes([kind]), POINT)
         yield refused("2 after 6", 6, full, POINT, bytes([kind]) + METHOD)
     for record in (b"\x02", b"\x03", b"\x06", r.item(LEAF, 1)):
         yield refused("4 before 6", 4, full, record, POINT)
@@ -163,10 +165,8 @@ def with_points(draws, sheet, count):
     points = [draws.pick(sheet.points) for _ in range(count)]
     for place, point in zip(places, sheet.points):
         points[place] = point
-    methods = [one._replace(entry=places[one.entry], exit=places[one.exit])
-               if one.has_body else one for one in sheet.methods]
-    steps = [one._replace(source=places[one.source], target=places[one.target])
-             for one in sheet.steps]
+    methods = [renamed(one, "p", places.__getitem__) for one in sheet.methods]
+    steps = [renamed(one, "p", places.__getitem__) for one in sheet.steps]
     return sheet._replace(points=points, methods=methods, steps=steps)
 
 

@@ -12,7 +12,9 @@ from sheets import records as r
 
 from .draws import Draws
 
-# A sheet with every kind of record, one record an element.
+# The kinds of document 01 with their body lengths.
+FIRST_KINDS = dict(enumerate(BODY_LENGTHS[:14], 1))
+# A sheet with every one of these kinds, one record an element.
 BASE = [
     r.item(EMPTY), b"\x06",
     r.item(LEAF, 4), r.item(LEAF, 0xFFFFFFFF), b"\x05", b"\x03",
@@ -45,12 +47,27 @@ def positions():
         yield index, b"".join(BASE[:index]), b"".join(BASE[index:])
 
 
+def is_out_of_order(kind, before_kind):
+    """Whether a kind is refused with 4 behind a record of the other."""
+    return (SECTIONS[kind - 1] < SECTIONS[before_kind - 1]
+            or before_kind < 6 < kind)
+
+
 def kind_cases():
-    """Refusal 2 before every record and at the end."""
+    """Refusal 2 before every record and at the end; among them the bytes 0F and
+    10, which are kinds since document 02, Ask 2."""
     for index, before, after in positions():
         for kind in (0, 15, 16, 128, 255):
-            yield refused(f"2 kind {kind} at record {index}", 2, before,
-                          bytes([kind]), after)
+            label = f"kind {kind} at record {index}"
+            if kind not in (15, 16):
+                number = 2
+            elif len(after) < BODY_LENGTHS[kind - 1]:
+                number = 3
+            elif index and is_out_of_order(kind, BASE[index - 1][0]):
+                number = 4
+            else:
+                number = 7  # what follows is taken for names
+            yield refused(label, number, before, bytes([kind]), after)
 
 
 def truncations():
@@ -65,7 +82,7 @@ def truncations():
 
 def first_record_cut():
     """Refusal 3 at the first record, for each kind with a body."""
-    for kind, length in enumerate(BODY_LENGTHS, 1):
+    for kind, length in FIRST_KINDS.items():
         for body in range(length):
             yield refused(f"3 first kind {kind} body {body}", 3, b"",
                           bytes([kind]) + bytes(body))
@@ -85,14 +102,12 @@ def sample(kind):
 
 def order_cases():
     """Every kind after every kind: sections out of order, open conditions."""
-    for kind in range(1, 15):
+    for kind in FIRST_KINDS:
         before = last_of_kind(kind)
-        for next_kind in range(1, 15):
+        for next_kind in FIRST_KINDS:
             label = f"4 kind {next_kind} after {kind}"
-            out = (SECTIONS[next_kind - 1] < SECTIONS[kind - 1]
-                   or kind < 6 < next_kind)
             for after in (b"", b"\x0e", sample(1)):
-                if out:
+                if is_out_of_order(next_kind, kind):
                     yield refused(label, 4, before, sample(next_kind), after)
                 else:
                     yield Case(label, before + sample(next_kind) + after)
@@ -101,11 +116,9 @@ def order_cases():
 def base_order_cases():
     """A record of an earlier section put at every place of the base."""
     for index, before, after in positions():
-        for kind in range(1, 15):
+        for kind in FIRST_KINDS:
             label = f"4 kind {kind} put at record {index}"
-            if index and SECTIONS[kind - 1] < SECTIONS[BASE[index - 1][0] - 1]:
-                yield refused(label, 4, before, sample(kind), after)
-            elif index and BASE[index - 1][0] < 6 < kind:
+            if index and is_out_of_order(kind, BASE[index - 1][0]):
                 yield refused(label, 4, before, sample(kind), after)
             else:
                 yield Case(label, before + sample(kind) + after)
@@ -160,7 +173,7 @@ def counts_before(index):
 
 def first_name_cases():
     """Refusal 7 at the first record, for each kind with names."""
-    for kind, length in enumerate(BODY_LENGTHS, 1):
+    for kind, length in FIRST_KINDS.items():
         if kind in FIELDS:
             yield refused(f"7 first kind {kind}", 7, b"",
                           bytes([kind]) + bytes(length))
@@ -202,7 +215,7 @@ def two_fault_cases(instrument):
     """Two faults at one record; the table's order holds."""
     small, point, front = SMALL_BYTES, SMALL[2], b"\x02\x06"
     full = front * 256
-    yield refused("2 over 3: bad kind last", 2, front, b"\x0f")
+    yield refused("3: kind 15 last", 3, front, b"\x0f")
     yield refused("2 over 4", 2, small, b"\x00", b"\x00")
     yield refused("3 over 4: leaf cut", 3, small, b"\x01\x00")
     yield refused("3 over 4: point cut in a condition", 3, b"\x02", b"\x07\x00")

@@ -54,7 +54,7 @@ def starred():
     trace_1 = M[:2] + bytes.fromhex("010100000006") + M[2:]
     trace_1 = trace_1[:18] + b"\x01" + trace_1[19:]
     return [Case("no bytes", b"", "refused 9 at 0"),
-            Case("0F", b"\x0f", "refused 2 at 0"),
+            Case("0F", b"\x0f", "refused 3 at 0"),
             Case("01", b"\x01", "refused 3 at 0"),
             Case("03", b"\x03", "refused 5 at 0"),
             Case("a name", bytes.fromhex("020607010000000000"),

@@ -5,8 +5,8 @@ seventeen rules hold, exact ones or wider ones.
 """
 from reference.certificates import first_fault, reachable_pairs
 from reference.loader import Accepted, verdict
-from reference.reading import (CALL_STEP, EVENT_STEP, PASS_STEP, Method, Point,
-                               Sheet)
+from reference.reading import (CALL_STEP, EVENT_STEP, FIELD_NAMES, FIELDS,
+                               PASS_STEP, Method, Point, Sheet)
 from sheets.records import TooManyPairs, encode, with_certificates
 
 from .draws import Draws
@@ -241,13 +241,19 @@ class Numbering:
         return len(self.trees) - 1
 
 
+def renamed(one, letter, new):
+    """A method or step with new names of one sort: c conditions, p points."""
+    fields = zip(FIELDS[one.kind], FIELD_NAMES[one.kind])
+    return one._replace(**{name: new(getattr(one, name))
+                           for sort, name in fields if sort == letter})
+
+
 def shuffled_conditions(draws, sheet):
     """The same sheet with its conditions in another order."""
     order = draws.shuffled(range(len(sheet.conditions)))
     new = {old: number for number, old in enumerate(order)}
     points = [Point(*(new[name] for name in point)) for point in sheet.points]
-    methods = [Method(*(new[name] for name in method[:3]), *method[3:])
-               for method in sheet.methods]
+    methods = [renamed(one, "c", new.__getitem__) for one in sheet.methods]
     return Sheet([sheet.conditions[old] for old in order], points, methods,
                  sheet.steps, [])
 

@@ -344,7 +344,9 @@ def refused_sheet_groups(cases):
     seen = {}
     for case in cases:
         if case.line and case.line.startswith("refused"):
-            number = case.line.split()[1]
+            # The bytes 0F and 10 stay among the kinds that give 2.
+            is_kind = case.label.startswith("kind ")
+            number = "2" if is_kind else case.line.split()[1]
             if len(case.data) < 200 or number == "1":
                 seen.setdefault(number, []).append(case)
     for number in sorted(seen):

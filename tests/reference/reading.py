@@ -1,5 +1,9 @@
 """Document 01, "Records" and refusals 1 to 9 of "What the loader returns", on an
-instrument (document 02, Ask 8)."""
+instrument (document 02, Ask 8); calls that may fail and refusal 18 (Ask 2).
+
+A method of kinds 8 and 9 has one outcome, a method of kinds 15 and 16 two: the
+normal one and the failed one. In code an outcome is `failed`, False or True.
+"""
 from typing import NamedTuple
 
 from .conditions import EITHER, ITEMS, JOIN, LEAF, STAR, apply_record
@@ -7,12 +11,28 @@ from .instruments import LARGE
 
 END_CONDITION, POINT, PRIMITIVE, METHOD = 6, 7, 8, 9
 EVENT_STEP, CALL_STEP, PASS_STEP, PAIR, END_CERTIFICATE = 10, 11, 12, 13, 14
+FAILING_PRIMITIVE, FAILING_METHOD, FAILING_CALL = 15, 16, 17
 
-BODY_LENGTHS = (4, 0, 0, 0, 0, 0, 6, 6, 10, 5, 6, 4, 5, 0)
-SECTIONS = (1, 1, 1, 1, 1, 1, 2, 3, 3, 4, 4, 4, 5, 5)
+BODY_LENGTHS = (4, 0, 0, 0, 0, 0, 6, 6, 10, 5, 6, 4, 5, 0, 10, 16, 8)
+CONDITIONS, POINTS, METHODS, STEPS, CERTIFICATES = range(1, 6)
+SECTIONS = (1, 1, 1, 1, 1, 1, 2, 3, 3, 4, 4, 4, 5, 5, 3, 3, 4)
 # Fields of a body: c condition, p point, m method (2 bytes each), e event (1).
 FIELDS = {POINT: "ccc", PRIMITIVE: "ccc", METHOD: "cccpp",
-          EVENT_STEP: "ppe", CALL_STEP: "ppm", PASS_STEP: "pp"}
+          EVENT_STEP: "ppe", CALL_STEP: "ppm", PASS_STEP: "pp",
+          FAILING_PRIMITIVE: "ccccc", FAILING_METHOD: "cccppccp",
+          FAILING_CALL: "pppm"}
+# Their names in Point, Method and Step.
+FIELD_NAMES = {
+    POINT: ("past", "own", "due"),
+    PRIMITIVE: ("pre", "trace", "future"),
+    METHOD: ("pre", "trace", "future", "entry", "exit"),
+    EVENT_STEP: ("source", "target", "operand"),
+    CALL_STEP: ("source", "target", "operand"),
+    PASS_STEP: ("source", "target"),
+    FAILING_PRIMITIVE: ("pre", "trace", "future", "failed_trace", "failed_future"),
+    FAILING_METHOD: ("pre", "trace", "future", "entry", "exit",
+                     "failed_trace", "failed_future", "failed_exit"),
+    FAILING_CALL: ("source", "target", "failed_target", "operand")}
 
 MAX_CONDITIONS = 256
 MAX_RECORDS = 96
@@ -42,25 +62,73 @@ class Point(NamedTuple):
     due: int
 
 
+class Outcome(NamedTuple):
+    """What a call is held to that returns this way, and the point from which a
+    body returns so."""
+    trace: int
+    future: int
+    exit: int | None
+
+
 class Method(NamedTuple):
-    """A method with body, or a primitive, whose entry and exit are None."""
+    """A method with body, or a primitive, whose entry and exits are None. What is
+    failed is None where there is one outcome."""
     pre: int
     trace: int
     future: int
     entry: int | None = None
     exit: int | None = None
+    failed_trace: int | None = None
+    failed_future: int | None = None
+    failed_exit: int | None = None
 
     @property
     def has_body(self):
         return self.entry is not None
 
+    @property
+    def may_fail(self):
+        return self.failed_trace is not None
+
+    @property
+    def kind(self):
+        if self.may_fail:
+            return FAILING_METHOD if self.has_body else FAILING_PRIMITIVE
+        return METHOD if self.has_body else PRIMITIVE
+
+    @property
+    def outcomes(self):
+        return (False, True) if self.may_fail else (False,)
+
+    def outcome(self, failed):
+        """The outcome, or None if the method does not have it."""
+        if not failed:
+            return Outcome(self.trace, self.future, self.exit)
+        if not self.may_fail:
+            return None
+        return Outcome(self.failed_trace, self.failed_future, self.failed_exit)
+
 
 class Step(NamedTuple):
-    """A step; operand is the event or the called method, None for a pass."""
+    """A step; operand is the event or the called method, None for a pass. Just a
+    call of a method with two outcomes has a failed target."""
     kind: int
     source: int
     target: int
     operand: int | None = None
+    failed_target: int | None = None
+
+    @property
+    def is_call(self):
+        return self.kind in (CALL_STEP, FAILING_CALL)
+
+    @property
+    def outcomes(self):
+        return (False, True) if self.kind == FAILING_CALL else (False,)
+
+    def leads_to(self, failed):
+        """The target of an outcome, or None if the step does not have it."""
+        return self.failed_target if failed else self.target
 
 
 class Sheet(NamedTuple):
@@ -74,7 +142,7 @@ class Sheet(NamedTuple):
 def read_record(data, offset):
     """The record at the offset, or the refusal that ends reading."""
     kind = data[offset]
-    if not 1 <= kind <= 14:
+    if not 1 <= kind <= len(BODY_LENGTHS):
         return Refusal(2, offset)
     end = offset + 1 + BODY_LENGTHS[kind - 1]
     if end > len(data):
@@ -83,7 +151,7 @@ def read_record(data, offset):
 
 
 def fields_of(record):
-    """The fields of a record of kinds 7 to 12, as a list of (letter, value)."""
+    """The fields of a record that has names, as a list of (letter, value)."""
     result, at = [], 0
     for letter in FIELDS[record.kind]:
         width = 1 if letter == "e" else 2
@@ -91,6 +159,12 @@ def fields_of(record):
         result.append((letter, value))
         at += width
     return result
+
+
+def named_fields(record):
+    """The fields of a record that has names, by name."""
+    return dict(zip(FIELD_NAMES[record.kind],
+                    (value for _, value in fields_of(record))))
 
 
 def pair_of(record):
@@ -130,16 +204,17 @@ class Reader:
 
     def is_over_limit(self, record):
         kind, sheet = record.kind, self.sheet
+        section = SECTIONS[kind - 1]
         if kind < END_CONDITION:
             return (self.records == MAX_RECORDS
                     or kind == LEAF and self.leaves == MAX_LEAVES)
         if kind == END_CONDITION:
             return len(sheet.conditions) == MAX_CONDITIONS
-        if kind == POINT:
+        if section == POINTS:
             return len(sheet.points) == self.instrument.points
-        if kind in (PRIMITIVE, METHOD):
+        if section == METHODS:
             return len(sheet.methods) == MAX_METHODS
-        return kind < PAIR and len(sheet.steps) == MAX_STEPS
+        return section == STEPS and len(sheet.steps) == MAX_STEPS
 
     def has_bad_name(self, record):
         if record.kind not in FIELDS:
@@ -150,15 +225,23 @@ class Reader:
                    for letter, value in fields_of(record))
 
     def is_primitive_first(self, record):
-        return record.kind == PRIMITIVE and not self.sheet.methods
+        return (record.kind in (PRIMITIVE, FAILING_PRIMITIVE)
+                and not self.sheet.methods)
+
+    def is_call_of_other_outcomes(self, record):
+        if record.kind not in (CALL_STEP, FAILING_CALL):
+            return False
+        called = self.sheet.methods[named_fields(record)["operand"]]
+        return called.may_fail != (record.kind == FAILING_CALL)
 
     def refusal_at(self, record):
-        """Refusals 4 to 7 and 9 at one record, in the table's order."""
+        """Refusals 4 to 7, 9 and 18 at one record, in this order."""
         for number, applies in ((4, self.is_out_of_order),
                                 (5, self.lacks_items),
                                 (6, self.is_over_limit),
                                 (7, self.has_bad_name),
-                                (9, self.is_primitive_first)):
+                                (9, self.is_primitive_first),
+                                (18, self.is_call_of_other_outcomes)):
             if applies(record):
                 return Refusal(number, record.offset)
         return None
@@ -196,17 +279,17 @@ class Reader:
         self.leaves += record.kind == LEAF
 
     def _add_named(self, record):
-        values = [value for _, value in fields_of(record)]
-        if record.kind == POINT:
-            self.sheet.points.append(Point(*values))
-        elif record.kind in (PRIMITIVE, METHOD):
-            self.sheet.methods.append(Method(*values))
+        fields = named_fields(record)
+        if self.section == POINTS:
+            self.sheet.points.append(Point(**fields))
+        elif self.section == METHODS:
+            self.sheet.methods.append(Method(**fields))
         else:
-            self.sheet.steps.append(Step(record.kind, *values))
+            self.sheet.steps.append(Step(record.kind, **fields))
 
 
 def read_sheet(data, instrument=LARGE):
-    """The sheet that the bytes stand for, or the first of refusals 1 to 9."""
+    """The sheet that the bytes stand for, or the first of refusals 1 to 9 and 18."""
     if len(data) > instrument.bytes:
         return Refusal(1, instrument.bytes)
     reader, offset = Reader(instrument), 0
@@ -223,7 +306,7 @@ def read_sheet(data, instrument=LARGE):
 
 
 def reading_line(data, instrument=LARGE):
-    """One line: the refusal of 1 to 9, or the five counts."""
+    """One line: the refusal of 1 to 9 and 18, or the five counts."""
     result = read_sheet(data, instrument)
     if isinstance(result, Refusal):
         return f"refused {result.number} at {result.place}"

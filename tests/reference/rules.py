@@ -1,18 +1,27 @@
-"""Document 01, "Seventeen rules": what is tested, and in which order."""
+"""Document 01, "Seventeen rules", and rules 18 to 24 of document 02, Ask 2: what is
+tested, and in which order."""
 from typing import NamedTuple
 
 from .conditions import JOIN, LEAF
-from .reading import CALL_STEP, EVENT_STEP, PASS_STEP
+from .reading import (CALL_STEP, EVENT_STEP, FAILING_CALL, FAILING_METHOD, METHOD,
+                      PASS_STEP)
 
-# The rules that have a certificate, by what they are for.
-METHOD_CERTIFICATES = 3
-STEP_CERTIFICATES = {EVENT_STEP: 3, CALL_STEP: 5, PASS_STEP: 3}
+# How many rules a method with body and a step have, by kind; rules 1, 2 and 24 are
+# not among them. Rule 4 has no certificate.
+METHOD_RULES = {METHOD: 4, FAILING_METHOD: 6}
+STEP_RULES = {EVENT_STEP: 3, CALL_STEP: 5, PASS_STEP: 3, FAILING_CALL: 9}
+
+# Rules that are for an outcome, by `failed`: of a call's return past, own, future
+# and due, of an exit own and due, and of the end of the outermost call.
+RETURN_RULES = {False: (11, 12, 13, 14), True: (18, 19, 20, 21)}
+EXIT_RULES = {False: (5, 6), True: (22, 23)}
+END_RULE = {False: 2, True: 24}
 
 
 class Rule(NamedTuple):
     """Rule `number` for a method or step: every word of left is in right.
 
-    Rules 1, 2 and 4 have no right: left must hold the empty word.
+    Rules 1, 2, 4 and 24 have no right: left must hold the empty word.
     """
     number: int
     subject: int
@@ -25,21 +34,43 @@ class Rule(NamedTuple):
 
     @property
     def subject_kind(self):
-        return "method" if self.number < 7 else "step"
+        return subject_kind(self.number)
+
+
+def subject_kind(number):
+    """What the rule of that number is about."""
+    return "method" if number < 7 or number > 21 else "step"
 
 
 def join(first, second):
     return (JOIN, first, second)
 
 
+def end_rule(sheet, failed):
+    """Rule 2, or 24: what follows the return of the outermost call."""
+    future = sheet.methods[0].outcome(failed).future
+    return Rule(END_RULE[failed], 0, sheet.conditions[future])
+
+
+def exit_rules(sheet, number, failed):
+    """Rules 5 and 6, or 22 and 23, of a method with body."""
+    outcome, conditions = sheet.methods[number].outcome(failed), sheet.conditions
+    exit_ = sheet.points[outcome.exit]
+    own, due = EXIT_RULES[failed]
+    yield Rule(own, number, conditions[exit_.own], conditions[outcome.trace])
+    yield Rule(due, number, conditions[outcome.future], conditions[exit_.due])
+
+
 def method_rules(sheet, number):
-    """Rules 3 to 6 of a method with body."""
+    """Rules 3 to 6, 22 and 23 of a method with body, and 24 of method 0."""
     method, conditions = sheet.methods[number], sheet.conditions
-    entry, exit_ = sheet.points[method.entry], sheet.points[method.exit]
+    entry = sheet.points[method.entry]
     yield Rule(3, number, conditions[method.pre], conditions[entry.past])
     yield Rule(4, number, conditions[entry.own])
-    yield Rule(5, number, conditions[exit_.own], conditions[method.trace])
-    yield Rule(6, number, conditions[method.future], conditions[exit_.due])
+    for failed in method.outcomes:
+        yield from exit_rules(sheet, number, failed)
+    if number == 0 and method.may_fail:
+        yield end_rule(sheet, True)
 
 
 def event_rules(number, event, p, q):
@@ -50,14 +81,25 @@ def event_rules(number, event, p, q):
     yield Rule(9, number, join(a, q[2]), p[2])
 
 
-def call_rules(number, called, p, q):
-    """Rules 10 to 14; called is the triple (pre, trace, future)."""
-    pre, trace, future = called
-    yield Rule(10, number, p[0], pre)
-    yield Rule(11, number, join(p[0], trace), q[0])
-    yield Rule(12, number, join(p[1], trace), q[1])
-    yield Rule(13, number, q[2], future)
-    yield Rule(14, number, join(trace, q[2]), p[2])
+def return_rules(number, failed, trace, future, p, q):
+    """Rules 11 to 14, or 18 to 21; q is the target of the outcome."""
+    past, own, after, due = RETURN_RULES[failed]
+    yield Rule(past, number, join(p[0], trace), q[0])
+    yield Rule(own, number, join(p[1], trace), q[1])
+    yield Rule(after, number, q[2], future)
+    yield Rule(due, number, join(trace, q[2]), p[2])
+
+
+def call_rules(sheet, number, p):
+    """Rules 10 to 14, and 18 to 21 of a call that may fail."""
+    step, conditions = sheet.steps[number], sheet.conditions
+    called = sheet.methods[step.operand]
+    yield Rule(10, number, p[0], conditions[called.pre])
+    for failed in step.outcomes:
+        outcome = called.outcome(failed)
+        yield from return_rules(
+            number, failed, conditions[outcome.trace], conditions[outcome.future],
+            p, point_conditions(sheet, step.leads_to(failed)))
 
 
 def pass_rules(number, p, q):
@@ -67,25 +109,27 @@ def pass_rules(number, p, q):
     yield Rule(17, number, q[2], p[2])
 
 
+def point_conditions(sheet, number):
+    """The trees of a point's past, own and due."""
+    return [sheet.conditions[name] for name in sheet.points[number]]
+
+
 def step_rules(sheet, number):
     """The rules of one step."""
     step = sheet.steps[number]
-    p = [sheet.conditions[name] for name in sheet.points[step.source]]
-    q = [sheet.conditions[name] for name in sheet.points[step.target]]
+    p = point_conditions(sheet, step.source)
+    if step.is_call:
+        return call_rules(sheet, number, p)
+    q = point_conditions(sheet, step.target)
     if step.kind == EVENT_STEP:
         return event_rules(number, step.operand, p, q)
-    if step.kind == PASS_STEP:
-        return pass_rules(number, p, q)
-    called = [sheet.conditions[name]
-              for name in sheet.methods[step.operand][:3]]
-    return call_rules(number, called, p, q)
+    return pass_rules(number, p, q)
 
 
 def all_rules(sheet):
     """Every rule of a sheet in the order of testing."""
-    method0 = sheet.methods[0]
-    yield Rule(1, 0, sheet.conditions[method0.pre])
-    yield Rule(2, 0, sheet.conditions[method0.future])
+    yield Rule(1, 0, sheet.conditions[sheet.methods[0].pre])
+    yield end_rule(sheet, False)
     for number, method in enumerate(sheet.methods):
         if method.has_body:
             yield from method_rules(sheet, number)
@@ -93,16 +137,19 @@ def all_rules(sheet):
         yield from step_rules(sheet, number)
 
 
+def bodies(sheet):
+    """The methods with body."""
+    return [method for method in sheet.methods if method.has_body]
+
+
 def certificates_needed(sheet):
     """How many certificates the rules need."""
-    bodies = sum(method.has_body for method in sheet.methods)
-    return (METHOD_CERTIFICATES * bodies
-            + sum(STEP_CERTIFICATES[step.kind] for step in sheet.steps))
+    return (sum(METHOD_RULES[method.kind] - 1 for method in bodies(sheet))
+            + sum(STEP_RULES[step.kind] for step in sheet.steps))
 
 
 def rule_count(sheet):
     """The count that an accepted sheet is given."""
-    kinds = [step.kind for step in sheet.steps]
-    return (2 + 4 * sum(method.has_body for method in sheet.methods)
-            + 3 * kinds.count(EVENT_STEP) + 5 * kinds.count(CALL_STEP)
-            + 3 * kinds.count(PASS_STEP))
+    return (2 + sum(METHOD_RULES[method.kind] for method in bodies(sheet))
+            + sheet.methods[0].may_fail
+            + sum(STEP_RULES[step.kind] for step in sheet.steps))

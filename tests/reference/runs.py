@@ -1,5 +1,5 @@
 """Document 01, "Runs": the state of a run, its moves, and demand 3 on a state;
-document 02, Ask 12: what is owed while a run goes on.
+document 02, Ask 2: calls that fail, and Ask 12: what is owed while a run goes on.
 
 Demand 3: every call so far, the outermost activation too, began after a
 history in its pre; every returned call raised a word of its trace; if the
@@ -9,12 +9,15 @@ Ask 12: after a call has returned, and whenever control is in the activation
 that made it or in one of that activation's callers, the events raised since
 that return, followed by any word of the due at the present point, lie in the
 call's future.
+
+Failing is a way of returning. The trace and the future of a returned call are
+those of its outcome.
 """
 from typing import NamedTuple
 
 from .conditions import EVENTS, holds
 from .inclusion import missing_word
-from .reading import CALL_STEP, EVENT_STEP
+from .reading import EVENT_STEP
 
 
 class Call(NamedTuple):
@@ -28,10 +31,15 @@ class Call(NamedTuple):
     begun: tuple
     maker: "Call | None" = None   # the activation that made it
     returned: tuple | None = None
+    failed: bool | None = None    # the outcome, once it has returned
 
     @property
     def raised(self):
         return self.returned[len(self.begun):]
+
+    def closed(self, history, failed):
+        """The call, returned with that history and outcome."""
+        return self._replace(returned=history, failed=failed)
 
 
 class Run(NamedTuple):
@@ -51,12 +59,15 @@ class Run(NamedTuple):
 
 
 class Move(NamedTuple):
-    """A step with or without a word; a return if the step is None."""
+    """A step with or without a word; a return if the step is None. Either has an
+    outcome, which counts where a call returns."""
     step: int | None = None
     word: tuple | None = None
+    failed: bool = False
 
 
 RETURN = Move()
+FAIL = Move(failed=True)
 
 
 def start(sheet):
@@ -70,13 +81,15 @@ def in_condition(sheet, number, word):
             and holds(sheet.conditions[number], word))
 
 
-def make_return(sheet, run):
-    """The run after a return, or the same run."""
+def make_return(sheet, run, failed):
+    """The run after a return with the outcome, or the same run."""
     call = run.active
-    if run.point != sheet.methods[call.method].exit:
+    outcome = sheet.methods[call.method].outcome(failed)
+    point = (run.point if call.step is None
+             else sheet.steps[call.step].leads_to(failed))
+    if outcome is None or point is None or run.point != outcome.exit:
         return run
-    point = run.point if call.step is None else sheet.steps[call.step].target
-    closed = call._replace(returned=run.history)
+    closed = call.closed(run.history, failed)
     return Run(run.history, run.open_calls[:-1],
                run.returned_calls + (closed,), point)
 
@@ -89,12 +102,13 @@ def make_call(sheet, run, move):
     if method.has_body:
         return run._replace(open_calls=run.open_calls + (call,),
                             point=method.entry)
-    if move.word is None or not in_condition(sheet, method.trace, move.word):
+    outcome, point = method.outcome(move.failed), step.leads_to(move.failed)
+    if (outcome is None or point is None or move.word is None
+            or not in_condition(sheet, outcome.trace, move.word)):
         return run
     history = run.history + tuple(move.word)
-    closed = call._replace(returned=history)
-    return Run(history, run.open_calls, run.returned_calls + (closed,),
-               step.target)
+    closed = call.closed(history, move.failed)
+    return Run(history, run.open_calls, run.returned_calls + (closed,), point)
 
 
 def make_move(sheet, run, move):
@@ -102,13 +116,13 @@ def make_move(sheet, run, move):
     if run.ended:
         return run
     if move.step is None:
-        return make_return(sheet, run)
+        return make_return(sheet, run, move.failed)
     if not 0 <= move.step < len(sheet.steps):
         return run
     step = sheet.steps[move.step]
     if run.point != step.source:
         return run
-    if step.kind == CALL_STEP:
+    if step.is_call:
         return make_call(sheet, run, move)
     if step.kind == EVENT_STEP:
         run = run._replace(history=run.history + (step.operand,))
@@ -122,10 +136,11 @@ def broken_call(sheet, run, call, test):
         return "pre"
     if call.returned is None:
         return None
-    if not test(sheet, method.trace, call.raised):
+    outcome = method.outcome(call.failed)
+    if not test(sheet, outcome.trace, call.raised):
         return "trace"
     after = run.history[len(call.returned):]
-    if run.ended and not test(sheet, method.future, after):
+    if run.ended and not test(sheet, outcome.future, after):
         return "future"
     return None
 
@@ -160,7 +175,7 @@ def first_owed_break(sheet, run, find=missing):
     """The first returned call that breaks Ask 12 as (call, "owed"), or None."""
     for call in run.returned_calls:
         if in_caller(run, call):
-            future = sheet.methods[call.method].future
+            future = sheet.methods[call.method].outcome(call.failed).future
             since = run.history[len(call.returned):]
             if find(sheet, sheet.points[run.point].due, future, since) is not None:
                 return call, "owed"
