@@ -13,6 +13,13 @@ sheet to the limits of the entry instrument.
     step POINT -> POINT call METHOD
     step POINT -> POINT pass
 
+What may fail (document 02, Ask 2) says more:
+
+    primitive NAME pre .. trace .. future .. failed trace .. failed future ..
+    method NAME pre .. trace .. future .. entry .. exit ..
+        failed trace .. failed future .. failed exit POINT    (all in one line)
+    step POINT -> POINT call METHOD failing to POINT
+
 The certificates are all reachable pairs, breadth first.
 """
 import sys
@@ -23,9 +30,10 @@ if not __package__:  # run as a file, from any folder
 
 from reference.conditions import LEAF, postfix
 from reference.instruments import LARGE, chosen_instrument
-from reference.reading import (CALL_STEP, EVENT_STEP, MAX_CONDITIONS, MAX_LEAVES,
-                               MAX_METHODS, MAX_RECORDS, MAX_STEPS, PASS_STEP,
-                               Method, Point, Sheet, Step)
+from reference.reading import (CALL_STEP, EVENT_STEP, FAILING_CALL,
+                               MAX_CONDITIONS, MAX_LEAVES, MAX_METHODS,
+                               MAX_RECORDS, MAX_STEPS, PASS_STEP, Method, Point,
+                               Sheet, Step)
 
 from sheets.expressions import (NAME, RESERVED, ExpressionError, event_number,
                                 parse_expression)
@@ -39,6 +47,24 @@ class TextError(Exception):
     def __init__(self, line, message):
         super().__init__(message)
         self.line = line
+
+
+def keyed(words):
+    """The values by key of key value key value ..., where a key is one word, or
+    failed and one more; None if the words are not so."""
+    found, words = {}, iter(words)
+    for key in words:
+        if key == "failed":
+            key += " " + next(words, "")
+        value = next(words, None)
+        if value is None or key in found:
+            return None
+        found[key] = value
+    return found
+
+
+def shown(keys):
+    return " ".join(f"{key} .." for key in keys)
 
 
 class Assembler:
@@ -122,39 +148,46 @@ class Assembler:
         self.conditions[name] = len(self.sheet.conditions)
         self.sheet.conditions.append(tree)
 
-    def named(self, words, keys, statement):
-        """The name and the values of NAME key value key value ..."""
-        if len(words) != 1 + 2 * len(keys) or words[1::2] != list(keys):
-            form = " ".join(f"{key} .." for key in keys)
-            self.fail(f"expected: {statement} NAME {form}")
-        values = []
-        for key, word in zip(keys, words[2::2]):
-            if key in ("entry", "exit"):
-                values.append(self.find(word, self.points, "point"))
+    def named(self, words, keys, statement, failed_keys=()):
+        """The name and the values, by key, of NAME key value key value ...; the
+        failed keys come all or not at all."""
+        found = keyed(words[1:])
+        if list(found or ()) not in (list(keys), list(keys + failed_keys)):
+            form = f"expected: {statement} NAME {shown(keys)}"
+            if failed_keys:
+                form += f", then all or none of {shown(failed_keys)}"
+            self.fail(form)
+        for key, word in found.items():
+            if key.split()[-1] in ("entry", "exit"):
+                found[key] = self.find(word, self.points, "point")
             else:
-                values.append(self.find(word, self.conditions, "condition"))
-        return words[0], values
+                found[key] = self.find(word, self.conditions, "condition")
+        return words[0], {key.replace(" ", "_"): value
+                          for key, value in found.items()}
 
     def point(self, words):
         name, values = self.named(words, ("past", "own", "due"), "point")
         self.room(self.sheet.points, self.instrument.points, "points")
         self.points[self.new_name(name, self.points)] = len(self.sheet.points)
-        self.sheet.points.append(Point(*values))
+        self.sheet.points.append(Point(**values))
 
     def primitive(self, words):
-        self.add_method(*self.named(words, ("pre", "trace", "future"),
-                                    "primitive"))
+        self.add_method(*self.named(
+            words, ("pre", "trace", "future"), "primitive",
+            ("failed trace", "failed future")))
 
     def method(self, words):
-        keys = ("pre", "trace", "future", "entry", "exit")
-        self.add_method(*self.named(words, keys, "method"))
+        self.add_method(*self.named(
+            words, ("pre", "trace", "future", "entry", "exit"), "method",
+            ("failed trace", "failed future", "failed exit")))
 
     def add_method(self, name, values):
         self.room(self.sheet.methods, MAX_METHODS, "methods")
-        if not self.sheet.methods and len(values) == 3:
+        method = Method(**values)
+        if not self.sheet.methods and not method.has_body:
             self.fail("the first method is a primitive")
         self.methods[self.new_name(name, self.methods)] = len(self.sheet.methods)
-        self.sheet.methods.append(Method(*values))
+        self.sheet.methods.append(method)
         self.method_lines.append(self.line)
 
     def step(self, words):
@@ -168,14 +201,28 @@ class Assembler:
         elif kind == "event" and len(rest) == 1:
             step = Step(EVENT_STEP, source, target,
                         event_number(rest[0], self.words))
-        elif kind == "call" and len(rest) == 1:
-            step = Step(CALL_STEP, source, target,
-                        self.find(rest[0], self.methods, "method"))
+        elif kind == "call" and (len(rest) == 1 or rest[1:3] == ["failing", "to"]
+                                 and len(rest) == 4):
+            step = self.call(source, target, rest[0], rest[3:])
         else:
-            self.fail("a step ends with: event EVENT, call METHOD, or pass")
+            self.fail("a step ends with: event EVENT, call METHOD, "
+                      "call METHOD failing to POINT, or pass")
         self.room(self.sheet.steps, MAX_STEPS, "steps")
         self.sheet.steps.append(step)
         self.step_lines.append(self.line)
+
+    def call(self, source, target, name, failed_target):
+        """The call step; the failed target is a list of no name or one."""
+        number = self.find(name, self.methods, "method")
+        may_fail = self.sheet.methods[number].may_fail
+        if may_fail and not failed_target:
+            self.fail(f"'{name}' may fail: call {name} failing to POINT")
+        if failed_target and not may_fail:
+            self.fail(f"'{name}' cannot fail: call {name}")
+        if not may_fail:
+            return Step(CALL_STEP, source, target, number)
+        return Step(FAILING_CALL, source, target, number,
+                    self.find(failed_target[0], self.points, "point"))
 
     def finish(self):
         """The whole sheet with its certificates."""
@@ -185,7 +232,8 @@ class Assembler:
             return with_certificates(self.sheet, most_pairs(self.instrument))
         except TooManyPairs as error:
             rule = error.rule
-            lines = self.method_lines if rule.number < 7 else self.step_lines
+            lines = (self.method_lines if rule.subject_kind == "method"
+                     else self.step_lines)
             raise TextError(lines[rule.subject], f"the reachable pairs up to "
                             f"rule {rule.number} do not fit in a sheet") from None
 

@@ -14,23 +14,28 @@ if not __package__:  # run as a file, from any folder
 
 from reference.instruments import LARGE, chosen_instrument
 from reference.loader import load_line
-from reference.reading import (CALL_STEP, END_CERTIFICATE, END_CONDITION,
-                               EVENT_STEP, METHOD, PAIR, PASS_STEP, POINT,
-                               PRIMITIVE, Reader, Refusal, fields_of, pair_of,
-                               read_record)
+from reference.reading import (BODY_LENGTHS, CALL_STEP, END_CERTIFICATE,
+                               END_CONDITION, EVENT_STEP, FAILING_CALL,
+                               FAILING_METHOD, FAILING_PRIMITIVE, FIELD_NAMES,
+                               METHOD, METHODS, PAIR, PASS_STEP, POINT, POINTS,
+                               PRIMITIVE, SECTIONS, Reader, Refusal, fields_of,
+                               pair_of, read_record)
 from reference.conditions import LEAF
 from reference.rules import all_rules
 
 from sheets.expressions import show, show_set
 
 ITEM_NAMES = ("leaf", "EMPTY", "JOIN", "EITHER", "STAR")
-KEYS = {POINT: ("past", "own", "due"), PRIMITIVE: ("pre", "trace", "future"),
-        METHOD: ("pre", "trace", "future", "entry", "exit"),
-        EVENT_STEP: ("from", "to", "event"), CALL_STEP: ("from", "to", "method"),
-        PASS_STEP: ("from", "to")}
+STEP_KEYS = {EVENT_STEP: ("from", "to", "event"),
+             CALL_STEP: ("from", "to", "method"), PASS_STEP: ("from", "to"),
+             FAILING_CALL: ("from", "to", "failing to", "method")}
+KEYS = {kind: [name.replace("_", " ") for name in names]
+        for kind, names in FIELD_NAMES.items()} | STEP_KEYS
 NAMES = {POINT: "point", PRIMITIVE: "primitive", METHOD: "method",
          EVENT_STEP: "event step", CALL_STEP: "call step",
-         PASS_STEP: "pass step"}
+         PASS_STEP: "pass step", FAILING_PRIMITIVE: "primitive",
+         FAILING_METHOD: "method", FAILING_CALL: "call step"}
+LONGEST = 1 + max(BODY_LENGTHS)
 
 
 def certificate_owners(sheet):
@@ -55,10 +60,10 @@ class Printer:
         return self.owners[number] if number < len(self.owners) else "no rule"
 
     def numbered(self, record):
-        """A record of kinds 7 to 12."""
-        sheet = self.reader.sheet
-        part = (sheet.points if record.kind == POINT else
-                sheet.methods if record.kind <= METHOD else sheet.steps)
+        """A record that is counted by itself: of a point, a method or a step."""
+        sheet, section = self.reader.sheet, SECTIONS[record.kind - 1]
+        part = {POINTS: sheet.points, METHODS: sheet.methods}.get(section,
+                                                                  sheet.steps)
         fields = " ".join(f"{key} {value}" for key, (_, value)
                           in zip(KEYS[record.kind], fields_of(record)))
         return f"{NAMES[record.kind]} {len(part)}: {fields}"
@@ -88,7 +93,7 @@ class Printer:
         while offset < len(data) <= self.reader.instrument.bytes:
             record = read_record(data, offset)
             if isinstance(record, Refusal) or self.reader.refusal_at(record):
-                yield f"{offset:6}  {data[offset:offset + 11].hex(' ')}"
+                yield f"{offset:6}  {data[offset:offset + LONGEST].hex(' ')}"
                 return
             yield f"{offset:6}  {record.kind:02X}  {self.describe(record)}"
             self.reader.add(record)

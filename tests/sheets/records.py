@@ -2,7 +2,7 @@
 from reference.certificates import reachable_pairs
 from reference.conditions import LEAF, postfix
 from reference.instruments import LARGE
-from reference.reading import EVENT_STEP, CALL_STEP, Sheet
+from reference.reading import FIELD_NAMES, Sheet
 from reference.rules import all_rules
 
 PAIR_BYTES = 6
@@ -50,6 +50,20 @@ def pass_step(source, target):
     return b"\x0c" + u16(source, target)
 
 
+def failing_primitive(pre, trace, future, failed_trace, failed_future):
+    return b"\x0f" + u16(pre, trace, future, failed_trace, failed_future)
+
+
+def failing_method(pre, trace, future, entry, exit_,
+                   failed_trace, failed_future, failed_exit):
+    return b"\x10" + u16(pre, trace, future, entry, exit_,
+                         failed_trace, failed_future, failed_exit)
+
+
+def failing_call(source, target, failed_target, called):
+    return b"\x11" + u16(source, target, failed_target, called)
+
+
 def pair(place, rights):
     return b"\x0d" + bytes([place]) + u32(rights)
 
@@ -59,18 +73,14 @@ def certificate(pairs):
     return b"".join(pair(*one) for one in pairs) + b"\x0e"
 
 
-def method_record(one):
-    """The record of a method or primitive."""
-    return method(*one) if one.has_body else primitive(*one[:3])
+WRITERS = {8: primitive, 9: method, 10: event_step, 11: call_step, 12: pass_step,
+           15: failing_primitive, 16: failing_method, 17: failing_call}
 
 
-def step_record(one):
-    """The record of a step."""
-    if one.kind == EVENT_STEP:
-        return event_step(*one[1:])
-    if one.kind == CALL_STEP:
-        return call_step(*one[1:])
-    return pass_step(one.source, one.target)
+def named_record(one):
+    """The record of a method or of a step."""
+    return WRITERS[one.kind](*(getattr(one, name)
+                               for name in FIELD_NAMES[one.kind]))
 
 
 def encode(sheet):
@@ -78,8 +88,7 @@ def encode(sheet):
     return b"".join(
         [condition(tree) for tree in sheet.conditions]
         + [point(*one) for one in sheet.points]
-        + [method_record(one) for one in sheet.methods]
-        + [step_record(one) for one in sheet.steps]
+        + [named_record(one) for one in sheet.methods + sheet.steps]
         + [certificate(pairs) for pairs in sheet.certificates])
 
 
