@@ -296,7 +296,7 @@ def long_certificates(instrument):
 def sheet_cases():
     """Everything that is loaded."""
     yield from special.starred()[:-2]
-    yield from special.listed_examples(ENTRY)
+    yield from special.former_examples(ENTRY)
     yield from special.longest(ENTRY)
     yield from walks(ENTRY)
     sheets = [sheet for _, sheet in true_sheets(84, 10 * len(SHAPES), 40)]

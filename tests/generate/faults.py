@@ -5,8 +5,8 @@ or None where only the reference says it.
 """
 from reference.conditions import bits, places_of
 from reference.loader import load_line
-from reference.reading import read_record
-from reference.rules import all_rules, rule_count
+from reference.reading import FIELD_NAMES, FIELDS, read_record
+from reference.rules import all_rules, rule_count, subject_kind
 from sheets.records import TooManyPairs, encode, with_certificates
 
 from .draws import Draws
@@ -16,6 +16,10 @@ from .true_sheets import Solver
 from .trees import random_tree
 
 ALL_RIGHTS = (1 << 32) - 1
+# The rules that have no certificate.
+UNCERTIFIED = (1, 2, 4, 24)
+# The kinds of steps that have a rule, by the last rule.
+STEP_KINDS = {9: (10,), 14: (11, 17), 17: (12,), 21: (17,)}
 
 
 def certified(sheet):
@@ -103,7 +107,7 @@ FAILURES = {1: fail_clause_1, 2: fail_clause_2, 3: fail_clause_3,
             4: fail_clause_4}
 
 
-def certificate_faults(seed, sheets, each):
+def certificate_faults(seed, sheets, each, numbers=range(1, 25)):
     """For each rule with a certificate and each clause, sheets that fail there.
 
     Few sheets may not have a clause: place 0 alone cannot fail clause 4.
@@ -112,7 +116,8 @@ def certificate_faults(seed, sheets, each):
     by_rule = {}
     for sheet in sheets:
         for index, rule in enumerate(certified(sheet)):
-            by_rule.setdefault(rule.number, []).append((sheet, index, rule))
+            if rule.number in numbers:
+                by_rule.setdefault(rule.number, []).append((sheet, index, rule))
     for number in sorted(by_rule):
         for clause, failure in FAILURES.items():
             made = tries = 0
@@ -146,16 +151,17 @@ def subjects(plan, number):
     """The methods or steps of a plan that have the rule."""
     if number < 3:
         return [0]
-    if number < 7:
-        return [method for method, _ in plan.bodies()]
-    kind = 10 if number < 10 else 11 if number < 15 else 12
+    if subject_kind(number) == "method":
+        return [method for method, body in plan.bodies()
+                if number < 7 or body.may_fail and (number < 24 or method == 0)]
+    kinds = STEP_KINDS[min(last for last in STEP_KINDS if number <= last)]
     return [index for index, step in enumerate(plan.steps)
-            if step.kind == kind and plan.steps.index(step) == index]
+            if step.kind in kinds and plan.steps.index(step) == index]
 
 
-def broken_rule(draws, number):
+def broken_rule(draws, number, shapes):
     """A sheet that keeps every rule but one, or None."""
-    plan = random_plan(draws, draws.pick(SHAPES))
+    plan = random_plan(draws, draws.pick(shapes))
     choice = subjects(plan, number)
     if not choice:
         return None
@@ -165,18 +171,18 @@ def broken_rule(draws, number):
         sheet = with_certificates(sheet, 150)
     except TooManyPairs:
         return None
-    kind = "method" if number < 7 else "step"
-    clause = 5 if number in (1, 2, 4) else 3
-    return sheet, f"unproved rule {number} {kind} {subject} clause {clause} "
+    clause = 5 if number in UNCERTIFIED else 3
+    return sheet, (f"unproved rule {number} {subject_kind(number)} {subject}"
+                   f" clause {clause} ")
 
 
-def broken_rules(seed, each):
-    """For each of the seventeen rules, sheets on which just that rule is false."""
+def broken_rules(seed, each, numbers=range(1, 18), shapes=SHAPES):
+    """For each of the rules, sheets on which just that rule is false."""
     draws = Draws(seed)
-    for number in range(1, 18):
+    for number in numbers:
         made = 0
         while made < each:
-            result = broken_rule(draws, number)
+            result = broken_rule(draws, number, shapes)
             if result is None:
                 continue
             data = encode(result[0])
@@ -281,9 +287,11 @@ def other_names(draws, sheet):
         points[index] = type(points[index])(*values)
     else:
         index = draws.below(len(methods))
-        values = list(methods[index])
-        values[draws.below(3)] = name
-        methods[index] = type(methods[index])(*values)
+        kind = methods[index].kind
+        names = [one for letter, one in zip(FIELDS[kind], FIELD_NAMES[kind])
+                 if letter == "c"]
+        changed = {names[draws.below(len(names))]: name}
+        methods[index] = methods[index]._replace(**changed)
     return sheet._replace(points=points, methods=methods)
 
 

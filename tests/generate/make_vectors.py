@@ -3,8 +3,9 @@
 What the program stored_cases reads (data/reading, data/sheets, data/words for the
 large instrument, data/entry_reading, data/entry_sheets, data/entry_words for the
 entry instrument) and what it must print (stdout), below FOLDER, its crate. The files
-are the same byte for byte each time. A case whose line document 01 gives by
-construction must get that line from the reference.
+are the same byte for byte each time. A case whose line the documents give by
+construction must get that line from the reference. The cases of document 02, Ask 2,
+stand behind all others of their file.
 """
 import sys
 import time
@@ -16,7 +17,7 @@ from reference.reading import read_sheet, reading_line
 from reference.rules import rule_count
 from sheets.records import encode
 
-from . import entry, faults
+from . import entry, faults, outcomes
 from .refusals import Case, reading_cases, without_repeats
 from .special import last_cases, special_cases, wide_sides
 from .true_sheets import large_true_sheets, true_sheets
@@ -97,12 +98,18 @@ def write_words(path, groups, instrument):
 
 # The files in the order of their lines: what writes one, and from what.
 FILES = {
-    "reading": (write_cases, all_reading_cases, reading_line, LARGE),
-    "sheets": (write_cases, all_sheet_cases, load_line, LARGE),
-    "words": (write_words, word_groups, LARGE),
-    "entry_reading": (write_cases, entry.reading_cases, reading_line, ENTRY),
-    "entry_sheets": (write_cases, entry.sheet_cases, load_line, ENTRY),
-    "entry_words": (write_words, entry.word_groups, ENTRY),
+    "reading": (write_cases, (all_reading_cases, outcomes.reading_cases),
+                reading_line, LARGE),
+    "sheets": (write_cases, (all_sheet_cases, outcomes.sheet_cases),
+               load_line, LARGE),
+    "words": (write_words, (word_groups, outcomes.word_groups), LARGE),
+    "entry_reading": (write_cases, (entry.reading_cases,
+                                    outcomes.entry_reading_cases),
+                      reading_line, ENTRY),
+    "entry_sheets": (write_cases, (entry.sheet_cases, outcomes.entry_sheet_cases),
+                     load_line, ENTRY),
+    "entry_words": (write_words, (entry.word_groups, outcomes.entry_word_groups),
+                    ENTRY),
 }
 
 
@@ -110,9 +117,10 @@ def main(arguments):
     folder = Path(arguments[0]) if arguments else FOLDER
     (folder / "data").mkdir(parents=True, exist_ok=True)
     start, lines = time.monotonic(), []
-    for name, (write, cases, *rest) in FILES.items():
+    for name, (write, parts, *rest) in FILES.items():
         path = folder / "data" / name
-        found = write(path, cases(), *rest)
+        cases = (case for part in parts for case in part())
+        found = write(path, cases, *rest)
         lines += found
         print(f"{name}: {len(found)} cases, {path.stat().st_size} bytes, "
               f"{time.monotonic() - start:.1f} s")

@@ -1,19 +1,47 @@
-"""Control graphs for sheets of document 01: points, methods and steps."""
+"""Control graphs for sheets of document 01: points, methods and steps; with
+methods that may fail, of document 02, Ask 2."""
 from typing import NamedTuple
 
-from reference.reading import CALL_STEP, EVENT_STEP, PASS_STEP, Step
+from reference.reading import (CALL_STEP, EVENT_STEP, FAILING_CALL, PASS_STEP,
+                               Step)
 
-from .trees import measured, random_tree
+from .trees import Language, measured, random_tree
 
 
 class Body(NamedTuple):
-    """A method with body."""
+    """A method with body; it may fail if it has a failed exit."""
     entry: int
     exit: int
+    failed_exit: int | None = None
+
+    @property
+    def may_fail(self):
+        return self.failed_exit is not None
+
+    def exit_of(self, failed):
+        return self.failed_exit if failed else self.exit
+
+
+class Traces(NamedTuple):
+    """A primitive that may fail."""
+    trace: Language
+    failed_trace: Language
+
+
+def outcomes(method):
+    """The outcomes of a method of a plan."""
+    return (False, True) if (isinstance(method, Traces) or isinstance(method, Body)
+                             and method.may_fail) else (False,)
+
+
+def given_trace(primitive, failed):
+    """The trace of a primitive of a plan."""
+    return primitive[failed] if isinstance(primitive, Traces) else primitive
 
 
 class Plan:
-    """A control graph; methods are Body or, for a primitive, its trace."""
+    """A control graph; methods are Body or, for a primitive, Traces or its one
+    trace."""
 
     def __init__(self, alphabet):
         self.alphabet = alphabet
@@ -209,6 +237,53 @@ def repeated_calls(draws, alphabet):
 
 SHAPES = (line, loop, structured, nested_calls, recursion, shared_points,
           tangled, exit_steps)
+
+
+def any_point(draws, plan, same):
+    """A point where failing leads: the one that is given, another, or a new one
+    with a step from it or to it."""
+    way = draws.below(10)
+    if way < 2:
+        return same
+    other = draws.below(plan.points)
+    if way < 6:
+        return other
+    new = plan.point()
+    add_step(draws, plan, *((other, new) if way < 8 else (new, other)), [])
+    return new
+
+
+def add_failing(draws, plan):
+    """Some methods that may fail, and the failed targets of their calls."""
+    numbers = draws.some(range(len(plan.methods)),
+                         draws.between(1, len(plan.methods)))
+    for number in numbers:
+        method = plan.methods[number]
+        if isinstance(method, Body):
+            plan.methods[number] = method._replace(
+                failed_exit=any_point(draws, plan, method.exit))
+        else:
+            tree = random_tree(draws, draws.between(1, 2), plan.alphabet)
+            failed = method if draws.chance(0.2) else measured(tree)
+            plan.methods[number] = Traces(method, failed)
+    for index, step in enumerate(plan.steps):
+        if step.kind == CALL_STEP and step.operand in numbers:
+            plan.steps[index] = step._replace(
+                kind=FAILING_CALL,
+                failed_target=any_point(draws, plan, step.target))
+
+
+def failing(shape):
+    """The shape with methods that may fail."""
+    def changed(draws, alphabet):
+        plan = shape(draws, alphabet)
+        add_failing(draws, plan)
+        return plan
+    changed.__name__ = f"{shape.__name__} that may fail"
+    return changed
+
+
+FAILING_SHAPES = tuple(map(failing, SHAPES + (repeated_calls,)))
 
 
 def random_plan(draws, shape):

@@ -41,10 +41,10 @@ def refused(label, number, before, at_fault, after=b""):
                 f"refused {number} at {len(before)}")
 
 
-def positions():
-    """Each place between records of the base: index, bytes before, after."""
-    for index in range(len(BASE) + 1):
-        yield index, b"".join(BASE[:index]), b"".join(BASE[index:])
+def positions(base=BASE):
+    """Each place between records of a base: index, bytes before, after."""
+    for index in range(len(base) + 1):
+        yield index, b"".join(base[:index]), b"".join(base[index:])
 
 
 def is_out_of_order(kind, before_kind):
@@ -70,47 +70,48 @@ def kind_cases():
             yield refused(label, number, before, bytes([kind]), after)
 
 
-def truncations():
-    """Every beginning of the base; inside a body it is refusal 3."""
-    for index, before, _ in positions():
+def truncations(base=BASE):
+    """Every beginning of a base; inside a body it is refusal 3."""
+    for index, before, _ in positions(base):
         yield Case(f"beginning of {index} records", before)
-        record = BASE[index] if index < len(BASE) else b""
+        record = base[index] if index < len(base) else b""
         for length in range(1, len(record)):
             yield refused(f"3 record {index} cut to {length}", 3, before,
                           record[:length])
 
 
-def first_record_cut():
+def first_record_cut(kinds=FIRST_KINDS):
     """Refusal 3 at the first record, for each kind with a body."""
-    for kind, length in FIRST_KINDS.items():
+    for kind, length in kinds.items():
         for body in range(length):
             yield refused(f"3 first kind {kind} body {body}", 3, b"",
                           bytes([kind]) + bytes(body))
 
 
-def last_of_kind(kind):
-    """The base up to its last record of a kind, that record included."""
-    last = max(index for index, record in enumerate(BASE)
+def last_of_kind(kind, base=BASE):
+    """A base up to its last record of a kind, that record included."""
+    last = max(index for index, record in enumerate(base)
                if record[0] == kind)
-    return b"".join(BASE[:last + 1])
+    return b"".join(base[:last + 1])
 
 
-def sample(kind):
-    """The first record of a kind in the base."""
-    return next(record for record in BASE if record[0] == kind)
+def sample(kind, base=BASE):
+    """The first record of a kind in a base."""
+    return next(record for record in base if record[0] == kind)
 
 
-def order_cases():
+def order_cases(base=BASE, kinds=tuple(FIRST_KINDS)):
     """Every kind after every kind: sections out of order, open conditions."""
-    for kind in FIRST_KINDS:
-        before = last_of_kind(kind)
-        for next_kind in FIRST_KINDS:
+    for kind in kinds:
+        before = last_of_kind(kind, base)
+        for next_kind in kinds:
             label = f"4 kind {next_kind} after {kind}"
-            for after in (b"", b"\x0e", sample(1)):
+            one = sample(next_kind, base)
+            for after in (b"", b"\x0e", sample(1, base)):
                 if is_out_of_order(next_kind, kind):
-                    yield refused(label, 4, before, sample(next_kind), after)
+                    yield refused(label, 4, before, one, after)
                 else:
-                    yield Case(label, before + sample(next_kind) + after)
+                    yield Case(label, before + one + after)
 
 
 def base_order_cases():
@@ -140,16 +141,16 @@ def item_cases():
                               front + items, record, after)
 
 
-def name_cases():
+def name_cases(base=BASE, kinds=tuple(FIELDS)):
     """Refusal 7: each field at the count, above, and one below (no refusal)."""
-    for index, record in enumerate(BASE):
-        if record[0] not in FIELDS:
+    for index, record in enumerate(base):
+        if record[0] not in kinds:
             continue
-        before, after = b"".join(BASE[:index]), b"".join(BASE[index + 1:])
+        before, after = b"".join(base[:index]), b"".join(base[index + 1:])
         at = 1
         for letter in FIELDS[record[0]]:
             width = 1 if letter == "e" else 2
-            count = counts_before(index)[letter]
+            count = counts_before(base, index)[letter]
             for value in (count - 1, count, count + 1, 256 ** width - 1):
                 if value < 0:
                     continue
@@ -164,11 +165,12 @@ def name_cases():
             at += width
 
 
-def counts_before(index):
-    """How many of each there are before a record of the base."""
-    kinds = [record[0] for record in BASE[:index]]
-    return {"c": kinds.count(6), "p": kinds.count(7),
-            "m": kinds.count(8) + kinds.count(9), "e": 32}
+def counts_before(base, index):
+    """How many of each there are before a record of a base."""
+    kinds = [record[0] for record in base[:index]]
+    sections = [SECTIONS[kind - 1] for kind in kinds]
+    return {"c": kinds.count(6), "p": sections.count(2),
+            "m": sections.count(3), "e": 32}
 
 
 def first_name_cases():

@@ -20,6 +20,8 @@ EXAMPLES = Path(__file__).resolve().parent.parent.parent / "examples"
 # that came later, and those on which the entry instrument has another line.
 LATER_EXAMPLES = {"one_round"}
 ENTRY_EXAMPLES = {"long_walk"}
+# Examples of document 02, Ask 2, which stand behind all other stored cases.
+OUTCOME_EXAMPLES = {"gate_may_fail", "gate_may_fail_owed", "method_may_fail"}
 ANY_STAR = (STAR, (LEAF, ANY))
 EMPTY_TREE = (EMPTY,)
 M = bytes.fromhex("0206" "07000000000000" "0900000000000000000000"
@@ -47,6 +49,18 @@ def listed_examples(instrument=LARGE):
         lines |= dict(re.findall(r"^- (\w+): `(.*)`$", readme, re.M))
     for name, line in lines.items():
         yield Case(name, (EXAMPLES / f"{name}.sheet").read_bytes(), line)
+
+
+def former_examples(instrument=LARGE):
+    """The listed ones but those of document 02, Ask 2."""
+    return (case for case in listed_examples(instrument)
+            if case.label not in OUTCOME_EXAMPLES)
+
+
+def outcome_examples(instrument=LARGE):
+    """The listed ones of document 02, Ask 2."""
+    return (case for case in listed_examples(instrument)
+            if case.label in OUTCOME_EXAMPLES)
 
 
 def starred():
@@ -226,7 +240,8 @@ def special_cases():
     """All single sheets but those of last_cases."""
     yield from starred()
     yield from (case for case in examples()
-                if case.label not in LATER_EXAMPLES | ENTRY_EXAMPLES)
+                if case.label not in (LATER_EXAMPLES | ENTRY_EXAMPLES
+                                      | OUTCOME_EXAMPLES))
     yield full_limits()
     yield many_calls()
     yield from wide_sides()
@@ -239,10 +254,10 @@ def special_cases():
 
 def last_cases():
     """What came later: the stored cases before it stay as they are."""
-    yield from (case for case in listed_examples()
+    yield from (case for case in former_examples()
                 if case.label not in ENTRY_EXAMPLES)
     for data in (M, (EXAMPLES / "close_loop.sheet").read_bytes()):
         yield from clauses_2_and_3(read_sheet(data))
     yield from long_certificates()
-    yield from (case for case in listed_examples()
+    yield from (case for case in former_examples()
                 if case.label in ENTRY_EXAMPLES)

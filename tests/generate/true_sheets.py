@@ -1,23 +1,26 @@
 """True sheets of document 01 in many shapes, with all reachable pairs.
 
 A control graph is drawn first; then conditions are computed for which the
-seventeen rules hold, exact ones or wider ones.
+rules hold, exact ones or wider ones.
 """
 from reference.certificates import first_fault, reachable_pairs
 from reference.loader import Accepted, verdict
-from reference.reading import (CALL_STEP, EVENT_STEP, FIELD_NAMES, FIELDS,
-                               PASS_STEP, Method, Point, Sheet)
+from reference.reading import (EVENT_STEP, FIELD_NAMES, FIELDS, PASS_STEP,
+                               Method, Point, Sheet)
+from reference.rules import END_RULE, EXIT_RULES, RETURN_RULES
 from sheets.records import TooManyPairs, encode, with_certificates
 
 from .draws import Draws
 from .equations import (TooLarge, fits, least_solution, reversed_edges,
                         reversed_solution, widened_solution)
-from .plans import SHAPES, Body, random_plan
+from .plans import SHAPES, Body, given_trace, outcomes, random_plan
 from .trees import (ANY_STAR, EMPTY_TREE, NOTHING, ONLY_EMPTY, either,
                     events_of, measured, random_tree, star)
 
 
-PAST_RULES = {EVENT_STEP: 7, CALL_STEP: 11, PASS_STEP: 15}
+PAST_RULES = {EVENT_STEP: 7, PASS_STEP: 15}
+# Unknowns beside the points: a method's pre, or its future by `failed`.
+OUTER = {False: "outer", True: "failed"}
 
 
 class Solver:
@@ -52,7 +55,8 @@ class Solver:
             used |= 1 << event
         for method in self.plan.methods:
             if not isinstance(method, Body):
-                used |= events_of(method.tree)
+                for failed in outcomes(method):
+                    used |= events_of(given_trace(method, failed).tree)
         return used
 
     def extras(self, unknowns):
@@ -66,23 +70,27 @@ class Solver:
                     result[one] = measured(tree)
         return result
 
-    def label(self, step):
+    def label(self, step, failed):
         """What a step raises."""
         if step.kind == EVENT_STEP:
             return measured((1, 1 << step.operand))
-        if step.kind == CALL_STEP:
-            return self.trace(step.operand)
+        if step.is_call:
+            return self.trace(step.operand, failed)
         return ONLY_EMPTY
 
     def edges(self, steps, later):
-        """An edge for each step; later is 0 for past, 1 for own, 2 for due."""
+        """An edge for each step and outcome; later is 0 for past, 1 for own, 2
+        for due."""
         result = []
         for step in steps:
-            rule = PAST_RULES[step.kind] + later
-            if step.kind == CALL_STEP and later == 2:
-                rule = 14
-            if (rule, self.plan.steps.index(step)) != self.left_out:
-                result.append((step.source, self.label(step), step.target))
+            for failed in step.outcomes:
+                if step.is_call:
+                    rule = RETURN_RULES[failed][(0, 1, 3)[later]]
+                else:
+                    rule = PAST_RULES[step.kind] + later
+                if (rule, self.plan.steps.index(step)) != self.left_out:
+                    result.append((step.source, self.label(step, failed),
+                                   step.leads_to(failed)))
         return result
 
     def own_sources(self):
@@ -99,27 +107,29 @@ class Solver:
         reached, steps = {point}, []
         while True:
             more = [step for step in self.plan.steps
-                    if step.target in reached and step not in steps]
+                    if {step.target, step.failed_target} & reached
+                    and step not in steps]
             if not more:
                 return steps
             steps += more
             reached |= {step.source for step in more}
 
-    def trace(self, number):
+    def trace(self, number, failed=False):
         """The trace of a method; a recursive one gets a wide trace."""
-        if number not in self.traces:
+        key = number, failed
+        if key not in self.traces:
             method = self.plan.methods[number]
-            if (5, number) == self.left_out:
-                self.traces[number] = self.random_trace()
+            if (EXIT_RULES[failed][0], number) == self.left_out:
+                self.traces[key] = self.random_trace()
             elif isinstance(method, Body):
-                self.traces[number] = self.wide
-                self.traces[number] = self.body_trace(number, method)
+                self.traces[key] = self.wide
+                self.traces[key] = self.body_trace(number, method, failed)
             else:
-                self.traces[number] = method
-        return self.traces[number]
+                self.traces[key] = given_trace(method, failed)
+        return self.traces[key]
 
     def random_trace(self):
-        """A trace that may break rule 5, of events in use."""
+        """A trace that may break rule 5 or 22, of events in use."""
         while True:
             tree = random_tree(self.draws, 2, self.plan.alphabet)
             if events_of(tree) & ~self.used == 0:
@@ -129,24 +139,27 @@ class Solver:
         """Whether the trace of a method depends on itself."""
         seen, todo = set(), [number]
         while todo:
-            for step in self.steps_before(self.plan.methods[todo.pop()].exit):
-                if step.kind != CALL_STEP or step.operand in seen:
+            body = self.plan.methods[todo.pop()]
+            for step in (one for failed in outcomes(body)
+                         for one in self.steps_before(body.exit_of(failed))):
+                if not step.is_call or step.operand in seen:
                     continue
                 seen.add(step.operand)
                 if isinstance(self.plan.methods[step.operand], Body):
                     todo.append(step.operand)
         return number in seen
 
-    def body_trace(self, number, body):
+    def body_trace(self, number, body, failed):
         if self.is_recursive(number) or self.draws.chance(self.wide_share):
             return self.wide
-        edges = self.edges(self.steps_before(body.exit), 1)
+        exit_ = body.exit_of(failed)
+        edges = self.edges(self.steps_before(exit_), 1)
         try:
             solution = least_solution(self.draws.shuffled(
                 range(self.plan.points)), self.own_sources(), edges)
         except TooLarge:
             return self.wide
-        result = solution[body.exit]
+        result = solution[exit_]
         return result if fits(result, self.leaves) else self.wide
 
     def solve(self, unknowns, sources, edges):
@@ -156,52 +169,71 @@ class Solver:
 
     def owns(self):
         """own by point; a trace that does not hold its own(exit) is widened."""
-        for number in range(len(self.plan.methods)):
-            self.trace(number)
+        for number, method in enumerate(self.plan.methods):
+            for failed in outcomes(method):
+                self.trace(number, failed)
         while True:
             owns = self.solve(list(range(self.plan.points)), self.own_sources(),
                               self.edges(self.plan.steps, 1))
-            short = [number for number, body in self.plan.bodies()
-                     if (5, number) != self.left_out
-                     and not is_plainly_included(owns[body.exit].tree,
-                                                 self.traces[number].tree)]
+            short = [(number, failed) for number, body in self.plan.bodies()
+                     for failed in outcomes(body)
+                     if (EXIT_RULES[failed][0], number) != self.left_out
+                     and not is_plainly_included(
+                         owns[body.exit_of(failed)].tree,
+                         self.traces[number, failed].tree)]
             if not short:
                 return owns
-            self.traces.update((number, self.wide) for number in short)
+            self.traces.update((key, self.wide) for key in short)
 
-    def call_edges(self, rule, end):
-        """Edges from a call's source or target to the called method's unknown."""
-        return [(step[end], ONLY_EMPTY, ("outer", step.operand))
-                for number, step in enumerate(self.plan.steps)
-                if step.kind == CALL_STEP and (rule, number) != self.left_out]
+    def kept(self, ruled_edges):
+        """The edges whose rule and subject are not left out."""
+        return [edge for rule, subject, edge in ruled_edges
+                if (rule, subject) != self.left_out]
 
-    def body_edges(self, rule, end):
-        """Edges from a method's unknown to its entry or exit."""
-        return [(("outer", number), ONLY_EMPTY, body[end])
-                for number, body in self.plan.bodies()
-                if (rule, number) != self.left_out]
+    def entry_edges(self):
+        """From each method's pre to its entry, and from each call to the pre."""
+        return self.kept(
+            [(3, number, (("outer", number), ONLY_EMPTY, body.entry))
+             for number, body in self.plan.bodies()]
+            + [(10, number, (step.source, ONLY_EMPTY, ("outer", step.operand)))
+               for number, step in enumerate(self.plan.steps) if step.is_call])
+
+    def return_edges(self):
+        """From each method's futures to its exits, and from the targets of each
+        call to the futures."""
+        return self.kept(
+            [(EXIT_RULES[failed][1], number,
+              ((OUTER[failed], number), ONLY_EMPTY, body.exit_of(failed)))
+             for number, body in self.plan.bodies() for failed in outcomes(body)]
+            + [(RETURN_RULES[failed][2], number,
+                (step.leads_to(failed), ONLY_EMPTY, (OUTER[failed], step.operand)))
+               for number, step in enumerate(self.plan.steps) if step.is_call
+               for failed in step.outcomes])
 
     def pasts(self):
         """past by point, and pre by ("outer", method)."""
-        edges = self.edges(self.plan.steps, 0)
-        edges += self.body_edges(3, 0) + self.call_edges(10, 1)
-        return self.outer_solution(edges, 1)
+        edges = self.edges(self.plan.steps, 0) + self.entry_edges()
+        return self.outer_solution(edges, {False: 1})
 
     def dues(self):
-        """due by point, and future by ("outer", method)."""
-        edges = reversed_edges(self.edges(self.plan.steps, 2))
-        edges += self.body_edges(6, 1) + self.call_edges(13, 2)
-        return reversed_solution(self.outer_solution(edges, 2))
+        """due by point, and the futures by ("outer", method) and, where a method
+        may fail, ("failed", method)."""
+        edges = (reversed_edges(self.edges(self.plan.steps, 2))
+                 + self.return_edges())
+        return reversed_solution(self.outer_solution(edges, END_RULE))
 
-    def outer_solution(self, edges, rule):
-        """Solve for the points and one more unknown for each method."""
+    def outer_solution(self, edges, rules):
+        """Solve for the points and one more unknown for each method and outcome;
+        the rules say of each outcome of method 0 that it has the empty word."""
         unknowns = list(range(self.plan.points))
-        unknowns += [("outer", number)
-                     for number in range(len(self.plan.methods))]
+        unknowns += [(OUTER[failed], number) for failed in rules
+                     for number, method in enumerate(self.plan.methods)
+                     if failed in outcomes(method)]
         sources = self.extras(unknowns)
-        if (rule, 0) != self.left_out:
-            sources["outer", 0] = either(sources.get(("outer", 0), NOTHING),
-                                         ONLY_EMPTY)
+        for failed, rule in rules.items():
+            one = OUTER[failed], 0
+            if one in unknowns and (rule, 0) != self.left_out:
+                sources[one] = either(sources.get(one, NOTHING), ONLY_EMPTY)
         return self.solve(unknowns, sources, edges)
 
     def sheet(self):
@@ -213,10 +245,16 @@ class Solver:
                   for one in range(self.plan.points)]
         methods = []
         for number, method in enumerate(self.plan.methods):
-            ends = method if isinstance(method, Body) else ()
-            methods.append(Method(numbering(pasts["outer", number].tree),
-                                  numbering(self.trace(number).tree),
-                                  numbering(dues["outer", number].tree), *ends))
+            one = Method(numbering(pasts["outer", number].tree),
+                         numbering(self.trace(number).tree),
+                         numbering(dues["outer", number].tree))
+            if isinstance(method, Body):
+                one = one._replace(**method._asdict())
+            if True in outcomes(method):
+                one = one._replace(
+                    failed_trace=numbering(self.trace(number, True).tree),
+                    failed_future=numbering(dues["failed", number].tree))
+            methods.append(one)
         sheet = Sheet(numbering.trees, points, methods, self.plan.steps, [])
         return shuffled_conditions(self.draws, sheet)
 

@@ -12,6 +12,7 @@ from reference.conditions import (ANY, EITHER, EMPTY, JOIN, LEAF, STAR, bits,
 from sheets import records as r
 
 from .draws import Draws
+from .plans import SHAPES
 from .refusals import reading_cases
 from .trees import EMPTY_TREE, VOID, random_leaf, random_tree, random_word
 from .true_sheets import true_sheets
@@ -356,10 +357,10 @@ def refused_sheet_groups(cases):
             yield Group(case.data, cases)
 
 
-def true_sheet_groups(seed, count):
+def true_sheet_groups(seed, count, shapes=SHAPES):
     """Whole sheets, also with wrong certificates: 10 and 11 are not applied."""
     draws = Draws(seed)
-    for _, sheet in true_sheets(seed, count):
+    for _, sheet in true_sheets(seed, count, shapes=shapes):
         cases = []
         for number, tree in enumerate(sheet.conditions):
             words = condition_cases(draws, tree, [0, 1, 31], 2)
