@@ -1,5 +1,6 @@
-"""Random runs of accepted sheets, checked against demand 3 of document 01 and
-against Ask 12 of document 02, by the languages of the conditions.
+"""Random runs of accepted sheets, also of those in which calls may fail (document
+02, Ask 2), checked against demand 3 of document 01 and against Ask 12 of document
+02, by the languages of the conditions.
 
     python3 simulate.py [SEED [SHEETS]]
 
@@ -11,13 +12,14 @@ from typing import NamedTuple
 
 from generate.draws import Draws
 from generate.faults import changed_bytes, changed_conditions
-from generate.plans import repeated_calls
+from generate.outcomes import accepted_cases
+from generate.plans import FAILING_SHAPES, repeated_calls
 from generate.special import examples
 from generate.true_sheets import true_sheets
 from generate.words import derived
 from reference.loader import Accepted, verdict
 from reference.reading import CALL_STEP, EVENT_STEP, read_sheet
-from reference.runs import (RETURN, Move, callers, first_break,
+from reference.runs import (FAIL, RETURN, Move, callers, first_break,
                             first_owed_break, in_caller, in_condition,
                             make_move, missing, start)
 
@@ -31,15 +33,34 @@ class Totals:
         self.sheets = self.runs = self.moves = self.states = 0
         self.made = self.ended = self.after_end = self.deepest = 0
         self.owed = self.past_maker = self.told_apart = 0
+        self.failed_primitives = self.failed_bodies = self.failed_ends = 0
+        self.owed_by_failed = self.chosen = 0
 
     def count_owed(self, run):
         """Count the returned calls whose future is owed in a state."""
         for call in run.returned_calls:
             if in_caller(run, call):
                 self.owed += 1
+                self.owed_by_failed += call.failed
                 self.past_maker += call.maker is not run.active
             else:
                 self.told_apart += in_like_of_caller(run, call)
+
+    def count_failed(self, sheet, before, move, after):
+        """Count the calls that failed by a move, and those that could have failed
+        or not, as the move says."""
+        if len(after.returned_calls) == len(before.returned_calls):
+            return
+        other = make_move(sheet, before, move._replace(failed=not move.failed))
+        self.chosen += other != before
+        if not move.failed:
+            return
+        if move.step is not None:
+            self.failed_primitives += 1
+        elif after.ended:
+            self.failed_ends += 1
+        else:
+            self.failed_bodies += 1
 
 
 def in_like_of_caller(run, call):
@@ -87,34 +108,52 @@ class Walker:
     def any_break(self, run):
         return self.demand_3(run) or self.ask_12(run)
 
-    def word_for(self, step):
-        """A word for a step: of the trace if it calls a primitive."""
-        if step.kind != CALL_STEP or self.sheet.methods[step.operand].has_body:
-            return None if self.draws.chance(0.8) else (0, 1)
-        trace = self.sheet.methods[step.operand].trace
-        return derived(self.draws, self.sheet.conditions[trace],
-                       self.draws.below(5))
+    def fails(self, may_fail):
+        """The outcome of a move: either where the call may fail, mostly the normal
+        one elsewhere."""
+        return self.draws.chance(0.5 if may_fail else 0.1)
+
+    def step_move(self, number):
+        """A move with the step; with a word of the outcome's trace if it calls a
+        primitive that has the outcome."""
+        step = self.sheet.steps[number]
+        if not step.is_call or self.sheet.methods[step.operand].has_body:
+            word = None if self.draws.chance(0.8) else (0, 1)
+            return Move(number, word, self.draws.chance(0.5))
+        method = self.sheet.methods[step.operand]
+        failed = self.fails(method.may_fail)
+        trace = (method.outcome(failed) or method.outcome(False)).trace
+        return Move(number, derived(self.draws, self.sheet.conditions[trace],
+                                    self.draws.below(5)), failed)
+
+    def return_move(self, run):
+        """A return, with an outcome that has its exit here if there is one."""
+        method = self.sheet.methods[run.active.method]
+        here = [failed for failed in method.outcomes
+                if method.outcome(failed).exit == run.point]
+        if not here:
+            return FAIL if self.fails(method.may_fail) else RETURN
+        return FAIL if self.draws.pick(here) else RETURN
 
     def fitting_move(self, run):
         """A move that control allows, if there is one."""
         active = self.sheet.methods[run.active.method]
         steps = [number for number, step in enumerate(self.sheet.steps)
                  if step.source == run.point]
-        if run.point == active.exit and (not steps or self.draws.chance(0.5)):
-            return RETURN
-        if not steps:
-            return RETURN
-        number = self.draws.pick(steps)
-        return Move(number, self.word_for(self.sheet.steps[number]))
+        at_exit = run.point in (active.exit, active.failed_exit)
+        if not steps or at_exit and self.draws.chance(0.5):
+            return self.return_move(run)
+        return self.step_move(self.draws.pick(steps))
 
     def any_move(self):
         """A move that mostly cannot be made."""
+        failed = self.draws.chance(0.3)
         if self.draws.chance(0.3):
-            return RETURN
+            return Move(failed=failed)
         word = tuple(self.draws.below(34)
                      for _ in range(self.draws.below(4)))
         return Move(self.draws.below(len(self.sheet.steps) + 3) - 1,
-                    word if self.draws.chance(0.6) else None)
+                    word if self.draws.chance(0.6) else None, failed)
 
     def move(self, run):
         if run.ended or self.draws.chance(0.25):
@@ -127,9 +166,14 @@ def must_stay(sheet, run, move):
     if run.ended:
         return True
     if move.step is None:
-        return run.point != sheet.methods[run.active.method].exit
-    return (not 0 <= move.step < len(sheet.steps)
-            or sheet.steps[move.step].source != run.point)
+        method = sheet.methods[run.active.method]
+        return run.point != (method.failed_exit if move.failed else method.exit)
+    if not 0 <= move.step < len(sheet.steps):
+        return True
+    step = sheet.steps[move.step]
+    return (step.source != run.point
+            or step.kind == CALL_STEP and move.failed
+            and not sheet.methods[step.operand].has_body)
 
 
 def check_move(sheet, before, move, after):
@@ -140,9 +184,20 @@ def check_move(sheet, before, move, after):
     assert (after.returned_calls[:len(before.returned_calls)]
             == before.returned_calls)
     added = len(after.history) - len(before.history)
+    closed = len(after.returned_calls) - len(before.returned_calls)
     if after != before and move.step is not None:
         step = sheet.steps[move.step]
-        assert added == (step.kind == EVENT_STEP) or step.kind == CALL_STEP
+        assert added == (step.kind == EVENT_STEP) or step.is_call
+    if closed:
+        call = after.returned_calls[-1]
+        assert (closed, call.failed) == (1, move.failed)
+        if call.step is not None:
+            assert after.point == where_it_leads(sheet.steps[call.step], move)
+
+
+def where_it_leads(step, move):
+    """Where a call's return leads."""
+    return step.failed_target if move.failed else step.target
 
 
 def walk(walker, totals, number, check=Walker.any_break):
@@ -160,6 +215,7 @@ def walk(walker, totals, number, check=Walker.any_break):
         moves.append(move)
         after = make_move(sheet, run, move)
         check_move(sheet, run, move, after)
+        totals.count_failed(sheet, run, move, after)
         totals.moves += 1
         totals.made += after != run
         late += run.ended
@@ -174,14 +230,22 @@ def walk(walker, totals, number, check=Walker.any_break):
 
 
 def accepted_sheets(seed, count):
-    """Accepted examples, random true sheets, and changed ones still accepted."""
+    """Accepted examples, random true sheets, also of those that may fail, and
+    changed ones still accepted."""
     sheets = [sheet for _, sheet in true_sheets(seed, count)]
+    sheets += failing_sheets(seed + 4, count)
     yield from accepted_among(examples())
+    yield from accepted_among(accepted_cases())
     yield from sheets
     for _, sheet in true_sheets(seed + 3, count // 4, shapes=[repeated_calls]):
         yield sheet
     yield from accepted_among(changed_conditions(seed + 1, sheets))
     yield from accepted_among(changed_bytes(seed + 2, sheets, 6))
+
+
+def failing_sheets(seed, count):
+    """Random true sheets in which calls may fail."""
+    return [sheet for _, sheet in true_sheets(seed, count, shapes=FAILING_SHAPES)]
 
 
 def accepted_among(cases):
@@ -215,6 +279,11 @@ def main(arguments):
     print(f"{totals.owed} futures owed, {totals.past_maker} of them after the "
           f"caller's return; {totals.told_apart} not owed in an activation "
           f"with the method, step and beginning of a caller")
+    print(f"{totals.failed_primitives} calls of primitives failed, "
+          f"{totals.failed_bodies} of methods with body, and "
+          f"{totals.failed_ends} runs ended so; {totals.chosen} returns could "
+          f"have had either outcome; {totals.owed_by_failed} futures owed by "
+          f"calls that failed")
     if found is None:
         print("0 breaks")
         return 0
