@@ -14,10 +14,11 @@ from reference.runs import FAIL, RETURN, Move
 from sheets import records as r
 from sheets.assemble import assemble
 
-from . import faults, special
+from . import entry, faults, special
+from .draws import Draws
 from .plans import FAILING_SHAPES
-from .refusals import (Case, SMALL, first_record_cut, name_cases, order_cases,
-                       positions, refused, truncations)
+from .refusals import (Case, SMALL, changed_records, first_record_cut, name_cases,
+                       order_cases, positions, refused, truncations)
 from .true_sheets import true_sheets
 from .words import Group, refused_sheet_groups, true_sheet_groups
 
@@ -52,7 +53,7 @@ def call(kind, method, source=0, target=0, failed_target=0):
     return r.failing_call(source, target, failed_target, method)
 
 
-def fits(kind, method_kind):
+def may_call(kind, method_kind):
     """Whether a call step may name a method of the kind."""
     return (kind == 17) == (method_kind > 9)
 
@@ -117,9 +118,9 @@ def outcome_cases():
     """Refusal 18: each kind of call that names a method of each kind."""
     for kind in (11, 17):
         for method_kind, number in NUMBERS.items():
-            record, label = call(kind, number), f"kind {kind} names {method_kind}"
+            record, label = call(kind, number), f"{kind} names {method_kind}"
             for before in (FOUR, FOUR + PASS, FOUR + call(11, 0) + call(17, 2)):
-                if not fits(kind, method_kind):
+                if not may_call(kind, method_kind):
                     for after in (b"", PASS, b"\x0e", b"\x00", record, POINT):
                         yield refused("18 " + label, 18, before, record, after)
                 else:
@@ -225,6 +226,15 @@ def record_cases():
     yield from outcome_order_cases()
 
 
+def random_cases(seed, count):
+    """Random changes of records, random kinds."""
+    draws = Draws(seed)
+    for _ in range(count):
+        yield Case("records changed", changed_records(draws, BASE, 17))
+        yield Case("random kinds", bytes(draws.below(20) for _ in
+                                         range(draws.between(1, 60))))
+
+
 def read_cases(seed, count):
     """True sheets that reading takes."""
     for _, sheet in true_sheets(seed, count, 60, FAILING_SHAPES):
@@ -236,6 +246,7 @@ def reading_cases():
     """Everything that is read, on the large instrument."""
     yield from record_cases()
     yield from limit_cases(LARGE)
+    yield from random_cases(110, 120)
     yield from read_cases(111, 18)
 
 
@@ -243,6 +254,7 @@ def entry_reading_cases():
     """Everything that is read, on the entry instrument."""
     yield from islice(record_cases(), 0, None, 5)
     yield from limit_cases(ENTRY)
+    yield from random_cases(113, 30)
     yield from read_cases(112, 9)
 
 
@@ -647,6 +659,7 @@ def entry_sheet_cases():
     yield from random_sheet_cases(141, sheets)
     yield from faults.certificate_faults(151, sheets, 2, NEW_RULES)
     yield from faults.broken_rules(152, 2, NEW_RULES, FAILING_SHAPES)
+    yield from entry.point_sheets(153, sheets[:9], ENTRY)
     yield from special.outcome_examples(ENTRY)
 
 

@@ -338,9 +338,9 @@ def byte_limit_cases(instrument):
                f"refused 3 at {most - 1}")
 
 
-def changed_records(draws):
-    """The base with some records taken out, repeated, swapped or changed."""
-    records = list(BASE)
+def changed_records(draws, base=BASE, last_kind=14):
+    """A base with some records taken out, repeated, swapped or changed."""
+    records = list(base)
     for _ in range(draws.between(1, 3)):
         index, other = draws.below(len(records)), draws.below(len(records))
         way = draws.below(5)
@@ -351,7 +351,7 @@ def changed_records(draws):
         elif way == 2:
             records[index], records[other] = records[other], records[index]
         elif way == 3:
-            records[index] = sample(draws.between(1, 14))
+            records[index] = sample(draws.between(1, last_kind), base)
         else:
             at = draws.below(len(records[index]))
             records[index] = (records[index][:at] + draws.bytes(1)
