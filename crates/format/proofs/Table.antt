@@ -1,6 +1,6 @@
 -- The table of kinds, row by row: what the code's tables and tests say of a kind.
 use mathlib.Core.Path.{_≡_, refl, ap}
-use mathlib.Core.Bool.{Bool, true, false, not, cond}
+use mathlib.Core.Bool.{Bool, true, false, not, cond, _||_}
 use mathlib.Core.List.{List, [], _∷_}
 use Prim.Native.Nat.{ℕ, suc, _+_, _≤_, _<_}
 use native.Mathlib.Omega.{arith}
@@ -20,25 +20,26 @@ by-rows P rows = numbered P kinds (a-kind 0 counts []) rows
 
 -- body lengths from kind 1 on, as the code's table has them
 abbrev pub bodies : List ℕ
-bodies = 4 ∷ 0 ∷ 0 ∷ 0 ∷ 0 ∷ 0 ∷ 6 ∷ 6 ∷ 10 ∷ 5 ∷ 6 ∷ 4 ∷ 5 ∷ 0 ∷ []
+bodies = 4 ∷ 0 ∷ 0 ∷ 0 ∷ 0 ∷ 0 ∷ 6 ∷ 6 ∷ 10 ∷ 5 ∷ 6 ∷ 4 ∷ 5 ∷ 0 ∷ 10 ∷ 16 ∷ 8 ∷ []
 
 pub body-is : (k : ℕ) → getD (0 ∷ bodies) k 0 ≡ bodyLength k
 body-is =
     by-rows (λ k x. getD (0 ∷ bodies) k 0 ≡ widths (x .fields))
-    (refl and refl and refl and refl and refl and refl and refl and refl and refl and refl and refl and refl and refl and refl and refl and (λ i. refl))
+    (refl and refl and refl and refl and refl and refl and refl and refl and refl and refl and refl and refl and refl and refl and refl
+    and refl and refl and refl and (λ i. refl))
 
-pub body-le : (k : ℕ) → bodyLength k ≤ 10
+pub body-le : (k : ℕ) → bodyLength k ≤ 16
 body-le =
-    by-rows (λ k x. widths (x .fields) ≤ 10)
+    by-rows (λ k x. widths (x .fields) ≤ 16)
     (lit≤ tt and lit≤ tt and lit≤ tt and lit≤ tt and lit≤ tt and lit≤ tt and lit≤ tt and lit≤ tt
-    and lit≤ tt and lit≤ tt and lit≤ tt and lit≤ tt and lit≤ tt and lit≤ tt and lit≤ tt and (λ i. lit≤ tt))
+    and lit≤ tt and lit≤ tt and lit≤ tt and lit≤ tt and lit≤ tt and lit≤ tt and lit≤ tt and lit≤ tt and lit≤ tt and lit≤ tt and (λ i. lit≤ tt))
 
 -- of the kinds of conditions, a leaf alone has a body
 pub no-body : (k : ℕ) → sectionOf k ≡ conditions → (k ≡ 1 → ⊥) → bodyLength k ≡ 0
 no-body =
     by-rows (λ k x. x .section ≡ conditions → (k ≡ 1 → ⊥) → widths (x .fields) ≡ 0)
     ((λ e n. refl) and (λ e n. absurd (n refl)) and none and none and none and none and none
-    and other and other and other and other and other and other and other and other
+    and other and other and other and other and other and other and other and other and other and other and other
     and (λ i e n. refl))
   where
     none : {A B : Type 0} → A → B → _≡_ {A = ℕ} 0 0
@@ -48,10 +49,20 @@ no-body =
     other e n = absurd (omega arith)
 
 -- sections by comparisons
-pub section-is : (k : ℕ) → 1 ≤ k → k ≤ lastKind → cond (ltb k 7) conditions (cond (ltb k 8) points (cond (ltb k 10) methods (cond (ltb k 13) steps certificates))) ≡ sectionOf k
+abbrev pub sectionByTests : ℕ → ℕ
+sectionByTests k =
+    cond (ltb k 7) conditions
+    (cond (ltb k 8) points
+    (cond (ltb k 10) methods
+    (cond (ltb k 13) steps
+    (cond (ltb k 15) certificates
+    (cond (ltb k 17) methods steps)))))
+
+pub section-is : (k : ℕ) → 1 ≤ k → k ≤ lastKind → sectionByTests k ≡ sectionOf k
 section-is =
-    by-rows (λ k x. 1 ≤ k → k ≤ lastKind → cond (ltb k 7) conditions (cond (ltb k 8) points (cond (ltb k 10) methods (cond (ltb k 13) steps certificates))) ≡ x .section)
+    by-rows (λ k x. 1 ≤ k → k ≤ lastKind → sectionByTests k ≡ x .section)
     ((λ low high. absurd (omega arith)) and same and same and same and same and same and same and same and same and same and same and same and same and same and same
+    and same and same and same
     and (λ i low high. absurd (omega arith)))
   where
     same : {n : ℕ} {A B : Type 0} → A → B → n ≡ n
@@ -61,7 +72,7 @@ section-is =
 pub section-low : (k : ℕ) → 1 ≤ k → k ≤ lastKind → 1 ≤ sectionOf k
 section-low =
     by-rows (λ k x. 1 ≤ k → k ≤ lastKind → 1 ≤ x .section)
-    ((λ low high. low) and one and one and one and one and one and one and one and one and one and one and one and one and one and one
+    ((λ low high. low) and one and one and one and one and one and one and one and one and one and one and one and one and one and one and one and one and one
     and (λ i low high. absurd (omega arith)))
   where
     one : {n : ℕ} {A B : Type 0} → A → B → 1 ≤ suc n
@@ -71,7 +82,7 @@ pub section-high : (k : ℕ) → sectionOf k ≤ 5
 section-high =
     by-rows (λ k x. x .section ≤ 5)
     (lit≤ tt and lit≤ tt and lit≤ tt and lit≤ tt and lit≤ tt and lit≤ tt and lit≤ tt and lit≤ tt
-    and lit≤ tt and lit≤ tt and lit≤ tt and lit≤ tt and lit≤ tt and lit≤ tt and lit≤ tt and (λ i. lit≤ tt))
+    and lit≤ tt and lit≤ tt and lit≤ tt and lit≤ tt and lit≤ tt and lit≤ tt and lit≤ tt and lit≤ tt and lit≤ tt and lit≤ tt and (λ i. lit≤ tt))
 
 -- Roles ---------------------------------------------------------------------------------------------------------------
 
@@ -80,7 +91,8 @@ pub low-counts : (k : ℕ) → 1 ≤ k → k < 6 → countsOne (kindOf k .role) 
 low-counts =
     by-rows (λ k x. 1 ≤ k → k < 6 → countsOne (x .role) ≡ false)
     ((λ low high. absurd (omega arith)) and (λ low high. refl) and (λ low high. refl) and (λ low high. refl) and (λ low high. refl) and (λ low high. refl)
-    and out 0 and out 1 and out 2 and out 3 and out 4 and out 5 and out 6 and out 7 and out 8 and (λ i low high. absurd (omega arith)))
+    and out 0 and out 1 and out 2 and out 3 and out 4 and out 5 and out 6 and out 7 and out 8 and out 9 and out 10 and out 11
+    and (λ i low high. absurd (omega arith)))
   where
     out : (n : ℕ) {A B : Type 0} → A → 6 + n < 6 → B
     out n low high = absurd (omega arith)
@@ -89,7 +101,7 @@ all-but-pairs : (k : ℕ) → 6 ≤ k → (k ≡ 13 → ⊥) → countsOne (kind
 all-but-pairs =
     by-rows (λ k x. 6 ≤ k → (k ≡ 13 → ⊥) → countsOne (x .role) ≡ true)
     (low 0 (lit≤ tt) and low 1 (lit≤ tt) and low 2 (lit≤ tt) and low 3 (lit≤ tt) and low 4 (lit≤ tt) and low 5 (lit≤ tt) and same and same and same and same and same and same and same
-    and (λ h ne. absurd (ne refl)) and same and (λ i. same))
+    and (λ h ne. absurd (ne refl)) and same and same and same and same and (λ i. same))
   where
     low : (n : ℕ) {A : Type 0} → n ≤ 5 → 6 ≤ n → A
     low n g h = absurd (omega arith)
@@ -109,7 +121,7 @@ pub none-taken : (k : ℕ) → (k ≡ 3 → ⊥) → (k ≡ 4 → ⊥) → (k �
 none-taken =
     by-rows (λ k x. (k ≡ 3 → ⊥) → (k ≡ 4 → ⊥) → (k ≡ 5 → ⊥) → takesItems (x .role) ≡ 0)
     (same and same and same and (λ a b c. absurd (a refl)) and (λ a b c. absurd (b refl)) and (λ a b c. absurd (c refl))
-    and same and same and same and same and same and same and same and same and same and (λ i. same))
+    and same and same and same and same and same and same and same and same and same and same and same and same and (λ i. same))
   where
     same : {A B C : Type 0} → A → B → C → _≡_ {A = ℕ} 0 0
     same a b c = refl
@@ -123,14 +135,19 @@ Suits section counts = Unit {0}
 pub suits : (k : ℕ) → Suits (sectionOf k) (kindOf k .role)
 suits =
     by-rows (λ k x. Suits (x .section) (x .role))
-    (tt and refl and refl and refl and refl and refl and tt and tt and tt and tt and tt and tt and tt and refl and tt and (λ i. tt))
+    (tt and refl and refl and refl and refl and refl and tt and tt and tt and tt and tt and tt and tt and refl and tt
+    and tt and tt and tt and (λ i. tt))
 
 -- a primitive is a method
 pub primitive-section : (k : ℕ) → primitiveKind k ≡ true → sectionOf k ≡ methods
-primitive-section k e = ap sectionOf (eqb-true k 8 e)
+primitive-section k e = go (eqb k 8) refl e
+  where
+    go : (b : Bool) → eqb k 8 ≡ b → (b || eqb k 15) ≡ true → sectionOf k ≡ methods
+    go true is h = ap sectionOf (eqb-true k 8 is)
+    go false is h = ap sectionOf (eqb-true k 15 h)
 
 pub not-primitive : (k : ℕ) → (sectionOf k ≡ methods → ⊥) → primitiveKind k ≡ false
-not-primitive k ne = ne-eqb k 8 (λ (e : k ≡ 8). ne (ap sectionOf e))
+not-primitive k ne = simp (ne-eqb k 8 (λ (e : k ≡ 8). ne (ap sectionOf e)), ne-eqb k 15 (λ (e : k ≡ 15). ne (ap sectionOf e)))
 
 -- Fields --------------------------------------------------------------------------------------------------------------
 
@@ -138,12 +155,17 @@ not-primitive k ne = ne-eqb k 8 (λ (e : k ≡ 8). ne (ap sectionOf e))
 pub names-nothing : (events : ℕ) (counted : ℕ → ℕ) (k : ℕ) → (2 ≤ sectionOf k → sectionOf k ≤ 4 → ⊥) → (vs : List ℕ) → allExist events counted (kindOf k .fields) vs ≡ true
 names-nothing events counted =
     by-rows (λ k x. (2 ≤ x .section → x .section ≤ 4 → ⊥) → (vs : List ℕ) → allExist events counted (x .fields) vs ≡ true)
-    (none and (λ h. a-leaf) and none and none and none and none and none and (λ h. absurd (h (lit≤ tt) (lit≤ tt))) and (λ h. absurd (h (lit≤ tt) (lit≤ tt))) and (λ h. absurd (h (lit≤ tt) (lit≤ tt)))
-    and (λ h. absurd (h (lit≤ tt) (lit≤ tt))) and (λ h. absurd (h (lit≤ tt) (lit≤ tt))) and (λ h. absurd (h (lit≤ tt) (lit≤ tt)))
-    and (λ h. pair-fields) and none and (λ i. none))
+    (none and (λ h. a-leaf) and none and none and none and none and none
+    and (λ h. named (h (lit≤ tt) (lit≤ tt))) and (λ h. named (h (lit≤ tt) (lit≤ tt))) and (λ h. named (h (lit≤ tt) (lit≤ tt)))
+    and (λ h. named (h (lit≤ tt) (lit≤ tt))) and (λ h. named (h (lit≤ tt) (lit≤ tt))) and (λ h. named (h (lit≤ tt) (lit≤ tt)))
+    and (λ h. pair-fields) and none
+    and (λ h. named (h (lit≤ tt) (lit≤ tt))) and (λ h. named (h (lit≤ tt) (lit≤ tt))) and (λ h. named (h (lit≤ tt) (lit≤ tt))) and (λ i. none))
   where
     none : {A : Type 0} → A → (vs : List ℕ) → true ≡ true
     none h vs = refl
+
+    named : {A : Type 0} → ⊥ → A
+    named h = absurd h
 
     a-leaf : (vs : List ℕ) → allExist events counted (a-set ∷ []) vs ≡ true
     a-leaf [] = refl

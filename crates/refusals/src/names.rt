@@ -55,7 +55,10 @@ fn declared_names_exist(s: &[u8], at: usize, kind: u8, tally: Tally) -> bool
         TWO_OUTCOME_PRIMITIVE => both(named, two_below(s, at + 7, tally.conditions)),
         TWO_OUTCOME_BODY => both(
             both(named, two_below(s, at + 7, tally.points)),
-            both(two_below(s, at + 11, tally.conditions), below(s, at + 15, tally.points)),
+            both(
+                two_below(s, at + 11, tally.conditions),
+                below(s, at + 15, tally.points),
+            ),
         ),
         _ => named,
     }

@@ -3,12 +3,19 @@ use borrow.Author.Needs.{needs}
 use Rattle.format.proofs.values.declaration_at.Statement.{statement}
 use Rattle.format.proofs.values.declaration_at.Tie as tie
 
-three-at-requires : tie.Need-three-at-requires
-three-at-requires c κs = search needs
+declared-at-requires : tie.Need-declared-at-requires
+declared-at-requires c κs = search needs
+
+add-short-at : tie.Need-add-short-at
+add-short-at c = search needs
+
+short-at-requires : tie.Need-short-at-requires
+short-at-requires c κs = search needs
 
 returns : tie.Need-returns
 unfolding methodAt
-returns c = let h = c .three-at .ensures in record { pre-is = h .first-is; trace-is = h .second-is; future-is = h .third-is }
+returns c = record { pre-is = c .short-at .ensures; normal-is = c .before .declared-at .ensures }
 
 pub declaration-at-spec : {M : Type 1} → statement M
-declaration-at-spec = tie.close (tie.spec three-at-requires returns)
+declaration-at-spec =
+    tie.close (tie.spec declared-at-requires add-short-at short-at-requires returns)

@@ -1,6 +1,5 @@
 use mathlib.Core.Path.{sym, _∙_}
-use borrow.Author.Tests.{eq-eqb, ne-eqb}
-use Rattle.sheet.specs.AtOffset.{methodAt}
+use Rattle.format.proofs.MethodKinds.{built, failing-is, failed-primitive, failed-body, not-failing-8, not-failing, no-body-8, no-body-15, body-16, body-other}
 use borrow.Author.Needs.{needs}
 use Rattle.format.proofs.values.method_at.Statement.{statement}
 use Rattle.format.proofs.values.method_at.Tie as tie
@@ -12,8 +11,26 @@ byte-at-requires : tie.Need-byte-at-requires
 byte-at-requires c κs = search needs
 
 returns : tie.Need-returns
-unfolding methodAt
-returns c = let d = c .before .before .declaration-at .ensures in simp (d .pre-is, d .trace-is, d .future-is, eq-eqb _ _ (sym (c .before .byte-at .ensures) ∙ c .if1 .taken))
+returns c =
+    let a = c .before .before .before .before .args in
+    let e = sym (c .before .byte-at .ensures) ∙ c .if1 .taken in
+    built (c .before .before .declaration-at .ensures)
+    (not-failing-8 (a .s .now) (a .at) e) (no-body-8 (a .s .now) (a .at) e)
+
+failed-at-requires : tie.Need-failed-at-requires
+failed-at-requires c κs = search needs
+
+returns-2 : tie.Need-returns-2
+returns-2 c =
+    let a = c .before .before .before .before .before .before .args in
+    let e = sym (c .before .before .before .byte-at .ensures) ∙ c .before .if2 .taken in
+    built (c .before .before .before .before .declaration-at .ensures) (failing-is (a .s .now) (a .at) (c .failed-at .ensures) (failed-primitive (a .s .now) (a .at) e)) (no-body-15 (a .s .now) (a .at) e)
+
+body-at-requires : tie.Need-body-at-requires
+body-at-requires c κs = search needs
+
+failed-at-requires-2 : tie.Need-failed-at-requires-2
+failed-at-requires-2 c κs = search needs
 
 add-short-at : tie.Need-add-short-at
 add-short-at c = search needs
@@ -21,16 +38,21 @@ add-short-at c = search needs
 short-at-requires : tie.Need-short-at-requires
 short-at-requires c κs = search needs
 
-add-short-at-2 : tie.Need-add-short-at-2
-add-short-at-2 c = search needs
+returns-3 : tie.Need-returns-3
+returns-3 c =
+    let a = c .before .before .before .before .before .before .before .before .before .args in
+    let body = c .before .before .before .body-at .ensures in
+    let e = sym (c .before .before .before .before .before .before .byte-at .ensures) ∙ c .before .before .if3 .taken in
+    built (c .before .before .before .before .before .before .before .declaration-at .ensures) (failing-is (a .s .now) (a .at) (c .before .failed-at2 .ensures) (failed-body (a .s .now) (a .at) e))
+    (body-16 (a .s .now) (a .at) (body .0) (body .1) e (c .short-at .ensures))
 
-short-at-requires-2 : tie.Need-short-at-requires-2
-short-at-requires-2 c κs = search needs
-
-returns-2 : tie.Need-returns-2
-unfolding methodAt
-returns-2 c = let d = c .before .before .before .before .declaration-at .ensures in
-    simp (d .pre-is, d .trace-is, d .future-is, c .before .short-at .ensures, c .short-at2 .ensures, ne-eqb _ _ (λ e. c .before .before .if1 .left (c .before .before .before .byte-at .ensures ∙ e)))
+returns-4 : tie.Need-returns-4
+returns-4 c =
+    let a = c .before .before .before .before .before .before .before .args in
+    let body = c .before .body-at .ensures in
+    let is = c .before .before .before .before .byte-at .ensures in
+    built (c .before .before .before .before .before .declaration-at .ensures) (not-failing (a .s .now) (a .at) (λ e. c .before .before .if2 .left (is ∙ e)) (λ e. c .if3 .left (is ∙ e)))
+    (body-other (a .s .now) (a .at) (body .0) (body .1) (λ e. c .before .before .before .if1 .left (is ∙ e)) (λ e. c .before .before .if2 .left (is ∙ e)) (λ e. c .if3 .left (is ∙ e)))
 
 pub method-at-spec : {M : Type 1} → statement M
 method-at-spec =
@@ -39,8 +61,11 @@ method-at-spec =
     declaration-at-requires
     byte-at-requires
     returns
+    failed-at-requires
+    returns-2
+    body-at-requires
+    failed-at-requires-2
     add-short-at
     short-at-requires
-    add-short-at-2
-    short-at-requires-2
-    returns-2)
+    returns-3
+    returns-4)

@@ -1,5 +1,5 @@
 use mathlib.Core.Path.{sym, _∙_}
-use borrow.Author.Tests.{eq-eqb, ne-eqb}
+use borrow.Author.Tests.{ne-eqb}
 use Rattle.sheet.specs.AtOffset.{stepAt}
 use borrow.Author.Needs.{needs}
 use Rattle.format.proofs.values.step_at.Statement.{statement}
@@ -31,7 +31,7 @@ index-requires c κs = search needs
 
 returns : tie.Need-returns
 unfolding stepAt
-returns c = simp (c .before .before .before .before .short-at .ensures, c .before .before .before .short-at2 .ensures, c .index .ensures, c .before .byte-at2 .ensures, eq-eqb _ _ (sym (c .before .before .before .before .before .byte-at .ensures) ∙ c .before .before .if1 .taken))
+returns c = simp (c .before .before .before .before .short-at .ensures, c .before .before .before .short-at2 .ensures, c .index .ensures, c .before .byte-at2 .ensures, sym (c .before .before .before .before .before .byte-at .ensures) ∙ c .before .before .if1 .taken)
 
 add-short-at-3 : tie.Need-add-short-at-3
 add-short-at-3 c = search needs
@@ -41,11 +41,29 @@ short-at-requires-3 c κs = search needs
 
 returns-2 : tie.Need-returns-2
 unfolding stepAt
-returns-2 c = simp (c .before .before .before .before .short-at .ensures, c .before .before .before .short-at2 .ensures, c .short-at3 .ensures, ne-eqb _ _ (λ e. c .before .before .if1 .left (c .before .before .before .before .before .byte-at .ensures ∙ e)), eq-eqb _ _ (sym (c .before .before .before .before .before .byte-at .ensures) ∙ c .before .if2 .taken))
+returns-2 c = simp (c .before .before .before .before .short-at .ensures, c .before .before .before .short-at2 .ensures, c .short-at3 .ensures, sym (c .before .before .before .before .before .byte-at .ensures) ∙ c .before .if2 .taken)
+
+add-short-at-4 : tie.Need-add-short-at-4
+add-short-at-4 c = search needs
+
+short-at-requires-4 : tie.Need-short-at-requires-4
+short-at-requires-4 c κs = search needs
+
+add-short-at-5 : tie.Need-add-short-at-5
+add-short-at-5 c = search needs
+
+short-at-requires-5 : tie.Need-short-at-requires-5
+short-at-requires-5 c κs = search needs
 
 returns-3 : tie.Need-returns-3
 unfolding stepAt
-returns-3 c = simp (c .before .before .before .short-at .ensures, c .before .before .short-at2 .ensures, ne-eqb _ _ (λ e. c .before .if1 .left (c .before .before .before .before .byte-at .ensures ∙ e)), ne-eqb _ _ (λ e. c .if2 .left (c .before .before .before .before .byte-at .ensures ∙ e)))
+returns-3 c = simp (c .before .before .before .before .before .before .short-at .ensures, c .before .before .before .before .before .short-at2 .ensures, c .before .short-at4 .ensures, c .short-at5 .ensures, sym (c .before .before .before .before .before .before .before .byte-at .ensures) ∙ c .before .before .if3 .taken)
+
+returns-4 : tie.Need-returns-4
+unfolding stepAt
+returns-4 c =
+    let is = c .before .before .before .before .before .byte-at .ensures in
+    simp (c .before .before .before .before .short-at .ensures, c .before .before .before .short-at2 .ensures, ne-eqb _ _ (λ e. c .before .before .if1 .left (is ∙ e)), ne-eqb _ _ (λ e. c .before .if2 .left (is ∙ e)), ne-eqb _ _ (λ e. c .if3 .left (is ∙ e)))
 
 pub step-at-spec : {M : Type 1} → statement M
 step-at-spec =
@@ -63,4 +81,9 @@ step-at-spec =
     add-short-at-3
     short-at-requires-3
     returns-2
-    returns-3)
+    add-short-at-4
+    short-at-requires-4
+    add-short-at-5
+    short-at-requires-5
+    returns-3
+    returns-4)
