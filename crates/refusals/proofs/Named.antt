@@ -5,15 +5,15 @@ use mathlib.Core.List.{List, [], _∷_}
 use Prim.Native.Nat.{ℕ, _+_, _≤_, _<_}
 use native.Mathlib.Omega.{arith}
 use lib.ListN.{length, getD}
-use lib.Dec.{ltb, lit≤}
-use borrow.Author.Tests.{lt-ltb, le-ltb}
+use lib.Dec.{ltb, eqb, lit≤}
+use borrow.Author.Tests.{lt-ltb, le-ltb, ne-eqb}
 use Rattle.sheet.specs.Kind.{conditions, points, methods, steps, Field, a-name, an-event, kindOf, sectionOf, widths, bodyLength}
 use Rattle.sheet.specs.Record.{byteAt, numberAt, valuesAt, recordAt}
 use Rattle.sheet.specs.AtOffset.{shortAt}
 use Rattle.sheet.specs.Reading.{allExist}
 use Rattle.sheet.proofs.Kind.{_and_}
 use Rattle.sheet.proofs.Take.{next-is}
-use Rattle.format.specs.Kinds.{lastKind, bodyKind, eventKind, callKind}
+use Rattle.format.specs.Kinds.{lastKind}
 use Rattle.format.proofs.Table.{by-rows}
 use Rattle.tally.specs.declared.Tally.{Tally}
 use Rattle.tally.specs.Tally.{countOf}
@@ -48,9 +48,13 @@ module _ (s : List ℕ) (events : ℕ) (counted : ℕ → ℕ) where
   unfolding valuesAt
   name-then k fs i = ap (λ (v : ℕ). ltb v (counted k) && All fs (i + 2)) (short-is i)
 
-  event-is : (i : ℕ) → All (an-event ∷ []) i ≡ ltb (byteAt s i) events
+  -- one name, two names and an event at the end of a body
+  name-last : (k i : ℕ) → All (a-name k ∷ []) i ≡ ltb (shortAt s i) (counted k)
+  name-last k i = name-then k [] i ∙ and-true (ltb (shortAt s i) (counted k))
+
+  event-last : (i : ℕ) → All (an-event ∷ []) i ≡ ltb (byteAt s i) events
   unfolding valuesAt
-  event-is i = ap (λ (v : ℕ). ltb v events && true) (byte-is i) ∙ and-true (ltb (byteAt s i) events)
+  event-last i = ap (λ (v : ℕ). ltb v events && true) (byte-is i) ∙ and-true (ltb (byteAt s i) events)
 
   two-then : (k : ℕ) (fs : List Field) (i j : ℕ) → i + 4 ≡ j → All (a-name k ∷ a-name k ∷ fs) i ≡ (twoBelow s i (counted k) && All fs j)
   two-then k fs i j e =
@@ -65,6 +69,9 @@ module _ (s : List ℕ) (events : ℕ) (counted : ℕ → ℕ) where
       ∙ ap (λ (b : Bool). ltb (shortAt s i) (counted k) && b) (two-then k fs (i + 2) j (omega arith))
       ∙ and-assoc (ltb (shortAt s i) (counted k)) (twoBelow s (i + 2) (counted k)) (All fs j)
 
+  two-last : (k i : ℕ) → All (a-name k ∷ a-name k ∷ []) i ≡ twoBelow s i (counted k)
+  two-last k i = two-then k [] i (i + 4) refl ∙ and-true (twoBelow s i (counted k))
+
 -- The fields of points, methods and steps, by the tests of the code ---------------------------------------------------
 
 abbrev two : List Field → List Field
@@ -73,20 +80,26 @@ two fs = a-name points ∷ a-name points ∷ fs
 abbrev three : List Field → List Field
 three fs = a-name conditions ∷ a-name conditions ∷ a-name conditions ∷ fs
 
--- of points and methods; of steps
-abbrev declared : Bool → List Field
-declared body = three (cond body (two []) [])
+-- behind the three conditions of a point or a method, and behind the two points of a step
+abbrev declaredBehind : ℕ → List Field
+declaredBehind k =
+    cond (eqb k 9) (two [])
+    (cond (eqb k 15) (a-name conditions ∷ a-name conditions ∷ [])
+    (cond (eqb k 16) (two (a-name conditions ∷ a-name conditions ∷ a-name points ∷ [])) []))
 
-abbrev stepping : Bool → Bool → List Field
-stepping event call = two (cond event (an-event ∷ []) (cond call (a-name methods ∷ []) []))
+abbrev stepBehind : ℕ → List Field
+stepBehind k =
+    cond (eqb k 10) (an-event ∷ []) (cond (eqb k 11) (a-name methods ∷ []) (cond (eqb k 17) (a-name points ∷ a-name methods ∷ []) []))
 
 fields-are : (k : ℕ) → points ≤ sectionOf k → sectionOf k ≤ steps
-    → (1 ≤ k) × (k ≤ lastKind) × (kindOf k .fields ≡ cond (ltb (sectionOf k) steps) (declared (bodyKind k)) (stepping (eventKind k) (callKind k)))
+    → (1 ≤ k) × (k ≤ lastKind) × (kindOf k .fields ≡ cond (ltb (sectionOf k) steps) (three (declaredBehind k)) (two (stepBehind k)))
 fields-are =
     by-rows (λ k x. points ≤ x .section → x .section ≤ steps
-    → (1 ≤ k) × (k ≤ lastKind) × (x .fields ≡ cond (ltb (x .section) steps) (declared (bodyKind k)) (stepping (eventKind k) (callKind k))))
-    (none and low and low and low and low and low and low and (λ g h. (lit≤ tt, lit≤ tt, refl)) and (λ g h. (lit≤ tt, lit≤ tt, refl)) and (λ g h. (lit≤ tt, lit≤ tt, refl))
-    and (λ g h. (lit≤ tt, lit≤ tt, refl)) and (λ g h. (lit≤ tt, lit≤ tt, refl)) and (λ g h. (lit≤ tt, lit≤ tt, refl)) and high and high and (λ i. none))
+    → (1 ≤ k) × (k ≤ lastKind) × (x .fields ≡ cond (ltb (x .section) steps) (three (declaredBehind k)) (two (stepBehind k))))
+    (none and low and low and low and low and low and low
+    and (λ g h. (lit≤ tt, lit≤ tt, refl)) and (λ g h. (lit≤ tt, lit≤ tt, refl)) and (λ g h. (lit≤ tt, lit≤ tt, refl))
+    and (λ g h. (lit≤ tt, lit≤ tt, refl)) and (λ g h. (lit≤ tt, lit≤ tt, refl)) and (λ g h. (lit≤ tt, lit≤ tt, refl)) and high and high
+    and (λ g h. (lit≤ tt, lit≤ tt, refl)) and (λ g h. (lit≤ tt, lit≤ tt, refl)) and (λ g h. (lit≤ tt, lit≤ tt, refl)) and (λ i. none))
   where
     none : {A : Type 0} → 2 ≤ 0 → A
     none g = absurd (omega arith)
@@ -122,65 +135,80 @@ module _ {s : List ℕ} {at kind : ℕ} (w : Named s at kind) where
     of-points : (fs : List Field) → kindOf kind .fields ≡ two fs → Exist ≡ (twoBelow s (at + 1) (t .points) && All s events (countOf t) fs (at + 5))
     of-points fs e = of-fields (two fs) e ∙ two-then s events (countOf t) 2 fs (at + 1) (at + 5) (omega arith)
 
-  module _ {n : ℕ} (is : n ≡ sectionOf kind) where
-    -- points and methods
-    module _ (early : n < steps) {body : Bool} (tested : body ≡ bodyKind kind) where
-      declares : kindOf kind .fields ≡ declared body
-      declares =
-          fields-are kind (w .low) (w .high) .2
-          ∙ ap (λ (b : Bool). cond b (declared (bodyKind kind)) (stepping (eventKind kind) (callKind kind))) (lt-ltb (sectionOf kind) steps (omega arith))
-          ∙ ap declared (sym tested)
+  -- Points and methods ------------------------------------------------------------------------------------------------
 
-      pub three-inside : at + 7 ≤ length s
-      three-inside = omega (arith, inside (declared body) declares)
+  module _ (early : sectionOf kind < steps) where
+    declares : (fs : List Field) → declaredBehind kind ≡ fs → kindOf kind .fields ≡ three fs
+    declares fs e =
+        fields-are kind (w .low) (w .high) .2
+        ∙ ap (λ (b : Bool). cond b (three (declaredBehind kind)) (two (stepBehind kind))) (lt-ltb (sectionOf kind) steps early) ∙ ap three e
 
-      pub five-inside : body ≡ true → at + 11 ≤ length s
-      five-inside e = omega (arith, inside (declared true) (declares ∙ ap declared e))
+    pub three-inside : at + 7 ≤ length s
+    three-inside = omega (arith, inside (three (declaredBehind kind)) (declares (declaredBehind kind) refl))
 
-      module _ (events : ℕ) (t : Tally) {a : Bool} (first : a ≡ threeBelow s (at + 1) (t .conditions)) where
-        pub three-exist : body ≡ false → a ≡ Exist events t
-        three-exist e = first ∙ sym (of-conditions events t [] (declares ∙ ap declared e) ∙ and-true (threeBelow s (at + 1) (t .conditions)))
+    -- .. of the kind k
+    pub declared-inside : (k : ℕ) → kind ≡ k → at + 7 + widths (declaredBehind k) ≤ length s
+    declared-inside k e = omega (arith, inside (three (declaredBehind k)) (declares (declaredBehind k) (ap declaredBehind e)))
 
-        pub five-exist : body ≡ true → {b r : Bool} → b ≡ twoBelow s (at + 7) (t .points) → r ≡ (a && b) → r ≡ Exist events t
-        five-exist e second both =
-            let last = two-then s events (countOf t) 2 [] (at + 7) (at + 11) (omega arith) ∙ and-true (twoBelow s (at + 7) (t .points)) in
-            both-are both first (second ∙ sym last) (of-conditions events t (two []) (declares ∙ ap declared e))
+    module _ (t : Tally) {a : Bool} (first : a ≡ threeBelow s (at + 1) (t .conditions)) (events : ℕ) where
+      declared-exist : (k : ℕ) → kind ≡ k → {b r : Bool} → b ≡ All s events (countOf t) (declaredBehind k) (at + 7) → r ≡ (a && b) → r ≡ Exist events t
+      declared-exist k e second both = both-are both first second (of-conditions events t (declaredBehind k) (declares (declaredBehind k) (ap declaredBehind e)))
 
-    -- steps
-    module _ (late : steps ≤ n) {event call : Bool} (tested : event ≡ eventKind kind) (asked : call ≡ callKind kind) where
-      goes : kindOf kind .fields ≡ stepping event call
-      goes =
-          fields-are kind (w .low) (w .high) .2
-          ∙ ap (λ (b : Bool). cond b (declared (bodyKind kind)) (stepping (eventKind kind) (callKind kind))) (le-ltb (sectionOf kind) steps (omega arith))
-          ∙ ap (λ (b : Bool). stepping b (callKind kind)) (sym tested) ∙ ap (stepping event) (sym asked)
+      pub exist-9 : kind ≡ 9 → {b r : Bool} → b ≡ twoBelow s (at + 7) (t .points) → r ≡ (a && b) → r ≡ Exist events t
+      exist-9 e second both = declared-exist 9 e (second ∙ sym (two-last s events (countOf t) 2 (at + 7))) both
 
-      pub two-inside : at + 5 ≤ length s
-      two-inside = omega (arith, inside (stepping event call) goes)
+      pub exist-15 : kind ≡ 15 → {b r : Bool} → b ≡ twoBelow s (at + 7) (t .conditions) → r ≡ (a && b) → r ≡ Exist events t
+      exist-15 e second both = declared-exist 15 e (second ∙ sym (two-last s events (countOf t) 1 (at + 7))) both
 
-      raises : event ≡ true → kindOf kind .fields ≡ two (an-event ∷ [])
-      raises e = goes ∙ ap (λ (b : Bool). stepping b call) e
+      pub exist-16 : kind ≡ 16 → {b c d ab cd r : Bool} → b ≡ twoBelow s (at + 7) (t .points) → ab ≡ (a && b)
+          → c ≡ twoBelow s (at + 11) (t .conditions) → d ≡ ltb (shortAt s (at + 15)) (t .points) → cd ≡ (c && d) → r ≡ (ab && cd) → r ≡ Exist events t
+      exist-16 e {b} {cd} body first-five failed exit last-three all =
+          let rest = two-then s events (countOf t) 1 (a-name points ∷ []) (at + 11) (at + 15) (omega arith) in
+          let failing = both-are last-three failed (exit ∙ sym (name-last s events (countOf t) 2 (at + 15))) rest in
+          let behind = two-then s events (countOf t) 2 (a-name conditions ∷ a-name conditions ∷ a-name points ∷ []) (at + 7) (at + 11) (omega arith) in
+          declared-exist 16 e (both-are refl body failing behind) (all ∙ ap (λ (ab : Bool). ab && cd) first-five ∙ sym (and-assoc a b cd))
 
-      pub event-inside : event ≡ true → at + 6 ≤ length s
-      event-inside e = omega (arith, inside (two (an-event ∷ [])) (raises e))
+      pub exist-three : (kind ≡ 9 → ⊥) → (kind ≡ 15 → ⊥) → (kind ≡ 16 → ⊥) → a ≡ Exist events t
+      exist-three a9 a15 a16 =
+          let none : declaredBehind kind ≡ [] = simp (ne-eqb kind 9 a9, ne-eqb kind 15 a15, ne-eqb kind 16 a16) in
+          first ∙ sym (of-conditions events t [] (declares [] none) ∙ and-true (threeBelow s (at + 1) (t .conditions)))
 
-      calls : event ≡ false → call ≡ true → kindOf kind .fields ≡ two (a-name methods ∷ [])
-      calls e f = goes ∙ ap (λ (b : Bool). stepping b call) e ∙ ap (stepping false) f
+  -- Steps -------------------------------------------------------------------------------------------------------------
 
-      pub method-inside : event ≡ false → call ≡ true → at + 7 ≤ length s
-      method-inside e f = omega (arith, inside (two (a-name methods ∷ [])) (calls e f))
+  module _ (late : steps ≤ sectionOf kind) where
+    goes : (fs : List Field) → stepBehind kind ≡ fs → kindOf kind .fields ≡ two fs
+    goes fs e =
+        fields-are kind (w .low) (w .high) .2
+        ∙ ap (λ (b : Bool). cond b (three (declaredBehind kind)) (two (stepBehind kind))) (le-ltb (sectionOf kind) steps late) ∙ ap two e
 
-      module _ (events : ℕ) (t : Tally) {a : Bool} (first : a ≡ twoBelow s (at + 1) (t .points)) where
-        pub event-exists : event ≡ true → {k : ℕ} {r : Bool} → k ≡ getD s (at + 5) 0 → r ≡ (a && ltb k events) → r ≡ Exist events t
-        unfolding byteAt
-        event-exists e second both =
-            both-are both first (ap (λ (k : ℕ). ltb k events) second ∙ sym (event-is s events (countOf t) (at + 5))) (of-points events t (an-event ∷ []) (raises e))
+    pub two-inside : at + 5 ≤ length s
+    two-inside = omega (arith, inside (two (stepBehind kind)) (goes (stepBehind kind) refl))
 
-        pub call-exists : event ≡ false → call ≡ true → {b r : Bool} → b ≡ ltb (shortAt s (at + 5)) (t .methods) → r ≡ (a && b) → r ≡ Exist events t
-        call-exists e f second both =
-            let last = name-then s events (countOf t) 3 [] (at + 5) ∙ and-true (ltb (shortAt s (at + 5)) (t .methods)) in
-            both-are both first (second ∙ sym last) (of-points events t (a-name methods ∷ []) (calls e f))
+    -- .. of the kind k
+    pub step-inside : (k : ℕ) → kind ≡ k → at + 5 + widths (stepBehind k) ≤ length s
+    step-inside k e = omega (arith, inside (two (stepBehind k)) (goes (stepBehind k) (ap stepBehind e)))
 
-        pub pass-exists : event ≡ false → call ≡ false → a ≡ Exist events t
-        pass-exists e f =
-            first
-            ∙ sym (of-points events t [] (goes ∙ ap (λ (b : Bool). stepping b call) e ∙ ap (stepping false) f) ∙ and-true (twoBelow s (at + 1) (t .points)))
+    module _ (events : ℕ) (t : Tally) {a : Bool} (first : a ≡ twoBelow s (at + 1) (t .points)) where
+      step-exist : (k : ℕ) → kind ≡ k → {b r : Bool} → b ≡ All s events (countOf t) (stepBehind k) (at + 5) → r ≡ (a && b) → r ≡ Exist events t
+      step-exist k e second both = both-are both first second (of-points events t (stepBehind k) (goes (stepBehind k) (ap stepBehind e)))
+
+      pub exist-10 : kind ≡ 10 → {k : ℕ} {r : Bool} → k ≡ getD s (at + 5) 0 → r ≡ (a && ltb k events) → r ≡ Exist events t
+      unfolding byteAt
+      exist-10 e second both = step-exist 10 e (ap (λ (k : ℕ). ltb k events) second ∙ sym (event-last s events (countOf t) (at + 5))) both
+
+      pub exist-11 : kind ≡ 11 → {b r : Bool} → b ≡ ltb (shortAt s (at + 5)) (t .methods) → r ≡ (a && b) → r ≡ Exist events t
+      exist-11 e second both = step-exist 11 e (second ∙ sym (name-last s events (countOf t) 3 (at + 5))) both
+
+      pub exist-17 : kind ≡ 17 → {b c ab r : Bool} → b ≡ ltb (shortAt s (at + 5)) (t .points) → ab ≡ (a && b)
+          → c ≡ ltb (shortAt s (at + 7)) (t .methods) → r ≡ (ab && c) → r ≡ Exist events t
+      exist-17 e {b} {c} target first-three method all =
+          let seven : at + 5 + 2 ≡ at + 7 = omega arith in
+          let last = name-last s events (countOf t) 3 (at + 7) in
+          let behind = name-then s events (countOf t) 2 (a-name methods ∷ []) (at + 5)
+          ∙ ap (λ (i : ℕ). ltb (shortAt s (at + 5)) (t .points) && All s events (countOf t) (a-name methods ∷ []) i) seven in
+          step-exist 17 e (both-are refl target (method ∙ sym last) behind) (all ∙ ap (λ (ab : Bool). ab && c) first-three ∙ sym (and-assoc a b c))
+
+      pub exist-two : (kind ≡ 10 → ⊥) → (kind ≡ 11 → ⊥) → (kind ≡ 17 → ⊥) → a ≡ Exist events t
+      exist-two a10 a11 a17 =
+          let none : stepBehind kind ≡ [] = simp (ne-eqb kind 10 a10, ne-eqb kind 11 a11, ne-eqb kind 17 a17) in
+          first ∙ sym (of-points events t [] (goes [] none) ∙ and-true (twoBelow s (at + 1) (t .points)))
