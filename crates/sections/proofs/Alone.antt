@@ -1,41 +1,54 @@
 -- Points, methods and steps: records that stand alone, each counted and its offset stored. One law for the three sections.
 use mathlib.Core.Path.{_≡_, refl, sym, ap, _∙_, subst}
-use mathlib.Core.Bool.{Bool, true, false, _&&_}
-use mathlib.Core.List.{List, [], _++_}
+use mathlib.Core.Bool.{Bool, true, false, not, _&&_}
+use mathlib.Core.List.{List, [], _++_, map}
 use Prim.Native.Nat.{ℕ, zero, suc, _+_, _≤_, _<_}
 use native.Mathlib.Omega.{arith}
-use lib.ListN.{length, length-append, set}
-use lib.Dec.{eqb, eqb·suc-zero, ltb, leb}
+use lib.ListN.{length, length-append, getElem?, set}
+use lib.Dec.{T, eqb, eqb·suc-zero, ltb, leb}
 use borrow.Author.Tests.{ne-eqb, eq-eqb}
 use Rattle.sheet.specs.Model.{Model}
-use Rattle.sheet.specs.Kind.{Role, symbol, a-pair, counts, kindOf, sectionOf}
+use Rattle.sheet.specs.Kind.{Role, symbol, a-pair, counts, methods, steps, kindOf, sectionOf}
 use Rattle.sheet.specs.Record.{byteAt, recordAt}
-use Rattle.sheet.specs.Reading.{Opened, Counted, Reading, tally, startOf, startsOf, wrongItems, full, overLimit, allExist, pastAt, ReadResult}
-use Rattle.sheet.proofs.Order.{is-4, is-5, is-6, all-named, is-9, six, seven, nine, takes}
+use Rattle.sheet.specs.Reading.{Opened, Counted, Reading, tally, startOf, startsOf, wrongItems, full, overLimit, allExist, methodRecord, twoOutcomesIn, pastAt, ReadResult}
+use Rattle.sheet.proofs.Order.{is-4, is-5, is-6, all-named, is-9, is-18, six, seven, nine, eighteen, takes}
 use Rattle.format.specs.declared.Refusal.{Refusal}
-use Rattle.format.specs.declared.Refusal.the-variants.{WrongSection, OverLimit, UnknownName, NoFirstBody}
-use Rattle.format.specs.Kinds.{primitiveKind}
+use Rattle.format.specs.declared.Refusal.the-variants.{WrongSection, OverLimit, UnknownName, NoFirstBody, WrongOutcomes}
+use Rattle.format.specs.Kinds.{primitiveKind, twoOutcomeKind}
 use Rattle.format.proofs.Table.{Suits, suits, primitive-section}
 use Rattle.format.proofs.Laws.{Stood, Refuses}
 use Rattle.instrument.specs.declared.Limits.{Limits}
 use Rattle.instrument.specs.Model.{modelWith}
 use Rattle.tally.specs.declared.Tally.{Tally}
 use Rattle.tally.specs.Tally.{countOf, tallyAfter}
+use Rattle.refusals.specs.Outcomes.{kindListed, wrongOutcomesAt}
 use Rattle.sections.specs.declared.Section.{Section}
 use Rattle.sections.specs.declared.Section.the-variants.{Done, Refused}
-use Rattle.sections.specs.Sections.{Counts, Between, Told, overwrittenFrom, Extended, Filled, Alone}
+use Rattle.sections.specs.Sections.{Counts, Between, Told, overwrittenFrom, Extended, Filled, MethodsListed, Alone}
 use Rattle.sections.proofs.Comes.{refuses, taken-on}
 use Rattle.sections.proofs.Overwritten.{none-written}
 use Rattle.sections.proofs.Counted.{closed, counts-more, grown-more}
 use Rattle.sections.proofs.Tests.{and-left, and-right, section-is, not-3, early, in-order, names-are, primitive-is}
+use Rattle.sections.proofs.Outcomes.{outcomes-are}
 
 and-true : (b : Bool) → b ≡ (b && true)
 and-true true = refl
 and-true false = refl
 
+not-not : (b : Bool) → not (not b) ≡ b
+not-not true = refl
+not-not false = refl
+
 -- the test for a first method that is a primitive, by what its parts are
 pub first-test : {a b n m : ℕ} {p q both : Bool} → both ≡ (eqb n m && p) → p ≡ q → n ≡ a → m ≡ b → (eqb a b && q) ≡ both
 first-test {a} {n = n} {m} {q = q} e x y z = sym (e ∙ ap (λ c. eqb n m && c) x ∙ ap (λ c. eqb c m && q) y ∙ ap (λ c. eqb a c && q) z)
+
+-- .. and the test of 18, which the code turns round
+pub wrong-if : {fit wrong : Bool} → fit ≡ not wrong → not fit ≡ true → wrong ≡ true
+wrong-if {wrong = wrong} is e = sym (not-not wrong) ∙ sym (ap not is) ∙ e
+
+pub fit-if : {fit wrong : Bool} → fit ≡ not wrong → not fit ≡ false → wrong ≡ false
+fit-if {wrong = wrong} is e = sym (not-not wrong) ∙ sym (ap not is) ∙ e
 
 -- the kinds of these sections count, each by itself
 stands-alone : (k : ℕ) → 2 ≤ sectionOf k → sectionOf k ≤ 4 → kindOf k .role ≡ counts
@@ -77,6 +90,19 @@ none-yet k r u t₀ t same none h₀ h = go (length (u .own k)) counted
     go : (n : ℕ) → countOf t k ≡ length (r .before k) + n → eqb n 0 ≡ eqb (countOf t k) (countOf t₀ k)
     go zero e = sym (eq-eqb (countOf t k) (countOf t₀ k) (omega (arith, at-first)))
     go (suc n) e = eqb·suc-zero n ∙ sym (ne-eqb (countOf t k) (countOf t₀ k) (λ (same : countOf t k ≡ countOf t₀ k). omega (arith, at-first)))
+
+-- the methods of a state, and that a table leads to their kinds
+abbrev methodsIn : Reading → List Counted
+methodsIn r = r .before methods ++ r .own methods
+
+abbrev Lead : List ℕ → List ℕ → List Counted → Type 0
+Lead s table cs = (m : ℕ) → m < length cs → twoOutcomesIn (getElem? (map (λ (c : Counted). c .last) cs) m) ≡ twoOutcomeKind (kindListed s table m)
+
+-- .. which steps do not change
+still-listed : (s table : List ℕ) {k : ℕ} {r u : Reading} {before after : List ℕ} → Extended k r u before after → MethodsListed s table k r → k ≡ steps → Lead s table (methodsIn u)
+still-listed s table {k} {r} {u} g listed e =
+    subst (Lead s table)
+    (sym (ap (λ (before : ℕ → List Counted). before 3 ++ u .own 3) (g .same) ∙ ap (λ (own : List Counted). r .before 3 ++ own) (g .others 3 (λ f. omega arith)))) (listed e)
 
 module _ {l : Limits} {s : List ℕ} {o : ReadResult} {k at limit : ℕ} {t : Tally} {r : Reading} {table₀ table room : List ℕ} (a : Alone l k limit room)
     (h : Filled (modelWith l) s o k (Done at t) k r table₀ table) where
@@ -176,24 +202,35 @@ module _ {l : Limits} {s : List ℕ} {o : ReadResult} {k at limit : ℕ} {t : Ta
             primitive-first e =
                 ends (NoFirstBody at) (nine M s at u (w .not-2) (not-3 w u) not-4 not-5 (limit-is ∙ within) named (first-is ∙ e), refl)
 
-            -- the record is taken
-            pub again : {n : ℕ} {t′ : Tally} → (eqb (countOf t k) (countOf t₀ k) && primitiveKind kind) ≡ false → n ≡ countOf t k → t′ ≡ tallyAfter t k
-                → Filled M s o k (Done q t′) k r table₀ (set table n at)
-            again {n} {t′} first n-is after =
-                let taken = takes M s at u (w .not-2) (not-3 w u) not-4 not-5 (limit-is ∙ within) named (first-is ∙ first) in
-                let t-is : Counts (pastAt s at u) t′ = subst (Counts (pastAt s at u)) (sym after) (counts-more s at u role k here (omega (arith, a .low)) (omega (arith, a .high)) (h .told .1)) in
-                let here-starts : startOf (u .opened) at ≡ at = ap (λ (o : Opened). startOf o at) (b .closed) in
-                record {
-                  state = pastAt s at u;
-                  told = (
-                    record {
-                      comes = taken-on (b .comes) before w taken;
-                      section = omega (arith, here);
-                      closed = closed s at u role k here;
-                      begun = λ inside low. absurd (omega (arith, here));
-                    },
-                    t-is,
-                  );
-                  grown =
-                      subst (λ (i : ℕ). Extended k r (pastAt s at u) table₀ (set table n i)) here-starts (grown-more s at u role k here (h .told .1) n-is (h .grown));
-                }
+            module _ (first : (eqb (countOf t k) (countOf t₀ k) && primitiveKind kind) ≡ false) (ms : List ℕ) (listed : MethodsListed s ms k r) where
+              outcomes-is : is-18 M s at u ≡ wrongOutcomesAt s at kind ms
+              outcomes-is =
+                  outcomes-are (l .events) s at u (subst T (sym named) tt) ms (λ e. still-listed s ms (h .grown) listed (sym here ∙ e)) (w .kind)
+
+              -- 18
+              pub wrong-outcomes : wrongOutcomesAt s at kind ms ≡ true → Filled M s o (suc k) (Refused (WrongOutcomes at)) k r table₀ table
+              wrong-outcomes e =
+                  ends (WrongOutcomes at)
+                  (eighteen M s at u (w .not-2) (not-3 w u) not-4 not-5 (limit-is ∙ within) named (first-is ∙ first) (outcomes-is ∙ e), refl)
+
+              -- the record is taken
+              pub again : {n : ℕ} {t′ : Tally} → wrongOutcomesAt s at kind ms ≡ false → n ≡ countOf t k → t′ ≡ tallyAfter t k
+                  → Filled M s o k (Done q t′) k r table₀ (set table n at)
+              again {n} {t′} fit n-is after =
+                  let taken = takes M s at u (w .not-2) (not-3 w u) not-4 not-5 (limit-is ∙ within) named (first-is ∙ first) (outcomes-is ∙ fit) in
+                  let t-is : Counts (pastAt s at u) t′ = subst (Counts (pastAt s at u)) (sym after) (counts-more s at u role k here (omega (arith, a .low)) (omega (arith, a .high)) (h .told .1)) in
+                  let here-starts : startOf (u .opened) at ≡ at = ap (λ (o : Opened). startOf o at) (b .closed) in
+                  record {
+                    state = pastAt s at u;
+                    told = (
+                      record {
+                        comes = taken-on (b .comes) before w taken;
+                        section = omega (arith, here);
+                        closed = closed s at u role k here;
+                        begun = λ inside low. absurd (omega (arith, here));
+                      },
+                      t-is,
+                    );
+                    grown =
+                        subst (λ (i : ℕ). Extended k r (pastAt s at u) table₀ (set table n i)) here-starts (grown-more s at u role k here (h .told .1) n-is (h .grown));
+                  }

@@ -25,7 +25,7 @@ use Rattle.sections.specs.declared.Read.the-variants.{Whole, Refused}
 use Rattle.sections.specs.Sections.{Counts, Comes, Told, Answers, Concluded}
 use Rattle.sections.proofs.Comes.{ended, refuses, taken-on}
 use Rattle.sections.proofs.Counted.{at-is, own-same, counts-same, closed, others, starts, counts-more}
-use Rattle.sections.proofs.Tests.{and-left, section-is, not-3, early, in-order, no-method}
+use Rattle.sections.proofs.Tests.{and-left, section-is, not-3, early, in-order, no-method, no-call}
 
 -- what the loop keeps: whether a certificate is open, and that the first one starts where the section does
 pub record Ending (M : Model) (s : List ℕ) (o : ReadResult) (r : Reading) (from at : ℕ) (t : Tally) (inside : Bool) : Type 0 where
@@ -105,6 +105,7 @@ module _ {M : Model} {s : List ℕ} {o : ReadResult} {r : Reading} {from at : �
         taken =
             takes M s at u (w .not-2) (not-3 w u) not-4 (no-limit .0) (no-limit .1)
             (names-nothing (M .events) (tally u) (byteAt s at) (λ low high. omega (arith, here)) (recordAt s at .values)) (no-method w u (λ e. omega (arith, same)))
+            (no-call w u (λ e. omega (arith, same)))
 
         beyond : Comes M s o q (pastAt s at u)
         beyond = taken-on (h .comes) before w taken

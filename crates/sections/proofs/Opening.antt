@@ -12,7 +12,7 @@ use Rattle.sheet.specs.Model.{Model, conditionLimit, symbolLimit, leafLimit}
 use Rattle.sheet.specs.Kind.{Role, symbol, a-pair, counts, kindOf, sectionOf}
 use Rattle.sheet.specs.Record.{byteAt, recordAt}
 use Rattle.sheet.specs.Reading.{Opened, nothing, Reading, tally, startOf, wrongItems, isLeaf, full, overLimit, refusalOf, openedPast, pastAt, ReadResult, whole, refusal}
-use Rattle.sheet.proofs.Order.{is-4, is-5, is-6, all-named, is-9, four, five, six, takes}
+use Rattle.sheet.proofs.Order.{is-4, is-5, is-6, all-named, is-9, is-18, four, five, six, takes}
 use Rattle.format.specs.declared.Refusal.{Refusal}
 use Rattle.format.specs.declared.Refusal.the-variants.{WrongSection, Unfinished}
 use Rattle.format.specs.Kinds.{lastKind, countsOne, takesItems, leafKind}
@@ -28,7 +28,7 @@ use Rattle.sections.specs.declared.Section.the-variants.{Done, Refused}
 use Rattle.sections.specs.Sections.{Counts, Comes, Told, Extended, Filled}
 use Rattle.sections.proofs.Comes.{ended, refuses, taken-on}
 use Rattle.sections.proofs.Counted.{at-is, counts-same, grown-same, closed, counts-more, grown-more}
-use Rattle.sections.proofs.Tests.{or-right, and-right, section-is, not-3, in-order, no-method}
+use Rattle.sections.proofs.Tests.{or-right, and-right, section-is, not-3, in-order, no-method, no-call}
 use Rattle.sections.proofs.Alone as alone
 
 -- what is open is what the code has begun, from the offset `start` on; if nothing is, the next condition would start here
@@ -138,6 +138,9 @@ module _ {M : Model} {s : List ℕ} {o : ReadResult} {r : Reading} {at start : �
         no-first : is-9 M s at u ≡ false
         no-first = no-method w u (λ e. omega (arith, one))
 
+        not-wrong : is-18 M s at u ≡ false
+        not-wrong = no-call w u (λ e. omega (arith, one))
+
         -- what the step tells: the record's refusal, or what is open past the record
         abbrev Goes : Begun → Type 0
         Goes b′ = (refusalOf M s at u ≡ 0)
@@ -193,7 +196,7 @@ module _ {M : Model} {s : List ℕ} {o : ReadResult} {r : Reading} {at start : �
               (λ f. cond-by Tells (leafKind (byteAt s at) && leb leafLimit (b .leaves))
               (λ g. (six M s at u (w .not-2) (not-3 w u) not-4 (items-is ∙ e) (limit-is ∙ simp (f, g)), refl))
               (λ g. (
-                takes M s at u (w .not-2) (not-3 w u) not-4 (items-is ∙ e) (limit-is ∙ simp (f, g)) names no-first,
+                takes M s at u (w .not-2) (not-3 w u) not-4 (items-is ∙ e) (limit-is ∙ simp (f, g)) names no-first not-wrong,
                 λ true-is. absurd (subst T (sym true-is ∙ ap countsOne role) tt),
                 λ false-is. subst (λ (x : Opened). Matches x q start next-begun) (sym opened-is) (more (omega (arith, ltb-false (b .items) (itemsOfKind (byteAt s at)) e, taken-is))),
               ))))
@@ -215,7 +218,7 @@ module _ {M : Model} {s : List ℕ} {o : ReadResult} {r : Reading} {at start : �
               (λ e. cond-by Tells (leb conditionLimit (countOf t 1))
               (λ f. (six M s at u (w .not-2) (not-3 w u) not-4 (one-item-is ∙ ap not e) (full-is ∙ f), refl))
               (λ f. (
-                takes M s at u (w .not-2) (not-3 w u) not-4 (one-item-is ∙ ap not e) (full-is ∙ f) names no-first,
+                takes M s at u (w .not-2) (not-3 w u) not-4 (one-item-is ∙ ap not e) (full-is ∙ f) names no-first not-wrong,
                 λ true-is. (role, refl),
                 λ false-is. absurd (subst T (sym (ap countsOne role) ∙ false-is) tt),
               )))

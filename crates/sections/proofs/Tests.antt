@@ -6,12 +6,13 @@ use Prim.Native.Nat.{ℕ, _≤_, _<_}
 use native.Mathlib.Omega.{arith, by-contra}
 use lib.ListN.{length}
 use lib.Dec.{T, eqb, ltb}
-use borrow.Author.Tests.{lt-ltb, le-ltb}
+use borrow.Author.Tests.{lt-ltb, le-ltb, ne-eqb}
 use Rattle.sheet.specs.Model.{Model}
 use Rattle.sheet.specs.Kind.{kindOf, sectionOf}
 use Rattle.sheet.specs.Record.{byteAt, recordAt, nextAt}
 use Rattle.sheet.specs.Reading.{Reading, tally, allExist, isPrimitive}
-use Rattle.sheet.proofs.Order.{is-3, is-4, all-named, is-9, four}
+use Rattle.sheet.proofs.Order.{is-3, is-4, all-named, is-9, is-18, four}
+use Rattle.sheet.proofs.Outcomes.{never-wrong}
 use Rattle.format.specs.declared.Refusal.the-variants.{WrongSection}
 use Rattle.format.specs.Kinds.{primitiveKind}
 use Rattle.format.proofs.Table.{not-primitive}
@@ -75,3 +76,10 @@ module _ {M : Model} {s : List ℕ} {at kind q : ℕ} (w : Stood M s at kind q) 
     pub no-method : (sectionOf kind ≡ 3 → ⊥) → is-9 M s at u ≡ false
     no-method ne =
         and-left (isPrimitive (recordAt s at)) (eqb (length (u .own 3)) 0) (primitive-is ∙ not-primitive kind ne)
+
+    -- not 18: no step
+    pub no-call : (sectionOf kind ≡ 4 → ⊥) → is-18 M s at u ≡ false
+    no-call ne = never-wrong s at u (ne-eqb (byteAt s at) 11 (other 11 refl)) (ne-eqb (byteAt s at) 17 (other 17 refl))
+      where
+        other : (k : ℕ) → sectionOf k ≡ 4 → byteAt s at ≡ k → ⊥
+        other k step e = ne (sym section-is ∙ ap sectionOf e ∙ step)

@@ -1,6 +1,6 @@
 -- The loop keeps `Filled`, with section k still to come. Each answer is the law of the test that led to it.
 use mathlib.Core.Path.{_≡_, refl, sym, _∙_, subst}
-use mathlib.Core.Bool.{false, _&&_}
+use mathlib.Core.Bool.{Bool, true, false, not, _&&_}
 use mathlib.Core.List.{[]}
 use Prim.Native.Nat.{_-_}
 use native.Mathlib.Omega.{arith}
@@ -18,18 +18,39 @@ use Rattle.instrument.specs.Model.{modelWith}
 use Rattle.tally.specs.Tally.{countOf}
 use Rattle.sections.specs.declared.Section.{Section}
 use Rattle.sections.specs.declared.Section.the-variants.{Done}
-use Rattle.sections.specs.Sections.{Told, Filled}
-use Rattle.sections.proofs.Alone.{begin, passes, no-more, no-record, too-early, later-section, over-limit, unnamed, first-test, primitive-first, again}
+use Rattle.sections.specs.Sections.{Told, Filled, MethodsListed}
+use Rattle.sections.proofs.Alone.{begin, passes, no-more, no-record, too-early, later-section, over-limit, unnamed, first-test, primitive-first, wrong-if, fit-if, wrong-outcomes, again}
 use Rattle.sections.proofs.read_alone.Statement.{statement}
 use Rattle.sections.proofs.read_alone.Tie as tie
 
 abbrev Inv-loop : tie.InvT-loop
-Inv-loop s limits section limit table₀ from first at₀ tally₀ table at tally = (length table ≡ length table₀)
-    × ((o : ReadResult) (u : Reading) → Told (modelWith limits) s o section (Done at₀ tally₀) u → u .own section ≡ []
+Inv-loop s limits section limit methods table₀ from first at₀ tally₀ table at tally = (length table ≡ length table₀)
+    × ((o : ReadResult) (u : Reading) → Told (modelWith limits) s o section (Done at₀ tally₀) u → u .own section ≡ [] → MethodsListed s methods section u
     → Filled (modelWith limits) s o section (Done at tally) section u table₀ table)
 
 abbrev μ-loop : tie.MeasureT-loop
-μ-loop s limits section limit table₀ from first at₀ tally₀ table at tally = length s - at
+μ-loop s limits section limit methods table₀ from first at₀ tally₀ table at tally = length s - at
+
+-- Places on the way of a turn: what the function was given, where the turn begins, and what it reads ----------------------
+
+abbrev entry : tie.After-count Inv-loop μ-loop → tie.Start Inv-loop μ-loop
+entry c = c .before .before .before .before .before .before .before
+
+abbrev of-turn : tie.In-loop Inv-loop μ-loop → tie.Start Inv-loop μ-loop
+of-turn c = entry (c .before .before)
+
+abbrev turn : tie.After-known-told2 Inv-loop μ-loop → tie.In-loop Inv-loop μ-loop
+turn c = c .before .before .before .before
+
+-- past the count, the test of the limit, and the test for a first primitive
+abbrev read : tie.After-count2 Inv-loop μ-loop → tie.After-known-told2 Inv-loop μ-loop
+read c = c .before .before .before .before
+
+abbrev roomy : tie.Else3 Inv-loop μ-loop → tie.After-count2 Inv-loop μ-loop
+roomy c = c .before
+
+abbrev tested : tie.After-both Inv-loop μ-loop → tie.Else3 Inv-loop μ-loop
+tested c = c .before .before .before .before
 
 enum-known-reached : tie.Need-enum-known-reached Inv-loop μ-loop
 enum-known-reached c = search needs
@@ -38,16 +59,16 @@ enum-told : tie.Need-enum-told Inv-loop μ-loop
 enum-told c = search needs
 
 returns : tie.Need-returns Inv-loop μ-loop
-returns c = λ o u told none. passes (c .enum-told .given .1) told none
+returns c = λ o u told none listed. passes (c .enum-told .given .1) told none
 
 count-requires : tie.Need-count-requires Inv-loop μ-loop
 count-requires c κs = search needs
 
 loop-holds : tie.Need-loop-holds Inv-loop μ-loop
-loop-holds c = (refl, λ o u told none. record { state = u; told = told; grown = begin _ none })
+loop-holds c = (refl, λ o u told none listed. record { state = u; told = told; grown = begin _ none })
 
 record-at-requires : tie.Need-record-at-requires Inv-loop μ-loop
-record-at-requires c κs = c .before .before .before .before .before .before .before .before .pre .0 .kinds
+record-at-requires c κs = of-turn c .pre .0 .kinds
 
 enum-known-got : tie.Need-enum-known-got Inv-loop μ-loop
 enum-known-got c = search needs
@@ -59,76 +80,97 @@ refusal-at-requires : tie.Need-refusal-at-requires Inv-loop μ-loop
 refusal-at-requires c κs = search needs
 
 -- reading has come to the section
-given : (c : tie.After-count Inv-loop μ-loop) (o : ReadResult) (u : Reading) → Told (modelWith (c .before .before .before .before .before .before .args .limits)) (c .before .before .before .before .before .before .args .s .now) o (c .before .before .before .before .before .before .args .section) (c .before .before .before .before .before .before .args .reached) u
-    → Told (modelWith (c .before .before .before .before .before .before .args .limits)) (c .before .before .before .before .before .before .args .s .now) o (c .before .before .before .before .before .before .args .section) (Done (c .before .before .reached .given .0 .0) (c .before .before .reached .given .0 .1 .0)) u
-given c o u told = subst (λ (a : Section). Told (modelWith (c .before .before .before .before .before .before .args .limits)) (c .before .before .before .before .before .before .args .s .now) o (c .before .before .before .before .before .before .args .section) a u) (c .before .before .reached .given .1) told
+given : (c : tie.After-count Inv-loop μ-loop) (o : ReadResult) (u : Reading)
+    → Told (modelWith (entry c .args .limits)) (entry c .args .s .now) o (entry c .args .section) (entry c .args .reached) u
+    → Told (modelWith (entry c .args .limits)) (entry c .args .s .now) o (entry c .args .section) (Done (c .before .before .reached .given .0 .0) (c .before .before .reached .given .0 .1 .0)) u
+given c o u told =
+    subst (λ (a : Section). Told (modelWith (entry c .args .limits)) (entry c .args .s .now) o (entry c .args .section) a u) (c .before .before .reached .given .1) told
 
 -- what the loop has kept, where a turn begins
-kept : (c : tie.In-loop Inv-loop μ-loop) (o : ReadResult) (u : Reading) → Told (modelWith (c .before .before .before .before .before .before .before .before .args .limits)) (c .before .before .before .before .before .before .before .before .args .s .now) o (c .before .before .before .before .before .before .before .before .args .section) (c .before .before .before .before .before .before .before .before .args .reached) u → u .own (c .before .before .before .before .before .before .before .before .args .section) ≡ []
-    → Filled (modelWith (c .before .before .before .before .before .before .before .before .args .limits)) (c .before .before .before .before .before .before .before .before .args .s .now) o (c .before .before .before .before .before .before .before .before .args .section) (Done (c .before .loop .at) (c .before .loop .tally)) (c .before .before .before .before .before .before .before .before .args .section) u (c .before .before .before .before .before .before .before .before .args .table .now) (c .before .loop .table)
-kept c o u told none = c .before .loop .inv .1 o u (given (c .before .before) o u told) none
+kept : (c : tie.In-loop Inv-loop μ-loop) (o : ReadResult) (u : Reading)
+    → Told (modelWith (of-turn c .args .limits)) (of-turn c .args .s .now) o (of-turn c .args .section) (of-turn c .args .reached) u
+    → u .own (of-turn c .args .section) ≡ [] → MethodsListed (of-turn c .args .s .now) (of-turn c .args .methods .now) (of-turn c .args .section) u
+    → Filled (modelWith (of-turn c .args .limits)) (of-turn c .args .s .now) o (of-turn c .args .section) (Done (c .before .loop .at) (c .before .loop .tally))
+    (of-turn c .args .section) u (of-turn c .args .table .now) (c .before .loop .table)
+kept c o u told none listed = c .before .loop .inv .1 o u (given (c .before .before) o u told) none listed
 
 -- the record that the turn reads
-standing : (c : tie.After-known-told2 Inv-loop μ-loop) → Stood (modelWith (c .before .before .before .before .before .before .before .before .before .before .before .before .args .limits)) (c .before .before .before .before .before .before .before .before .before .before .before .before .args .s .now) (c .before .before .before .before .before .loop .at) (c .before .got .given .0 .0) (c .before .got .given .0 .1 .0)
+standing : (c : tie.After-known-told2 Inv-loop μ-loop)
+    → Stood (modelWith (of-turn (turn c) .args .limits)) (of-turn (turn c) .args .s .now) (turn c .before .loop .at) (c .before .got .given .0 .0) (c .before .got .given .0 .1 .0)
 standing c = stood _ _ _ (sym (c .before .before .before .record-at .ensures) ∙ c .before .got .given .1)
 
 same-length : tie.Need-same-length Inv-loop μ-loop
 same-length c = c .before .before .before .before .before .loop .inv .0
 
 returns-2 : tie.Need-returns-2 Inv-loop μ-loop
-returns-2 c = λ o u told none.
-    let k = kept (c .before .before .before .before) o u told none in
-    let why = refused (modelWith (c .before .before .before .before .before .before .before .before .before .before .before .before .args .limits)) (c .before .before .before .before .before .before .before .before .before .before .before .before .args .s .now) (c .before .before .before .before .before .loop .at) (k .state) (sym (c .before .before .before .record-at .ensures) ∙ c .before .enum-told2 .given .1) in
-    no-record (c .before .before .before .before .before .before .before .before .before .before .before .before .pre .0) k (c .before .before .before .before .loop-test .taken) _ (subst (λ (x : Refusal). Refuses (modelWith (c .before .before .before .before .before .before .before .before .before .before .before .before .args .limits)) (c .before .before .before .before .before .before .before .before .before .before .before .before .args .s .now) (c .before .before .before .before .before .loop .at) (k .state) x) (sym (c .refusal-at .ensures)) why)
+returns-2 c = λ o u told none listed.
+    let t = c .before .before .before .before in
+    let start = of-turn t in
+    let k = kept t o u told none listed in
+    let M = modelWith (start .args .limits) in
+    let why = refused M (start .args .s .now) (t .before .loop .at) (k .state) (sym (c .before .before .before .record-at .ensures) ∙ c .before .enum-told2 .given .1) in
+    no-record (start .pre .0) k (t .loop-test .taken) _
+    (subst (λ (x : Refusal). Refuses M (start .args .s .now) (t .before .loop .at) (k .state) x) (sym (c .refusal-at .ensures)) why)
 
 section-of-requires : tie.Need-section-of-requires Inv-loop μ-loop
-section-of-requires c κs = (standing c .low, omega (arith, standing c .high, c .before .before .before .before .before .before .before .before .before .before .before .before .pre .0 .kinds))
+section-of-requires c κs = (standing c .low, omega (arith, standing c .high, of-turn (turn c) .pre .0 .kinds))
 
 same-length-2 : tie.Need-same-length-2 Inv-loop μ-loop
 same-length-2 c = c .before .before .before .before .before .before .before .loop .inv .0
 
 returns-3 : tie.Need-returns-3 Inv-loop μ-loop
-returns-3 c = λ o u told none.
-    too-early (c .before .before .before .before .before .before .before .before .before .before .before .before .before .before .pre .0) (kept (c .before .before .before .before .before .before) o u told none) (c .before .before .before .before .before .before .loop-test .taken) (standing (c .before .before)) (omega (arith, c .if1 .taken, c .before .section-of .ensures))
+returns-3 c = λ o u told none listed.
+    let t = turn (c .before .before) in
+    too-early (of-turn t .pre .0) (kept t o u told none listed) (t .loop-test .taken) (standing (c .before .before)) (omega (arith, c .if1 .taken, c .before .section-of .ensures))
 
 same-length-3 : tie.Need-same-length-3 Inv-loop μ-loop
 same-length-3 c = c .before .before .before .before .before .before .before .before .loop .inv .0
 
 returns-4 : tie.Need-returns-4 Inv-loop μ-loop
-returns-4 c = λ o u told none.
-    later-section (c .before .before .before .before .before .before .before .before .before .before .before .before .before .before .before .pre .0) (kept (c .before .before .before .before .before .before .before) o u told none) (c .before .before .before .before .before .before .before .loop-test .taken) (standing (c .before .before .before)) (omega (arith, c .if2 .taken, c .before .before .section-of .ensures))
+returns-4 c = λ o u told none listed.
+    let t = turn (c .before .before .before) in
+    later-section (of-turn t .pre .0) (kept t o u told none listed) (t .loop-test .taken) (standing (c .before .before .before)) (omega (arith, c .if2 .taken, c .before .before .section-of .ensures))
 
 count-requires-2 : tie.Need-count-requires-2 Inv-loop μ-loop
 count-requires-2 c κs = search needs
 
 -- the record is of the section
-same : (c : tie.After-count2 Inv-loop μ-loop) → sectionOf (c .before .before .before .before .before .got .given .0 .0) ≡ c .before .before .before .before .before .before .before .before .before .before .before .before .before .before .before .before .args .section
+same : (c : tie.After-count2 Inv-loop μ-loop) → sectionOf (read c .before .got .given .0 .0) ≡ of-turn (turn (read c)) .args .section
 same c = omega (arith, c .before .if2 .left, c .before .before .if1 .left, c .before .before .before .section-of .ensures)
 
 same-length-4 : tie.Need-same-length-4 Inv-loop μ-loop
 same-length-4 c = c .before .before .before .before .before .before .before .before .before .before .loop .inv .0
 
 returns-5 : tie.Need-returns-5 Inv-loop μ-loop
-returns-5 c = λ o u told none.
-    over-limit (c .before .before .before .before .before .before .before .before .before .before .before .before .before .before .before .before .before .pre .0) (kept (c .before .before .before .before .before .before .before .before .before) o u told none) (c .before .before .before .before .before .before .before .before .before .loop-test .taken) (standing (c .before .before .before .before .before)) (same (c .before)) (le-leb (c .before .before .before .before .before .before .before .before .before .before .before .before .before .before .before .before .before .args .limit) (countOf (c .before .before .before .before .before .before .before .before .before .before .loop .tally) (c .before .before .before .before .before .before .before .before .before .before .before .before .before .before .before .before .before .args .section)) (omega (arith, c .if3 .taken, c .before .count2 .ensures)))
+returns-5 c = λ o u told none listed.
+    let t = turn (read (c .before)) in
+    let start = of-turn t in
+    over-limit (start .pre .0) (kept t o u told none listed) (t .loop-test .taken) (standing (read (c .before))) (same (c .before))
+    (le-leb (start .args .limit) (countOf (t .before .loop .tally) (start .args .section)) (omega (arith, c .if3 .taken, c .before .count2 .ensures)))
 
 names-exist-requires : tie.Need-names-exist-requires Inv-loop μ-loop
 names-exist-requires c κs =
     let is = same (c .before) in
-    let a = c .before .before .before .before .before .before .before .before .before .before .before .before .before .before .before .before .before .pre .0 in
-    let w = standing (c .before .before .before .before .before) in
+    let a = of-turn (turn (read (c .before))) .pre .0 in
+    let w = standing (read (c .before)) in
     record { is = w .kind; low = omega (arith, a .low); high = omega (arith, a .high); inside = w .inside }
 
 -- there is room for one more
-within : (c : tie.Else3 Inv-loop μ-loop) → leb (c .before .before .before .before .before .before .before .before .before .before .before .before .before .before .before .before .before .args .limit) (countOf (c .before .before .before .before .before .before .before .before .before .before .loop .tally) (c .before .before .before .before .before .before .before .before .before .before .before .before .before .before .before .before .before .args .section)) ≡ false
-within c = lt-leb (c .before .before .before .before .before .before .before .before .before .before .before .before .before .before .before .before .before .args .limit) (countOf (c .before .before .before .before .before .before .before .before .before .before .loop .tally) (c .before .before .before .before .before .before .before .before .before .before .before .before .before .before .before .before .before .args .section)) (omega (arith, c .if3 .left, c .before .count2 .ensures))
+within : (c : tie.Else3 Inv-loop μ-loop)
+    → leb (of-turn (turn (read (roomy c))) .args .limit) (countOf (turn (read (roomy c)) .before .loop .tally) (of-turn (turn (read (roomy c))) .args .section)) ≡ false
+within c =
+    lt-leb (of-turn (turn (read (roomy c))) .args .limit) (countOf (turn (read (roomy c)) .before .loop .tally) (of-turn (turn (read (roomy c))) .args .section))
+    (omega (arith, c .if3 .left, c .before .count2 .ensures))
 
 same-length-5 : tie.Need-same-length-5 Inv-loop μ-loop
 same-length-5 c = c .before .before .before .before .before .before .before .before .before .before .before .before .loop .inv .0
 
 returns-6 : tie.Need-returns-6 Inv-loop μ-loop
-returns-6 c = λ o u told none.
-    unnamed (c .before .before .before .before .before .before .before .before .before .before .before .before .before .before .before .before .before .before .before .pre .0) (kept (c .before .before .before .before .before .before .before .before .before .before .before) o u told none) (c .before .before .before .before .before .before .before .before .before .before .before .loop-test .taken) (standing (c .before .before .before .before .before .before .before)) (same (c .before .before .before)) (within (c .before .before)) (sym (c .before .names-exist .ensures) ∙ not-true (c .before .names-exist .result) (c .if4 .taken))
+returns-6 c = λ o u told none listed.
+    let counted = roomy (c .before .before) in
+    let t = turn (read counted) in
+    unnamed (of-turn t .pre .0) (kept t o u told none listed) (t .loop-test .taken) (standing (read counted)) (same counted) (within (c .before .before))
+    (sym (c .before .names-exist .ensures) ∙ not-true (c .before .names-exist .result) (c .if4 .taken))
 
 is-primitive-requires : tie.Need-is-primitive-requires Inv-loop μ-loop
 is-primitive-requires c κs = search needs
@@ -138,49 +180,83 @@ both-requires c κs = search needs
 
 -- it is this sheet's first method, and a primitive
 first-primitive : (c : tie.After-both Inv-loop μ-loop)
-    → (eqb (countOf (c .before .before .before .before .before .before .before .before .before .before .before .before .before .before .loop .tally) (c .before .before .before .before .before .before .before .before .before .before .before .before .before .before .before .before .before .before .before .before .before .args .section)) (countOf (c .before .before .before .before .before .before .before .before .before .before .before .before .before .before .before .before .before .reached .given .0 .1 .0) (c .before .before .before .before .before .before .before .before .before .before .before .before .before .before .before .before .before .before .before .before .before .args .section)) && primitiveKind (c .before .before .before .before .before .before .before .before .before .before .got .given .0 .0)) ≡ c .both .result
+    → (eqb (countOf (turn (read (roomy (tested c))) .before .loop .tally) (of-turn (turn (read (roomy (tested c)))) .args .section))
+    (countOf (turn (read (roomy (tested c))) .before .before .before .before .reached .given .0 .1 .0) (of-turn (turn (read (roomy (tested c)))) .args .section))
+    && primitiveKind (read (roomy (tested c)) .before .got .given .0 .0)) ≡ c .both .result
 first-primitive c =
-    first-test (c .both .ensures) (c .before .is-primitive .ensures) (c .before .before .before .before .before .count2 .ensures)
-    (c .before .before .before .before .before .before .before .before .before .before .before .before .before .before .before .count .ensures)
+    first-test (c .both .ensures) (c .before .is-primitive .ensures) (roomy (tested c) .count2 .ensures) (turn (read (roomy (tested c))) .before .before .count .ensures)
 
 same-length-6 : tie.Need-same-length-6 Inv-loop μ-loop
 same-length-6 c = c .before .before .before .before .before .before .before .before .before .before .before .before .before .before .before .loop .inv .0
 
 returns-7 : tie.Need-returns-7 Inv-loop μ-loop
-returns-7 c = λ o u told none.
-    primitive-first (c .before .before .before .before .before .before .before .before .before .before .before .before .before .before .before .before .before .before .before .before .before .before .pre .0) (kept (c .before .before .before .before .before .before .before .before .before .before .before .before .before .before) o u told none) (c .before .before .before .before .before .before .before .before .before .before .before .before .before .before .loop-test .taken) (standing (c .before .before .before .before .before .before .before .before .before .before)) (same (c .before .before .before .before .before .before)) (within (c .before .before .before .before .before)) (sym (c .before .before .before .before .names-exist .ensures) ∙ not-false (c .before .before .before .before .names-exist .result) (c .before .before .before .if4 .left))
-    (given (c .before .before .before .before .before .before .before .before .before .before .before .before .before .before .before .before) o u told .1) none (first-primitive (c .before) ∙ c .if5 .taken)
+returns-7 c = λ o u told none listed.
+    let room = tested (c .before) in
+    let counted = roomy room in
+    let t = turn (read counted) in
+    primitive-first (of-turn t .pre .0) (kept t o u told none listed) (t .loop-test .taken) (standing (read counted)) (same counted) (within room)
+    (sym (c .before .before .before .before .names-exist .ensures) ∙ not-false (c .before .before .before .before .names-exist .result) (c .before .before .before .if4 .left)) (given (t .before .before) o u told .1) none (first-primitive (c .before) ∙ c .if5 .taken)
+
+outcomes-fit-requires : tie.Need-outcomes-fit-requires Inv-loop μ-loop
+outcomes-fit-requires c κs = turn (read (roomy (tested (c .before)))) .loop-test .taken
+
+same-length-7 : tie.Need-same-length-7 Inv-loop μ-loop
+same-length-7 c = c .before .before .before .before .before .before .before .before .before .before .before .before .before .before .before .before .before .loop .inv .0
+
+returns-8 : tie.Need-returns-8 Inv-loop μ-loop
+returns-8 c = λ o u told none listed.
+    let room = tested (c .before .before .before) in
+    let counted = roomy room in
+    let t = turn (read counted) in
+    wrong-outcomes (of-turn t .pre .0) (kept t o u told none listed) (t .loop-test .taken) (standing (read counted)) (same counted) (within room)
+    (sym (c .before .before .before .before .before .before .names-exist .ensures) ∙ not-false (c .before .before .before .before .before .before .names-exist .result) (c .before .before .before .before .before .if4 .left)) (given (t .before .before) o u told .1) none
+    (first-primitive (c .before .before .before) ∙ c .before .before .if5 .left) (of-turn t .args .methods .now) listed (wrong-if (c .before .outcomes-fit .ensures) (c .if6 .taken))
 
 cast-table : tie.Need-cast-table Inv-loop μ-loop
-cast-table c = omega (arith, c .before .before .before .before .before .before .before .before .before .before .before .before .before .before .loop-test .taken, c .before .before .before .before .before .before .before .before .before .before .before .before .before .before .before .before .before .before .before .before .before .before .pre .1)
+cast-table c = let t = turn (read (roomy (tested (c .before .before .before)))) in omega (arith, t .loop-test .taken, of-turn t .pre .1)
 
 mul-table : tie.Need-mul-table Inv-loop μ-loop
-mul-table c = omega (arith, c .before .before .before .before .before .if3 .left, c .before .before .before .before .before .before .before .before .before .before .before .before .before .before .before .before .before .before .before .before .before .before .pre .0 .room, c .before .before .before .before .before .before .before .before .before .before .before .before .before .before .before .before .before .before .before .before .before .before .good)
+mul-table c =
+    let room = tested (c .before .before .before) in
+    let start = of-turn (turn (read (roomy room))) in
+    omega (arith, room .if3 .left, start .pre .0 .room, start .good)
 
 slice-write-table : tie.Need-slice-write-table Inv-loop μ-loop
-slice-write-table c = omega (arith, c .before .before .before .before .before .if3 .left, c .before .before .before .before .before .before .before .before .before .before .before .before .before .before .before .before .before .before .before .before .before .before .pre .0 .room, c .before .before .before .before .before .before .before .before .before .before .before .before .before .before .before .loop .inv .0)
+slice-write-table c =
+    let room = tested (c .before .before .before) in
+    let t = turn (read (roomy room)) in
+    omega (arith, room .if3 .left, of-turn t .pre .0 .room, t .before .loop .inv .0)
 
 past-requires : tie.Need-past-requires Inv-loop μ-loop
-past-requires c κs = omega (arith, c .before .before .before .before .before .if3 .left, c .before .before .before .before .before .before .count2 .ensures, c .before .before .before .before .before .before .before .before .before .before .before .before .before .before .before .before .before .before .before .before .before .before .pre .0 .room)
+past-requires c κs =
+    let room = tested (c .before .before .before) in
+    let start = of-turn (turn (read (roomy room))) in
+    omega (arith, room .if3 .left, roomy room .count2 .ensures, start .pre .0 .room, start .good)
 
 loop-less : tie.Need-loop-less Inv-loop μ-loop
 loop-less c =
-    let w = standing (c .before .before .before .before .before .before .before .before .before .before .before) in
-    omega (arith, w .next, w .inside, next-lt (c .before .before .before .before .before .before .before .before .before .before .before .before .before .before .before .before .before .before .before .before .before .before .before .args .s .now) (c .before .before .before .before .before .before .before .before .before .before .before .before .before .before .before .before .loop .at))
+    let here = read (roomy (tested (c .before .before .before .before))) in
+    let w = standing here in
+    omega (arith, w .next, w .inside, next-lt (of-turn (turn here) .args .s .now) (turn here .before .loop .at))
 
 loop-again : tie.Need-loop-again Inv-loop μ-loop
-loop-again c = (
-  length-set (c .before .before .before .before .before .before .before .before .before .before .before .before .before .before .before .before .loop .table) (c .before .before .before .before .before .before .before .count2 .result) (c .before .before .before .before .before .before .before .before .before .before .before .before .before .before .before .before .loop .at) ∙ c .before .before .before .before .before .before .before .before .before .before .before .before .before .before .before .before .loop .inv .0,
-  λ o u told none.
-      again (c .before .before .before .before .before .before .before .before .before .before .before .before .before .before .before .before .before .before .before .before .before .before .before .pre .0) (c .before .before .before .before .before .before .before .before .before .before .before .before .before .before .before .before .loop .inv .1 o u told none) (c .before .before .before .before .before .before .before .before .before .before .before .before .before .before .before .loop-test .taken) (standing (c .before .before .before .before .before .before .before .before .before .before .before)) (same (c .before .before .before .before .before .before .before)) (within (c .before .before .before .before .before .before)) (sym (c .before .before .before .before .before .names-exist .ensures) ∙ not-false (c .before .before .before .before .before .names-exist .result) (c .before .before .before .before .if4 .left))
-      (told .1) none (first-primitive (c .before .before) ∙ c .before .if5 .left) (c .before .before .before .before .before .before .before .count2 .ensures) (c .past .ensures),
-)
+loop-again c =
+    let room = tested (c .before .before .before .before) in
+    let counted = roomy room in
+    let t = turn (read counted) in (
+      length-set (t .before .loop .table) (counted .count2 .result) (t .before .loop .at) ∙ t .before .loop .inv .0,
+      λ o u told none listed.
+          again (of-turn t .pre .0) (t .before .loop .inv .1 o u told none listed) (t .loop-test .taken) (standing (read counted)) (same counted) (within room)
+          (sym (c .before .before .before .before .before .before .before .names-exist .ensures) ∙ not-false (c .before .before .before .before .before .before .before .names-exist .result) (c .before .before .before .before .before .before .if4 .left)) (told .1) none
+          (first-primitive (c .before .before .before .before) ∙ c .before .before .before .if5 .left) (of-turn t .args .methods .now) listed (fit-if (c .before .before .outcomes-fit .ensures) (c .before .if6 .left))
+          (counted .count2 .ensures) (c .past .ensures),
+    )
 
-same-length-7 : tie.Need-same-length-7 Inv-loop μ-loop
-same-length-7 c = c .before .loop .inv .0
+same-length-8 : tie.Need-same-length-8 Inv-loop μ-loop
+same-length-8 c = c .before .loop .inv .0
 
-returns-8 : tie.Need-returns-8 Inv-loop μ-loop
-returns-8 c = λ o u told none. no-more (c .before .before .before .before .before .before .before .before .pre .0) (c .before .loop .inv .1 o u (given (c .before .before) o u told) none) (c .loop-test .left)
+returns-9 : tie.Need-returns-9 Inv-loop μ-loop
+returns-9 c = λ o u told none listed. no-more (entry (c .before .before) .pre .0) (c .before .loop .inv .1 o u (given (c .before .before) o u told) none listed) (c .loop-test .left)
 
 pub read-alone-spec : {M : Type 1} → statement M
 read-alone-spec =
@@ -214,11 +290,14 @@ read-alone-spec =
     both-requires
     same-length-6
     returns-7
+    outcomes-fit-requires
+    same-length-7
+    returns-8
     cast-table
     mul-table
     slice-write-table
     past-requires
     loop-less
     loop-again
-    same-length-7
-    returns-8)
+    same-length-8
+    returns-9)
