@@ -6,7 +6,7 @@ use native.Mathlib.Omega.{arith}
 use Rattle.condition.specs.Condition.{Word, Holds}
 use Rattle.sheet.specs.Model.{large}
 use Rattle.sheet.proofs.Each.{each-head, each-tail}
-use Rattle.sheet.specs.Sheet.{condition}
+use Rattle.sheet.specs.Sheet.{normal, condition}
 use Rattle.sheet.specs.Decode.{sheetOf}
 use Rattle.runs.specs.Runs.{return, by-step, run, Safe}
 use Rattle.runs.proofs.Alike.{visits, to-first}
@@ -87,10 +87,10 @@ stands-for = (refl, refl, refl, refl)
 met-in-outermost : (v : Word) → Holds (condition visits 2) v → Holds (condition visits 3) (2 ∷ v)
 unfolding sheet sheetOf run small
 met-in-outermost v h =
-    let ms = to-first ++ (by-step 3 [] ∷ return ∷ []) in
+    let ms = to-first ++ (by-step 3 normal [] ∷ return normal ∷ []) in
     each-head (each-tail (loads large sheet (omega arith) (are-bytes sheet tt) .owing 22 is-accepted ms)) (List·Memᴰ·tail (List·Memᴰ·head refl)) v h
 
 -- And that run, with a step of each kind in the sheet, is safe by the promise.
-safe-in-outermost : Safe (sheetOf large sheet) (run (sheetOf large sheet) 0 (to-first ++ (by-step 3 [] ∷ return ∷ [])))
+safe-in-outermost : Safe (sheetOf large sheet) (run (sheetOf large sheet) 0 (to-first ++ (by-step 3 normal [] ∷ return normal ∷ [])))
 unfolding sheet small
-safe-in-outermost = loads large sheet (omega arith) (are-bytes sheet tt) .sound 22 is-accepted (to-first ++ (by-step 3 [] ∷ return ∷ []))
+safe-in-outermost = loads large sheet (omega arith) (are-bytes sheet tt) .sound 22 is-accepted (to-first ++ (by-step 3 normal [] ∷ return normal ∷ []))

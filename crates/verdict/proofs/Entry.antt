@@ -13,8 +13,8 @@ use Rattle.sheet.specs.Model.{Model, large, entry, NoLarger}
 use Rattle.sheet.proofs.Examples.{entry-no-larger}
 use Rattle.verdict.specs.Verdict.{Report, accepted, refused, unproved, verdictOf}
 use Rattle.verdict.specs.WordTest.{Answer, tested, untested, wordTest}
-use Rattle.verdict.specs.Reply.{replyOf, answerReply}
-use Rattle.verdict.specs.Promise.{LikeLarger, too-long, over-limit, the-same, OnLarger, Loads, TestsWord}
+use Rattle.verdict.specs.Reply.{_giving_, replyOf, answerReply}
+use Rattle.verdict.specs.Promise.{LikeLarger, too-long, over-limit, unknown-kind, the-same, OnLarger, Loads, TestsWord}
 use Rattle.verdict.specs.Cases.{point0, method0, threeStarts, M, M′, W}
 use Rattle.verdict.proofs.Reply.{IsAccepted, same-number, same-value}
 
@@ -84,16 +84,17 @@ words-on-entry = refl
 -- The other way round -------------------------------------------------------------------------------------------------------
 
 -- the larger one accepts a sheet that the smaller one does not: it is not true of two instruments of which the second is the smaller
-not-turned : ((I I′ : Model) → NoLarger I′ I → (s : List ℕ) → OnLarger I (verdictOf I s) (verdictOf I′ s)) → ⊥
+not-turned : ((I I′ : Model) → NoLarger I′ I → (s : List ℕ) → OnLarger I I′ s (verdictOf I s) (verdictOf I′ s)) → ⊥
 not-turned h =
-    let smaller : NoLarger (taking 1) (taking 2) = record { bytes = omega arith; points = omega arith; events = refl; kinds = refl } in
+    let smaller : NoLarger (taking 1) (taking 2) = record { bytes = omega arith; points = omega arith; events = refl; kinds = omega arith } in
     let o = h (taking 2) (taking 1) smaller (withPoints 2) in
     subst IsAccepted (sym (sym many-points ∙ o .accepted-too 6 many-on-larger)) tt
 
-not-like-turned : LikeLarger replyOf large (accepted 6) (refused 6 (some 9)) → ⊥
-not-like-turned (too-long e) = omega (arith, same-number e)
-not-like-turned (over-limit e) = omega (arith, same-number e)
-not-like-turned (the-same e) = omega (arith, same-number (ap replyOf e))
+not-like-turned : (I : Model) (s : List ℕ) → LikeLarger replyOf large I s (accepted 6) (refused 6 (some 9)) → ⊥
+not-like-turned I s (too-long fewer e) = omega (arith, same-number e)
+not-like-turned I s (over-limit fewer e) = omega (arith, same-number e)
+not-like-turned I s (unknown-kind above taken e) = omega (arith, same-number e)
+not-like-turned I s (the-same e) = omega (arith, same-number (ap replyOf e))
 
 -- What the promise says -------------------------------------------------------------------------------------------------------
 
@@ -101,39 +102,76 @@ not-like-turned (the-same e) = omega (arith, same-number (ap replyOf e))
 pub accepted-by-large : {s : List ℕ} {answer : Report} → Loads entry s answer → (n : ℕ) → answer ≡ accepted n → verdictOf large s ≡ accepted n
 accepted-by-large l n h = l .on-larger large entry-no-larger .accepted-too n h
 
+-- what it refuses, for another reason than its bytes and points, the large one refuses: the two take the same kinds
+pub refused-by-large : {s : List ℕ} {answer : Report} → Loads entry s answer → (n : ℕ) (values : List ℕ) → replyOf answer ≡ n giving values
+    → (n ≡ 1 → ⊥) → (n ≡ 6 → ⊥) → replyOf (verdictOf large s) ≡ n giving values
+refused-by-large l n values h not1 not6 = l .on-larger large entry-no-larger .refused-too n values h not1 not6 (λ e. refl)
+
 -- and where it says yes or no of a word, the large one says the same
 pub said-by-large : {s : List ℕ} {c : ℕ} {w : Word} (b : Bool) → TestsWord entry s c w (tested b) → wordTest large s c w ≡ tested b
-said-by-large b t = go (t .on-larger large entry-no-larger)
+said-by-large {s} b t = go (t .on-larger large entry-no-larger)
   where
-    go : {x : Answer} → LikeLarger answerReply entry (tested b) x → x ≡ tested b
-    go (too-long e) = absurd (omega (arith, same-number e))
-    go (over-limit e) = absurd (omega (arith, same-number e))
+    go : {x : Answer} → LikeLarger answerReply entry large s (tested b) x → x ≡ tested b
+    go (too-long fewer e) = absurd (omega (arith, same-number e))
+    go (over-limit fewer e) = absurd (omega (arith, same-number e))
+    go (unknown-kind above taken e) = absurd (omega (arith, same-number e))
     go (the-same e) = sym e
 
--- answers that break it: 1 with the length for its place
-length-for-limit : LikeLarger replyOf entry (refused 1 (some 8193)) (refused 2 (some 0)) → ⊥
-length-for-limit (too-long e) = omega (arith, same-value 0 e)
-length-for-limit (over-limit e) = omega (arith, same-number e)
-length-for-limit (the-same e) = omega (arith, same-number (ap replyOf e))
+-- Answers that break it, of the entry and the large instrument, whatever the sheet ----------------------------------------------
 
--- a refusal that is neither 1 nor 6, where the larger one accepts
-refused-for-accepted : LikeLarger replyOf entry (refused 10 (some 20)) (accepted 6) → ⊥
-refused-for-accepted (too-long e) = omega (arith, same-number e)
-refused-for-accepted (over-limit e) = omega (arith, same-number e)
-refused-for-accepted (the-same e) = omega (arith, same-number (ap replyOf e))
+module _ (s : List ℕ) where
+  -- 1 with the length for its place
+  length-for-limit : LikeLarger replyOf entry large s (refused 1 (some 8193)) (refused 2 (some 0)) → ⊥
+  length-for-limit (too-long fewer e) = omega (arith, same-value 0 e)
+  length-for-limit (over-limit fewer e) = omega (arith, same-number e)
+  length-for-limit (unknown-kind above taken e) = omega (arith, same-number e)
+  length-for-limit (the-same e) = omega (arith, same-number (ap replyOf e))
 
--- accepted with another count
-other-count : OnLarger entry (accepted 5) (accepted 6) → ⊥
-other-count o = omega (arith, same-value 0 (ap replyOf (o .accepted-too 5 refl)))
+  -- a refusal that is neither 1, 2 nor 6, where the larger one accepts
+  refused-for-accepted : LikeLarger replyOf entry large s (refused 10 (some 20)) (accepted 6) → ⊥
+  refused-for-accepted (too-long fewer e) = omega (arith, same-number e)
+  refused-for-accepted (over-limit fewer e) = omega (arith, same-number e)
+  refused-for-accepted (unknown-kind above taken e) = omega (arith, same-number e)
+  refused-for-accepted (the-same e) = omega (arith, same-number (ap replyOf e))
 
--- refused with another number, and with another place
-other-number : OnLarger entry (refused 9 (some 0)) (refused 2 (some 0)) → ⊥
-other-number o = omega (arith, same-number (o .refused-too 9 (0 ∷ []) refl (λ e. omega (arith, e)) (λ e. omega (arith, e))))
+  -- 2 where the two take the same kinds
+  unknown-for-accepted : LikeLarger replyOf entry large s (refused 2 (some 0)) (accepted 6) → ⊥
+  unknown-for-accepted (too-long fewer e) = omega (arith, same-number e)
+  unknown-for-accepted (over-limit fewer e) = omega (arith, same-number e)
+  unknown-for-accepted (unknown-kind above taken e) = omega (arith, above, taken)
+  unknown-for-accepted (the-same e) = omega (arith, same-number (ap replyOf e))
 
-other-place : OnLarger entry (refused 2 (some 0)) (refused 2 (some 7)) → ⊥
-other-place o = omega (arith, same-value 0 (o .refused-too 2 (0 ∷ []) refl (λ e. omega (arith, e)) (λ e. omega (arith, e))))
+  -- 1 and 6 where the two take the same bytes and points: of an instrument beside itself
+  long-beside-itself : LikeLarger replyOf large large s (refused 1 (some 65536)) (accepted 6) → ⊥
+  long-beside-itself (too-long fewer e) = omega (arith, fewer)
+  long-beside-itself (over-limit fewer e) = omega (arith, fewer)
+  long-beside-itself (unknown-kind above taken e) = omega (arith, above, taken)
+  long-beside-itself (the-same e) = omega (arith, same-number (ap replyOf e))
 
--- unproved, where the larger one finds another clause
-other-clause : (r k : ℕ) → OnLarger entry (unproved r k (failing 3)) (unproved r k (failing 4)) → ⊥
-other-clause r k o =
-    omega (arith, same-value 2 (o .refused-too 11 (r ∷ k ∷ 3 ∷ 0 ∷ 0 ∷ 0 ∷ []) refl (λ e. omega (arith, e)) (λ e. omega (arith, e))))
+  many-beside-itself : LikeLarger replyOf large large s (refused 6 (some 9)) (accepted 6) → ⊥
+  many-beside-itself (too-long fewer e) = omega (arith, fewer)
+  many-beside-itself (over-limit fewer e) = omega (arith, fewer)
+  many-beside-itself (unknown-kind above taken e) = omega (arith, above, taken)
+  many-beside-itself (the-same e) = omega (arith, same-number (ap replyOf e))
+
+  -- accepted with another count
+  other-count : OnLarger entry large s (accepted 5) (accepted 6) → ⊥
+  other-count o = omega (arith, same-value 0 (ap replyOf (o .accepted-too 5 refl)))
+
+  -- refused with another number, and with another place
+  other-number : OnLarger entry large s (refused 9 (some 0)) (refused 2 (some 0)) → ⊥
+  other-number o =
+      omega (arith, same-number (o .refused-too 9 (0 ∷ []) refl (λ e. omega (arith, e)) (λ e. omega (arith, e)) (λ e. refl)))
+
+  other-place : OnLarger entry large s (refused 2 (some 0)) (refused 2 (some 7)) → ⊥
+  other-place o =
+      omega (arith, same-value 0 (o .refused-too 2 (0 ∷ []) refl (λ e. omega (arith, e)) (λ e. omega (arith, e)) (λ e. refl)))
+
+  -- unproved, where the larger one finds another clause
+  other-clause : (r k : ℕ) → OnLarger entry large s (unproved r k (failing 3)) (unproved r k (failing 4)) → ⊥
+  other-clause r k o =
+      omega (
+        arith,
+        same-value 2
+            (o .refused-too 11 (r ∷ k ∷ 3 ∷ 0 ∷ 0 ∷ 0 ∷ []) refl (λ e. omega (arith, e)) (λ e. omega (arith, e)) (λ e. refl)),
+      )

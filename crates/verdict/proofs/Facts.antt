@@ -5,6 +5,7 @@ use Rattle.sheet.specs.Decode.{sheetOf}
 use Rattle.sheet.proofs.Standing.{conditions-in-postfix}
 use Rattle.sheet.proofs.Named.{names-exist, events-below}
 use Rattle.sheet.proofs.First.{first-has-body}
+use Rattle.sheet.proofs.Outcomes.{outcomes-fit}
 use Rattle.runs.specs.Rules.{rules}
 use Rattle.runs.proofs.Count.{counted}
 use Rattle.runs.proofs.Moves.{made-by-trace}
@@ -22,8 +23,9 @@ facts M wide s bytes =
       names-exist = names-exist M s;
       events-below = events-below M s;
       first-has-body = first-has-body M s;
+      outcomes-fit = outcomes-fit M s;
       counted = counted (sheetOf M s);
-      made-by-trace = λ u i t w going. made-by-trace (sheetOf M s) u i w going t;
+      made-by-trace = λ u i t o q w going found at primitive to. made-by-trace (sheetOf M s) u i o w going t found at primitive to;
       histories-grow = histories-grow (sheetOf M s) 0;
       exact-exist = exact-exist (M .events) (rules (sheetOf M s));
       owing-when-open = promised-when-open (loads M s wide bytes);

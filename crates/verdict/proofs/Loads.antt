@@ -33,7 +33,7 @@ use Rattle.verdict.specs.Promise.{WellFormed, EachCertified, Passes, Fir
 use Rattle.verdict.proofs.Reply.{IsAccepted, IsUnproved, reply-refused, reply-unproved}
 use Rattle.verdict.proofs.Judged.{Tried, all-pass, one-fails, tried, pass-all, fault-found}
 use Rattle.verdict.proofs.RulesMet.{all-met, all-pass as exact-pass, rules-below}
-use Rattle.verdict.proofs.Models.{on-larger}
+use Rattle.verdict.proofs.Models.{on-larger, judged-as-before}
 
 -- Reports told apart ----------------------------------------------------------------------------------------------------
 
@@ -224,6 +224,7 @@ module _ (M : Model) (s : List ℕ) where
           told-apart = told-apart (sheetOf M s) 0;
           complete = λ w h c. accepted-in w (exact-pass (M .events) c h);
           on-larger = λ M′ N. on-larger M M′ N s;
+          as-before = judged-as-before M s;
         }
 
 pub loads-as-promised : (M : Model) → LoadsAsPromised M

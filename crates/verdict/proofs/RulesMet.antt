@@ -1,4 +1,5 @@
 -- A rule that passes its test is true, and a true rule with an exact certificate passes.
+use mathlib.Core.Bool.{Bool, true, false, cond}
 use mathlib.Core.Option.{Option, none, some}
 use mathlib.Core.List.{List, [], _∷_}
 use Prim.Native.Nat.{ℕ, suc}
@@ -13,10 +14,10 @@ use Rattle.certificate.proofs.Findings.{fine-is, is-fine, unless-out, unless-in
 use Rattle.certificate.proofs.Sound.{sound}
 use Rattle.certificate.proofs.Complete.{complete}
 use Rattle.sheet.specs.Each.{Each, nil, cons}
-use Rattle.sheet.specs.Sheet.{Point, Body, Method, CallStep, Step, event-step, call-step, pass-step, Sheet, condition, conditionNamed, past, own, due, pre, trace, future}
+use Rattle.sheet.specs.Sheet.{Outcome, normal, failed, Point, Declared, Body, Method, CallStep, Step, event-step, call-step, pass-step, Sheet, condition, conditionNamed, past, own, due, declaredIn, pre, trace, future}
 use Rattle.sheet.proofs.Each.{each-head, each-tail, each-append}
 use Rattle.sheet.specs.Names.{EventBelow}
-use Rattle.runs.specs.Rules.{Claim, _isIn_, holdsEmpty, Met, Rule, exitRules, methodRules, returnRules, stepRules, firstsRules, methodsRules, stepsRules, rulesFrom, AllMet}
+use Rattle.runs.specs.Rules.{Claim, _isIn_, holdsEmpty, Met, Rule, _of_says_, isAmong, ifAny, exitRules, failedExitRules, methodRules, returnRules, stepRules, firstsRules, methodsRules, stepsRules, rulesFrom, AllMet}
 use Rattle.verdict.specs.Promise.{EachCertified, done, bare, certified, Passes, ExactFor}
 
 -- the left side of a claim has only events below n
@@ -68,26 +69,40 @@ module _ (n : ℕ) (S : Sheet) (below : (c : ℕ) → EventsBelow n (condition S
   pre-below : (m : ℕ) → EventsBelow n (pre S m)
   pre-below m = named (λ (x : Method). x .pre) (getElem? (S .methods) m)
 
-  trace-below : (m : ℕ) → EventsBelow n (trace S m)
-  trace-below m = named (λ (x : Method). x .trace) (getElem? (S .methods) m)
+  trace-below : (m : ℕ) (o : Outcome) → EventsBelow n (trace S m o)
+  trace-below m o = named (λ (x : Declared). x .trace) (declaredIn o (getElem? (S .methods) m))
 
-  future-below : (m : ℕ) → EventsBelow n (future S m)
-  future-below m = named (λ (x : Method). x .future) (getElem? (S .methods) m)
+  future-below : (m : ℕ) (o : Outcome) → EventsBelow n (future S m o)
+  future-below m o = named (λ (x : Declared). x .future) (declaredIn o (getElem? (S .methods) m))
 
   joined : (a b : Condition) → EventsBelow n a → EventsBelow n b → EventsBelow n (join a b)
   joined a b x y = (x, y)
 
-  exit-below : (n m exit : ℕ) → Below (exitRules S n m exit)
-  exit-below n m exit = cons (own-below exit) (cons (future-below m) nil)
+  if-any : {A : Type 0} (x : Option A) (f : A → List Rule) → ((a : A) → Below (f a)) → Below (ifAny x f)
+  if-any none f h = nil
+  if-any (some a) f h = h a
 
-  method-below : (k : ℕ) (b : Option Body) → Below (methodRules S k b)
-  method-below k none = nil
-  method-below k (some b) = cons (pre-below k) (cons tt (exit-below 5 k (b .exit)))
+  exit-below : (n m : ℕ) (o : Outcome) (exit : ℕ) → Below (exitRules S n m o exit)
+  exit-below n m o exit = cons (own-below exit) (cons (future-below m o) nil)
 
-  return-below : (n i : ℕ) (t : CallStep) (q : ℕ) → Below (returnRules S n i t q)
-  return-below n i t q =
-      let T = trace S (t .method) in
-      let small = trace-below (t .method) in
+  -- 24 is about the empty word
+  if-start : (b : Bool) (m : ℕ) → Below (cond b ((24 of m says holdsEmpty (future S m failed)) ∷ []) [])
+  if-start true m = cons tt nil
+  if-start false m = nil
+
+  failed-exit-below : (starts : List ℕ) (m exit : ℕ) → Below (failedExitRules S starts m exit)
+  failed-exit-below starts m exit = each-append (exit-below 22 m failed exit) (if-start (isAmong starts m) m)
+
+  method-below : (starts : List ℕ) (m : ℕ) (b : Option Body) → Below (methodRules S starts m b)
+  method-below starts m none = nil
+  method-below starts m (some b) =
+      cons (pre-below m) (cons tt
+      (each-append (exit-below 5 m normal (b .exit)) (if-any (b .failed-exit) (failedExitRules S starts m) (failed-exit-below starts m))))
+
+  return-below : (n i : ℕ) (t : CallStep) (o : Outcome) (q : ℕ) → Below (returnRules S n i t o q)
+  return-below n i t o q =
+      let T = trace S (t .method) o in
+      let small = trace-below (t .method) o in
       cons (joined (past S (t .from)) T (past-below (t .from)) small)
       (cons (joined (own S (t .from)) T (own-below (t .from)) small)
       (cons (due-below q)
@@ -98,7 +113,9 @@ module _ (n : ℕ) (S : Sheet) (below : (c : ℕ) → EventsBelow n (condition S
       cons (joined (past S p) (event a) (past-below p) (pow-lt h))
       (cons (joined (own S p) (event a) (own-below p) (pow-lt h))
       (cons (joined (event a) (due S q) (pow-lt h) (due-below q)) nil))
-  step-below k (call-step t) h = cons (past-below (t .from)) (return-below 11 k t (t .to))
+  step-below k (call-step t) h =
+      cons (past-below (t .from))
+      (each-append (return-below 11 k t normal (t .to)) (if-any (t .failed-to) (returnRules S 18 k t failed) (return-below 18 k t failed)))
   step-below k (pass-step p q) h = cons (past-below p) (cons (own-below p) (cons (due-below q) nil))
 
   firsts-below : (ms : List ℕ) → Below (firstsRules S ms)
@@ -106,10 +123,10 @@ module _ (n : ℕ) (S : Sheet) (below : (c : ℕ) → EventsBelow n (condition S
   firsts-below [] = nil
   firsts-below (m ∷ ms) = cons tt (cons tt (firsts-below ms))
 
-  methods-below : (k : ℕ) (ms : List Method) → Below (methodsRules S k ms)
+  methods-below : (starts : List ℕ) (k : ℕ) (ms : List Method) → Below (methodsRules S starts k ms)
   unfolding methodsRules
-  methods-below k [] = nil
-  methods-below k (m ∷ ms) = each-append (method-below k (m .body)) (methods-below (suc k) ms)
+  methods-below starts k [] = nil
+  methods-below starts k (m ∷ ms) = each-append (method-below starts k (m .body)) (methods-below starts (suc k) ms)
 
   steps-below : (k : ℕ) {ts : List Step} → Each (EventBelow n) ts → Below (stepsRules S k ts)
   unfolding stepsRules
@@ -118,4 +135,4 @@ module _ (n : ℕ) (S : Sheet) (below : (c : ℕ) → EventsBelow n (condition S
 
   pub rules-below : (starts : List ℕ) → Each (EventBelow n) (S .steps) → Below (rulesFrom starts S)
   unfolding rulesFrom
-  rules-below starts h = each-append (firsts-below starts) (each-append (methods-below 0 (S .methods)) (steps-below 0 h))
+  rules-below starts h = each-append (firsts-below starts) (each-append (methods-below starts 0 (S .methods)) (steps-below 0 h))

@@ -13,7 +13,7 @@ use Rattle.condition.proofs.Words.{words}
 use Rattle.certificate.specs.Certificate.{Fault, check}
 use Rattle.sheet.specs.Model.{Model, large}
 use Rattle.sheet.specs.Each.{nil}
-use Rattle.sheet.specs.Sheet.{condition}
+use Rattle.sheet.specs.Sheet.{normal, condition}
 use Rattle.sheet.specs.Reading.{ReadResult, whole, refusal, readSheet}
 use Rattle.sheet.specs.Decode.{sheetOf}
 use Rattle.sheet.proofs.Each.{each-head, each-tail}
@@ -128,7 +128,7 @@ one-answer l k = l .stated ∙ sym (k .stated)
 -- empty word
 not-safe : (n : ℕ) → Loads large M′ (accepted n) → ⊥
 unfolding sheetOf run accepts
-not-safe n l = words (leaf 1) [] .1 (each-head (l .sound n refl (return ∷ []) .raised-well))
+not-safe n l = words (leaf 1) [] .1 (each-head (l .sound n refl (return normal ∷ []) .raised-well))
 
 -- and its rule 5 is false
 not-true : (n : ℕ) → Loads large M′ (accepted n) → ⊥
@@ -136,8 +136,8 @@ unfolding sheetOf rules accepts
 not-true n l = words (leaf 1) [] .1 (each-head (each-tail (each-tail (each-tail (each-tail (l .rules-met n refl))))) [] refl)
 
 -- activations are told apart in the runs of a refused sheet too
-told-of-nothing : {answer : Report} → Loads large [] answer → ToldApart (sheetOf large []) 0 (return ∷ [])
-told-of-nothing l = l .told-apart (return ∷ [])
+told-of-nothing : {answer : Report} → Loads large [] answer → ToldApart (sheetOf large []) 0 (return normal ∷ [])
+told-of-nothing l = l .told-apart (return normal ∷ [])
 
 -- The word test ---------------------------------------------------------------------------------------------------------------
 

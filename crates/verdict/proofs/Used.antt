@@ -10,7 +10,7 @@ use Rattle.condition.specs.Condition.{Word, empty, event, Holds}
 use Rattle.condition.specs.Places.{nullable, accepts}
 use Rattle.certificate.specs.Certificate.{Certificate, Exact}
 use Rattle.sheet.specs.Model.{Model, large}
-use Rattle.sheet.specs.Sheet.{CallStep, event-step, call-step, body, trace}
+use Rattle.sheet.specs.Sheet.{Outcome, CallStep, event-step, call-step, body, trace, targetFor}
 use Rattle.sheet.specs.Reading.{Reading, whole, readSheet}
 use Rattle.sheet.specs.Names.{HasBody, EventBelow}
 use Rattle.sheet.specs.Decode.{sheetOf}
@@ -85,11 +85,12 @@ its-events : (I : Model) (s : List ℕ) → Facts I s → (r : Reading) → read
     → List·Memᴰ (event-step p q e) (sheetOf I s .steps) → e < I .events
 its-events I s f r read p q e i = each-member (EventBelow (I .events)) (f .events-below r read) i
 
--- a primitive's step with a word of its trace is made, and with another is not
-module _ (I : Model) (s : List ℕ) (f : Facts I s) (u : State) (i : ℕ) (t : CallStep) (w : Word) (going : u .ended ≡ false)
-    (found : getElem? (sheetOf I s .steps) i ≡ some (call-step t)) (at : u .point ≡ t .from) (primitive : body (sheetOf I s) (t .method) ≡ none) where
-  of-trace : Holds (trace (sheetOf I s) (t .method)) w → move (sheetOf I s) u (by-step i w) ≡ returnedNow (newCall u i t) (raise w (t .to) u)
-  of-trace h = f .made-by-trace u i t w going found at primitive .made h
+-- a primitive's step with a word of its outcome's trace is made, and with another is not
+module _ (I : Model) (s : List ℕ) (f : Facts I s) (u : State) (i : ℕ) (t : CallStep) (o : Outcome) (q : ℕ) (w : Word) (going : u .ended ≡ false)
+    (found : getElem? (sheetOf I s .steps) i ≡ some (call-step t)) (at : u .point ≡ t .from) (primitive : body (sheetOf I s) (t .method) ≡ none)
+    (to : targetFor o t ≡ some q) where
+  of-trace : Holds (trace (sheetOf I s) (t .method) o) w → move (sheetOf I s) u (by-step i o w) ≡ returnedNow (newCall u i t) o (raise w q u)
+  of-trace h = f .made-by-trace u i t o q w going found at primitive to .made h
 
-  not-of-trace : (Holds (trace (sheetOf I s) (t .method)) w → ⊥) → move (sheetOf I s) u (by-step i w) ≡ u
-  not-of-trace n = f .made-by-trace u i t w going found at primitive .not-made n
+  not-of-trace : (Holds (trace (sheetOf I s) (t .method) o) w → ⊥) → move (sheetOf I s) u (by-step i o w) ≡ u
+  not-of-trace n = f .made-by-trace u i t o q w going found at primitive to .not-made n

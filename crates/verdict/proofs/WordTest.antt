@@ -23,7 +23,7 @@ use Rattle.verdict.specs.WordTest.{Answer, tested, untested, unlessStray
 use Rattle.verdict.specs.Reply.{answerReply}
 use Rattle.verdict.specs.Promise.{FindsCondition, FirstStray, WordRefusedFor, sheet-refused, no-such-condition, word-too-long, stray-event, TakesWord, TestsWord, TestsAsPromised}
 use Rattle.verdict.proofs.Reply.{IsTested, reply-untested}
-use Rattle.verdict.proofs.Models.{word-on-larger}
+use Rattle.verdict.proofs.Models.{word-on-larger, tested-as-before}
 
 abbrev saidIn : Answer → Bool
 saidIn (tested b) = b
@@ -175,6 +175,7 @@ module _ (M : Model) (s : List ℕ) (c : ℕ) (w : Word) where
             subst (λ (b : Bool). T b ↔ Holds (condition (sheetOf M s) c) w) (ap saidIn (sym (taken-in (taken-out b h)) ∙ h)) (words (condition (sheetOf M s) c) w);
         refused-iff = λ n at. (λ e. refused-out n at (reply-untested (wordTest M s c w) n at e), λ f. ap answerReply (refused-in f));
         on-larger = λ M′ N. word-on-larger M M′ N s c w;
+        as-before = λ k l. tested-as-before M s k l c w;
       }
 
 pub tests-as-promised : (M : Model) → TestsAsPromised M
