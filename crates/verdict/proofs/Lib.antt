@@ -11,6 +11,9 @@ pub mod WordTest
 pub mod Cases
 pub mod Examples
 pub mod Witnesses
+pub mod Parts
+pub mod Outcomes
+mod Failing
 mod Unqualified
 mod Used
 mod Entry

@@ -4,8 +4,9 @@ use mathlib.Core.Path.{_≡_, refl, sym}
 use mathlib.Core.List.{List, [], _∷_, _++_}
 use Prim.Native.Nat.{ℕ, zero, suc, _<_}
 use native.Mathlib.Omega.{arith}
-use Rattle.condition.specs.Condition.{empty, _⊆_}
-use Rattle.condition.specs.Places.{first, follow, follows}
+use Rattle.condition.specs.Condition.{Condition, empty, _⊆_}
+use Rattle.condition.specs.Places.{leaves}
+use Rattle.condition.proofs.Beside.{follows-leaf}
 use Rattle.certificate.specs.Certificate.{Pair, pair, Certificate, pairOf, Reachable, start, onward, Exact}
 use Rattle.certificate.proofs.Exists.{exact-exists}
 use Rattle.sheet.specs.Model.{Model, large}
@@ -46,35 +47,39 @@ pub record Premises (I : Model) (s : List ℕ) : Type 0 where
   pub true-rules : AllMet (rules (sheetOf I s))
   pub exact : EachCertified (ExactFor (I .events)) (rules (sheetOf I s)) (sheetOf I s .certificates)
 
--- EMPTY has place 0 alone, which nothing follows
-only-start : {p : Pair} → Reachable 32 empty empty p → p ≡ pair 0 1
-unfolding first follow follows
-only-start start = refl
-only-start (onward {l = zero} e q r h n t) = absurd n
-only-start (onward {l = suc l} e q r h n t) = absurd n
+-- a condition without leaves has place 0 alone
+only-start : (a b : Condition) → leaves a ≡ 0 → {p : Pair} → Reachable 32 a b p → p ≡ pair 0 1
+only-start a b no-leaf start = refl
+only-start a b no-leaf (onward {l} e q r h n t) = let (above, below) = follows-leaf a l q n in absurd (omega (arith, above, below, no-leaf))
 
-in-itself : empty ⊆ empty
+pub in-itself : empty ⊆ empty
 in-itself w h = h
 
-start-is-exact : Exact 32 empty empty (pair 0 1 ∷ [])
-start-is-exact =
+-- so the start alone is exact for it
+pub start-is-exact : (a b : Condition) → leaves a ≡ 0 → Exact 32 a b (pair 0 1 ∷ [])
+start-is-exact a b no-leaf =
     record {
       start-first = tt;
       only-reachable = reached;
-      all-reachable = λ p r. (0, omega arith, sym (only-start r));
+      all-reachable = λ p r. (0, omega arith, sym (only-start a b no-leaf r));
     }
   where
-    reached : (i : ℕ) → i < 1 → Reachable 32 empty empty (pairOf (pair 0 1 ∷ []) i)
+    reached : (i : ℕ) → i < 1 → Reachable 32 a b (pairOf (pair 0 1 ∷ []) i)
     reached zero l = start
     reached (suc i) l = absurd (omega arith)
 
+pub empty-is-exact : Exact 32 empty empty (pair 0 1 ∷ [])
+unfolding leaves
+empty-is-exact = start-is-exact empty empty refl
+
 -- a certificate that repeats a pair is exact too
 pub twice-is-exact : Exact 32 empty empty (pair 0 1 ∷ pair 0 1 ∷ [])
+unfolding leaves
 twice-is-exact =
     record {
       start-first = tt;
       only-reachable = reached;
-      all-reachable = λ p r. (0, omega arith, sym (only-start r));
+      all-reachable = λ p r. (0, omega arith, sym (only-start empty empty refl r));
     }
   where
     reached : (i : ℕ) → i < 2 → Reachable 32 empty empty (pairOf (pair 0 1 ∷ pair 0 1 ∷ []) i)
@@ -88,7 +93,7 @@ M-premises =
     record {
       well-formed = record { reading = _; read = refl; enough = refl };
       true-rules = cons refl (cons refl (cons in-itself (cons refl (cons in-itself (cons in-itself nil)))));
-      exact = bare tt (bare tt (certified start-is-exact (bare tt (certified start-is-exact (certified start-is-exact done)))));
+      exact = bare tt (bare tt (certified empty-is-exact (bare tt (certified empty-is-exact (certified empty-is-exact done)))));
     }
 
 -- and M with a pass from its point to itself
@@ -104,8 +109,8 @@ with-pass-premises =
           cons refl (cons refl (cons in-itself (cons refl (cons in-itself (cons in-itself
           (cons in-itself (cons in-itself (cons in-itself nil))))))));
       exact =
-          bare tt (bare tt (certified start-is-exact (bare tt (certified start-is-exact (certified start-is-exact
-          (certified start-is-exact (certified start-is-exact (certified start-is-exact done))))))));
+          bare tt (bare tt (certified empty-is-exact (bare tt (certified empty-is-exact (certified empty-is-exact
+          (certified empty-is-exact (certified empty-is-exact (certified empty-is-exact done))))))));
     }
 
 pub promised-with-pass : {answer : Report} → Loads large withPass answer → answer ≡ accepted 9
