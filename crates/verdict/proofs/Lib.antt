@@ -14,6 +14,7 @@ pub mod Witnesses
 pub mod Parts
 pub mod Outcomes
 mod Failing
+mod Before
 mod Unqualified
 mod Used
 mod Entry

@@ -1,5 +1,5 @@
 -- The facts of the definitions, used: what each of them alone says of document 01's sheet M, or of every sheet.
-use mathlib.Core.Path.{_≡_, refl}
+use mathlib.Core.Path.{_≡_, refl, subst}
 use mathlib.Core.Bool.{false}
 use mathlib.Core.Option.{none, some}
 use mathlib.Core.List.{List, [], _∷_, List·Memᴰ}
@@ -10,9 +10,9 @@ use Rattle.condition.specs.Condition.{Word, empty, event, Holds}
 use Rattle.condition.specs.Places.{nullable, accepts}
 use Rattle.certificate.specs.Certificate.{Certificate, Exact}
 use Rattle.sheet.specs.Model.{Model, large}
-use Rattle.sheet.specs.Sheet.{Outcome, CallStep, event-step, call-step, body, trace, targetFor}
+use Rattle.sheet.specs.Sheet.{Outcome, failed, Body, Method, CallStep, event-step, call-step, declaredIn, body, trace, targetFor}
 use Rattle.sheet.specs.Reading.{Reading, whole, readSheet}
-use Rattle.sheet.specs.Names.{HasBody, EventBelow}
+use Rattle.sheet.specs.Names.{HasBody, isSome, ExitsFit, TargetsFit, EventBelow}
 use Rattle.sheet.specs.Decode.{sheetOf}
 use Rattle.sheet.specs.AtOffset.{empty-symbol, symbolsAt, postfix}
 use Rattle.sheet.proofs.Each.{each-head, each-member}
@@ -84,6 +84,16 @@ module _ (f : Facts large M) where
 its-events : (I : Model) (s : List ℕ) → Facts I s → (r : Reading) → readSheet I s ≡ whole r → (p q e : ℕ)
     → List·Memᴰ (event-step p q e) (sheetOf I s .steps) → e < I .events
 its-events I s f r read p q e i = each-member (EventBelow (I .events)) (f .events-below r read) i
+
+-- a call in such a sheet has a failed target exactly if its method has two outcomes, and a method with body a failed exit exactly if it has two
+its-targets : (I : Model) (s : List ℕ) → Facts I s → (r : Reading) → readSheet I s ≡ whole r → (t : CallStep)
+    → List·Memᴰ (call-step t) (sheetOf I s .steps) → isSome (t .failed-to) ≡ isSome (declaredIn failed (getElem? (sheetOf I s .methods) (t .method)))
+its-targets I s f r read t i = each-member (TargetsFit (sheetOf I s)) (f .outcomes-fit r read .targets-fit) i
+
+its-exits : (I : Model) (s : List ℕ) → Facts I s → (r : Reading) → readSheet I s ≡ whole r → (x : Method)
+    → List·Memᴰ x (sheetOf I s .methods) → (b : Body) → x .body ≡ some b → isSome (b .failed-exit) ≡ isSome (x .failing)
+its-exits I s f r read x i b e =
+    subst (ExitsFit (x .failing)) e (each-member (λ (x : Method). ExitsFit (x .failing) (x .body)) (f .outcomes-fit r read .exits-fit) i)
 
 -- a primitive's step with a word of its outcome's trace is made, and with another is not
 module _ (I : Model) (s : List ℕ) (f : Facts I s) (u : State) (i : ℕ) (t : CallStep) (o : Outcome) (q : ℕ) (w : Word) (going : u .ended ≡ false)

@@ -1,0 +1,182 @@
+-- "judged as before": document 01's kinds, 1 to 14, and those of Ask 2, 15 to 17. Sheets and words by evaluation, with each of the two cases; what the
+-- promise alone says of a sheet; and answers that break it.
+use mathlib.Core.Path.{_≡_, refl, sym, ap, _∙_, subst}
+use mathlib.Core.Bool.{Bool, true, false}
+use mathlib.Core.Option.{some}
+use mathlib.Core.List.{List, [], _∷_, _++_, map}
+use Prim.Native.Nat.{ℕ, _≤_, _<_}
+use native.Mathlib.Omega.{arith}
+use lib.ListN.{take}
+use Rattle.condition.specs.Condition.{Word}
+use Rattle.certificate.specs.Certificate.{Fault}
+use Rattle.sheet.specs.Model.{Model, large, entry, NoLarger, withKinds}
+use Rattle.sheet.specs.Record.{byteAt}
+use Rattle.sheet.specs.Reading.{ReadResult, whole, refusal, readSheet}
+use Rattle.verdict.specs.Verdict.{Report, accepted, refused, unproved, verdictOf}
+use Rattle.verdict.specs.WordTest.{Answer, tested, untested, wordTest}
+use Rattle.verdict.specs.Reply.{Reply, _giving_, replyOf, answerReply}
+use Rattle.verdict.specs.Promise.{RefusedFor, while-reading, wrong-count, AsBefore, of-new-kind, the-same-answer, Loads, TestsWord}
+use Rattle.verdict.specs.Cases.{M, M′, W}
+use Rattle.verdict.proofs.Parts.{ones}
+use Rattle.verdict.proofs.Reply.{orZero, same-number, same-value}
+use Rattle.verdict.proofs.Models.{fewer-kinds}
+use Rattle.verdict.proofs.Outcomes.{allEmpty, withPrimitive, method16}
+
+-- By evaluation -------------------------------------------------------------------------------------------------------------
+
+-- an instrument before Ask 2
+abbrev former : Model → Model
+former I = withKinds 14 I
+
+-- a sheet, and what the large instrument answered and answers
+record Both : Type 0 where
+  bytes : List ℕ
+  before : Report
+  since : Report
+
+abbrev both : List ℕ → Report → Report → Both
+both s x y = record { bytes = s; before = x; since = y }
+
+abbrev failing : ℕ → Fault
+failing clause = record { clause = clause; pair = 0; event = 0; place = 0 }
+
+abbrev sheets : List Both
+sheets =
+    -- "The sheet 0F now gives `refused 3 at 0`"; the first kind that is still unknown
+    both (0x0F ∷ []) (refused 2 (some 0)) (refused 3 (some 0))
+    ∷ both (0x12 ∷ []) (refused 2 (some 0)) (refused 2 (some 0))
+    -- a record of a kind of Ask 2 further on
+    ∷ both (allEmpty method16 (ones 5)) (refused 2 (some 9)) (accepted 9)
+    ∷ both (allEmpty withPrimitive (ones 12)) (refused 2 (some 20)) (accepted 15)
+    -- document 01's sheets
+    ∷ both [] (refused 9 (some 0)) (refused 9 (some 0))
+    ∷ both M (accepted 6) (accepted 6)
+    ∷ both (take 40 M) (refused 8 (some 40)) (refused 8 (some 40))
+    ∷ both (take 20 M) (refused 10 (some 20)) (refused 10 (some 20))
+    ∷ both M′ (unproved 5 0 (failing 3)) (unproved 5 0 (failing 3))
+    ∷ []
+
+as-before : map (λ x. verdictOf (former large) (x .bytes)) sheets ≡ map (λ x. x .before) sheets
+unfolding verdictOf
+as-before = refl
+
+as-since : map (λ x. verdictOf large (x .bytes)) sheets ≡ map (λ x. x .since) sheets
+unfolding verdictOf
+as-since = refl
+
+-- each of the two cases is met
+at-new-kind : AsBefore replyOf 14 large (0x0F ∷ []) (verdictOf (former large) (0x0F ∷ [])) (verdictOf large (0x0F ∷ []))
+unfolding verdictOf byteAt
+at-new-kind = of-new-kind {at = 0} (omega arith) (omega arith) refl
+
+without-new-kinds : AsBefore replyOf 14 large M (verdictOf (former large) M) (verdictOf large M)
+unfolding verdictOf
+without-new-kinds = the-same-answer refl
+
+-- What the promise says -------------------------------------------------------------------------------------------------------
+
+-- "judged as before": where the instrument that took the kinds up to k gave no 2 at a record of a kind above k, this is its answer
+module _ {A : Type 0} (reply : A → Reply) (k : ℕ) (I : Model) (s : List ℕ) {before since : A} where
+  pub as-then : AsBefore reply k I s before since → ((at : ℕ) → reply before ≡ 2 giving (at ∷ []) → byteAt s at ≤ k) → before ≡ since
+  as-then (of-new-kind {at} above taken e) known = absurd (omega (arith, above, known at e))
+  as-then (the-same-answer e) known = e
+
+  -- as where its answer has another number
+  pub as-other : AsBefore reply k I s before since → (orZero (reply before .number) ≡ 2 → ⊥) → before ≡ since
+  as-other h other = as-then h (λ at e. absurd (other (same-number e)))
+
+-- whatever keeps the promise gives document 01's sheets the answers that they had, by this part of it alone
+keeps-nothing : {answer : Report} → Loads large [] answer → refused 9 (some 0) ≡ answer
+unfolding verdictOf
+keeps-nothing l = as-other replyOf 14 large [] (l .as-before 14 (omega arith)) (λ e. omega (arith, e))
+
+keeps-M : {answer : Report} → Loads large M answer → accepted 6 ≡ answer
+unfolding verdictOf
+keeps-M l = as-other replyOf 14 large M (l .as-before 14 (omega arith)) (λ e. omega (arith, e))
+
+keeps-M′ : {answer : Report} → Loads large M′ answer → unproved 5 0 (failing 3) ≡ answer
+unfolding verdictOf
+keeps-M′ l = as-other replyOf 14 large M′ (l .as-before 14 (omega arith)) (λ e. omega (arith, e))
+
+keeps-on-entry : {answer : Report} → Loads entry M answer → accepted 6 ≡ answer
+unfolding verdictOf
+keeps-on-entry l = as-other replyOf 14 entry M (l .as-before 14 (omega arith)) (λ e. omega (arith, e))
+
+-- 2 at a record of kind 0 was given before, and is
+keeps-kind-0 : {answer : Report} → Loads large (0 ∷ []) answer → refused 2 (some 0) ≡ answer
+unfolding verdictOf byteAt
+keeps-kind-0 l =
+    as-then replyOf 14 large (0 ∷ []) (l .as-before 14 (omega arith))
+    (λ at e. let here : byteAt (0 ∷ []) at ≡ 0 = ap (byteAt (0 ∷ [])) (sym (same-value 0 e)) in omega (arith, here))
+
+keeps-word : {answer : Answer} → TestsWord large W 0 [] answer → tested true ≡ answer
+unfolding wordTest
+keeps-word t = as-other answerReply 14 large W (t .as-before 14 (omega arith)) (λ e. omega (arith, e))
+
+-- Answers that break it -----------------------------------------------------------------------------------------------------------
+
+-- a loader that answers 2 to a sheet without the kinds of Ask 2, one that counts its rules otherwise, and one that accepts what was unproved
+unknown-to-M : Loads large M (refused 2 (some 0)) → ⊥
+unknown-to-M l = omega (arith, same-number (ap replyOf (keeps-M l)))
+
+other-count : Loads large M (accepted 7) → ⊥
+other-count l = omega (arith, same-value 0 (ap replyOf (keeps-M l)))
+
+accepts-M′ : (n : ℕ) → Loads large M′ (accepted n) → ⊥
+accepts-M′ n l = omega (arith, same-number (ap replyOf (keeps-M′ l)))
+
+-- a word test that does not know the sheet, and one that says no
+unknown-to-W : TestsWord large W 0 [] (untested 2 (some 0)) → ⊥
+unknown-to-W t = omega (arith, same-number (ap answerReply (keeps-word t)))
+
+abbrev saidIn : Answer → ℕ
+saidIn (tested true) = 1
+saidIn (tested false) = 0
+saidIn (untested n at) = 0
+
+no-for-yes : TestsWord large W 0 [] (tested false) → ⊥
+no-for-yes t = omega (arith, ap saidIn (keeps-word t))
+
+-- a loader that answers 0F as before: not by this part of the promise, but by its refusals
+abbrev numberIn : ReadResult → ℕ
+numberIn (whole r) = 0
+numberIn (refusal n at r) = n
+
+former-answer : Loads large (0x0F ∷ []) (refused 2 (some 0)) → ⊥
+unfolding readSheet
+former-answer l = go (l .refused-iff 2 0 .0 refl) refl
+  where
+    go : {n at : ℕ} → RefusedFor large (0x0F ∷ []) n at → n ≡ 2 → ⊥
+    go (while-reading e) z = omega (arith, ap numberIn e, z)
+    go (wrong-count read others) z = omega (arith, z)
+
+-- Two answers that are not as before ------------------------------------------------------------------------------------------------
+
+-- the record of a sheet of one byte at which 2 is given
+only-byte : (kind : ℕ) {at : ℕ} → replyOf (refused 2 (some 0)) ≡ 2 giving (at ∷ []) → byteAt (kind ∷ []) at ≡ kind
+unfolding byteAt
+only-byte kind e = ap (byteAt (kind ∷ [])) (sym (same-value 0 e))
+
+-- 2 at a record of document 01's last kind, and of a kind that is still unknown
+at-former-kind : AsBefore replyOf 14 large (14 ∷ []) (refused 2 (some 0)) (accepted 6) → ⊥
+at-former-kind (of-new-kind above taken e) = omega (arith, above, only-byte 14 e)
+at-former-kind (the-same-answer e) = omega (arith, same-number (ap replyOf e))
+
+at-unknown-kind : AsBefore replyOf 14 large (18 ∷ []) (refused 2 (some 0)) (accepted 6) → ⊥
+at-unknown-kind (of-new-kind above taken e) = omega (arith, taken, only-byte 18 e)
+at-unknown-kind (the-same-answer e) = omega (arith, same-number (ap replyOf e))
+
+-- another refusal than 2, at a record of a kind of Ask 2
+other-refusal : AsBefore replyOf 14 large (15 ∷ []) (refused 3 (some 0)) (accepted 6) → ⊥
+other-refusal (of-new-kind above taken e) = omega (arith, same-number e)
+other-refusal (the-same-answer e) = omega (arith, same-number (ap replyOf e))
+
+-- Request 8 -------------------------------------------------------------------------------------------------------------------------
+
+-- a refusal with 2 is not the larger one's too, where that one takes more kinds
+not-with-more-kinds : ((I I′ : Model) → NoLarger I I′ → (s : List ℕ) (n : ℕ) (values : List ℕ) → replyOf (verdictOf I s) ≡ n giving values
+    → (n ≡ 1 → ⊥) → (n ≡ 6 → ⊥) → replyOf (verdictOf I′ s) ≡ n giving values) → ⊥
+unfolding verdictOf
+not-with-more-kinds h =
+    let same = h (former large) large (fewer-kinds 14 large (omega arith)) (0x0F ∷ []) 2 (0 ∷ []) refl (λ e. omega (arith, e)) (λ e. omega (arith, e)) in
+    omega (arith, same-number same)
