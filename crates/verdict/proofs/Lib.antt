@@ -15,6 +15,7 @@ pub mod Parts
 pub mod Outcomes
 mod Failing
 mod Before
+mod Former
 mod Unqualified
 mod Used
 mod Entry

@@ -1,0 +1,139 @@
+-- What an instrument that takes document 01's kinds alone judges by: the sheets that it reads have no second outcome, so their rules are document 01's
+-- seventeen, and the count is its formula.
+use mathlib.Core.Path.{_≡_, refl, sym, subst}
+use mathlib.Core.Bool.{Bool, true, false, cond}
+use mathlib.Core.Option.{Option, none, some}
+use mathlib.Core.List.{List, [], _∷_}
+use Prim.Native.Nat.{ℕ, suc, _+_, _*_, _≤_, _<_}
+use native.Mathlib.Omega.{arith}
+use lib.Dec.{T, eqb, ltb, leb}
+use borrow.Author.Tests.{leb-true, ltb-false, ne-eqb}
+use Rattle.sheet.specs.Model.{Model}
+use Rattle.sheet.specs.Each.{Each, nil, cons}
+use Rattle.sheet.specs.Sheet.{Body, Method, Step, event-step, callFrom, failingCallFrom, call-step, pass-step, Sheet}
+use Rattle.sheet.specs.Record.{Record, byteAt, recordAt, value}
+use Rattle.sheet.specs.Reading.{Counted, Reading, isPrimitive, hasTwoOutcomes, whole, readSheet}
+use Rattle.sheet.specs.Decode.{methodOf, stepOf, sheetOf}
+use Rattle.sheet.proofs.Each.{each-map, each-append, each-mapped}
+use Rattle.sheet.proofs.Take.{or-false, Took}
+use Rattle.sheet.proofs.Own.{each-own}
+use Rattle.sheet.proofs.SheetOf.{sheet-is}
+use Rattle.runs.specs.Rules.{Rule, ifAny, firstsRules, methodRules, methodsRules, stepRules, stepsRules, rules, howMany, bodyCount, eventCount, callCount, passCount, failedExits, failedExitCount, failedCallCount, isAmong, failedExitRules, total, failingStarts, count}
+
+-- no method has a failed exit, and no call a failed target
+pub record OneOutcome (S : Sheet) : Type 0 where
+  pub exits : Each (λ (x : Method). failedExitCount x ≡ 0) (S .methods)
+  pub targets : Each (λ (t : Step). failedCallCount t ≡ 0) (S .steps)
+
+-- Of what is read ---------------------------------------------------------------------------------------------------------------
+
+-- kinds below 15
+module _ (x : Record) (former : x .kind < 15) where
+  not-two : hasTwoOutcomes x ≡ false
+  not-two = simp (ne-eqb (x .kind) 15 (λ e. omega (arith, e, former)), ne-eqb (x .kind) 16 (λ e. omega (arith, e, former)))
+
+  no-failed-exit : failedExitCount (methodOf x) ≡ 0
+  no-failed-exit = go (isPrimitive x) (hasTwoOutcomes x) not-two
+    where
+      go : (primitive two : Bool) → two ≡ false
+          → failedExits (cond primitive none (some (record { entry = value x 3; exit = value x 4; failed-exit = cond two (some (value x 7)) none }))) ≡ 0
+      go true two e = refl
+      go false true e = absurd (subst T e tt)
+      go false false e = refl
+
+  no-failed-target : failedCallCount (stepOf x) ≡ 0
+  no-failed-target = go (eqb (x .kind) 10) (eqb (x .kind) 11) (eqb (x .kind) 17) (ne-eqb (x .kind) 17 (λ e. omega (arith, e, former)))
+    where
+      go : (b10 b11 b17 : Bool) → b17 ≡ false
+          → failedCallCount
+          (cond b10 (event-step (value x 0) (value x 1) (value x 2))
+          (cond b11 (callFrom (value x 0) (value x 1) (value x 2))
+          (cond b17 (failingCallFrom (value x 0) (value x 1) (value x 2) (value x 3)) (pass-step (value x 0) (value x 1))))) ≡ 0
+      go true b11 b17 e = refl
+      go false true b17 e = refl
+      go false false true e = absurd (subst T e tt)
+      go false false false e = refl
+
+module _ (M : Model) (s : List ℕ) (r : Reading) (read : readSheet M s ≡ whole r) (former : M .kinds < 15) where
+  known : (k : ℕ) → Each (λ (c : Counted). c .last .kind < 15) (r .own k)
+  unfolding recordAt
+  known =
+      each-own M s (λ at r. Unit {0}) (λ k c. c .last .kind < 15) (λ at r w q. tt)
+      (λ at r w q e.
+      let (not0, within) = or-false (eqb (byteAt s at) 0) (ltb (M .kinds) (byteAt s at)) (w .known) in
+      omega (arith, former, ltb-false (M .kinds) (byteAt s at) within))
+      r read tt
+
+  pub one-outcome : OneOutcome (sheetOf M s)
+  one-outcome =
+      subst OneOutcome (sym (sheet-is M s r read))
+      (record {
+        exits = each-mapped (λ (x : Method). failedExitCount x ≡ 0) (λ (c : Counted). methodOf (c .last)) (each-map (λ (c : Counted). no-failed-exit (c .last)) (known 3));
+        targets = each-mapped (λ (t : Step). failedCallCount t ≡ 0) (λ (c : Counted). stepOf (c .last)) (each-map (λ (c : Counted). no-failed-target (c .last)) (known 4));
+      })
+
+-- Their count ---------------------------------------------------------------------------------------------------------------------
+
+no-total : {A : Type 0} (f : A → ℕ) {xs : List A} → Each (λ (x : A). f x ≡ 0) xs → total f xs ≡ 0
+unfolding total
+no-total f nil = refl
+no-total f (cons h t) = omega (arith, h, no-total f t)
+
+no-starts : (starts : List ℕ) (k : ℕ) {ms : List Method} → Each (λ (x : Method). failedExitCount x ≡ 0) ms → failingStarts starts k ms ≡ 0
+unfolding failingStarts
+no-starts starts k nil = refl
+no-starts starts k (cons {x = x} h t) = omega (arith, either-way (isAmong starts k), no-starts starts (suc k) t)
+  where
+    either-way : (b : Bool) → cond b (failedExitCount x) 0 ≡ 0
+    either-way true = h
+    either-way false = refl
+
+-- "2 + 4b + 3e + 5c + 3p for b methods with body, e event, c call and p pass steps"
+pub former-count : (S : Sheet) → OneOutcome S
+    → count S ≡ 2 + 4 * total bodyCount (S .methods) + 3 * total eventCount (S .steps) + 5 * total callCount (S .steps) + 3 * total passCount (S .steps)
+unfolding count
+former-count S one =
+    omega (arith, no-total failedExitCount (one .exits), no-starts (0 ∷ []) 0 (one .exits), no-total failedCallCount (one .targets))
+
+-- Their rules ---------------------------------------------------------------------------------------------------------------------
+
+-- document 01's
+abbrev Former : List Rule → Type 0
+Former = Each (λ (x : Rule). leb (x .number) 17 ≡ true)
+
+none-there : {A : Type 0} (x : Option A) (f : A → List Rule) → howMany x ≡ 0 → Former (ifAny x f)
+none-there none f e = nil
+none-there (some a) f e = absurd (omega (arith, e))
+
+module _ (S : Sheet) where
+  of-method : (starts : List ℕ) (m : ℕ) (b : Option Body) → failedExits b ≡ 0 → Former (methodRules S starts m b)
+  of-method starts m none e = nil
+  of-method starts m (some b) e =
+      cons refl (cons refl (cons refl (cons refl (none-there (b .failed-exit) (failedExitRules S starts m) e))))
+
+  of-step : (i : ℕ) (t : Step) → failedCallCount t ≡ 0 → Former (stepRules S i t)
+  of-step i (event-step p q a) e = cons refl (cons refl (cons refl nil))
+  of-step i (call-step t) e =
+      cons refl (cons refl (cons refl (cons refl (cons refl (none-there (t .failed-to) _ e)))))
+  of-step i (pass-step p q) e = cons refl (cons refl (cons refl nil))
+
+  of-firsts : (ms : List ℕ) → Former (firstsRules S ms)
+  unfolding firstsRules
+  of-firsts [] = nil
+  of-firsts (m ∷ ms) = cons refl (cons refl (of-firsts ms))
+
+  of-methods : (starts : List ℕ) (k : ℕ) {ms : List Method} → Each (λ (x : Method). failedExitCount x ≡ 0) ms → Former (methodsRules S starts k ms)
+  unfolding methodsRules
+  of-methods starts k nil = nil
+  of-methods starts k (cons {x = m} h t) = each-append (of-method starts k (m .body) h) (of-methods starts (suc k) t)
+
+  of-steps : (k : ℕ) {ts : List Step} → Each (λ (t : Step). failedCallCount t ≡ 0) ts → Former (stepsRules S k ts)
+  unfolding stepsRules
+  of-steps k nil = nil
+  of-steps k (cons {x = t} h r) = each-append (of-step k t h) (of-steps (suc k) r)
+
+  pub former-rules : OneOutcome S → Each (λ (x : Rule). x .number ≤ 17) (rules S)
+  unfolding rules
+  former-rules one =
+      each-map (λ (x : Rule). leb-true (x .number) 17)
+      (each-append (of-firsts (0 ∷ [])) (each-append (of-methods (0 ∷ []) 0 (one .exits)) (of-steps 0 (one .targets))))
