@@ -1,23 +1,28 @@
 -- What an instrument that takes document 01's kinds alone judges by: the sheets that it reads have no second outcome, so their rules are document 01's
 -- seventeen, and the count is its formula.
-use mathlib.Core.Path.{_≡_, refl, sym, subst}
+use mathlib.Core.Path.{_≡_, refl, sym, ap, _∙_, subst}
 use mathlib.Core.Bool.{Bool, true, false, cond}
+use mathlib.Core.Logic.{_⊎_, inl, inr}
 use mathlib.Core.Option.{Option, none, some}
 use mathlib.Core.List.{List, [], _∷_}
 use Prim.Native.Nat.{ℕ, suc, _+_, _*_, _≤_, _<_}
 use native.Mathlib.Omega.{arith}
+use lib.ListN.{getElem?}
 use lib.Dec.{T, eqb, ltb, leb}
 use borrow.Author.Tests.{leb-true, ltb-false, ne-eqb}
+use Rattle.condition.specs.Condition.{Word}
 use Rattle.sheet.specs.Model.{Model}
 use Rattle.sheet.specs.Each.{Each, nil, cons}
-use Rattle.sheet.specs.Sheet.{Body, Method, Step, event-step, callFrom, failingCallFrom, call-step, pass-step, Sheet}
+use Rattle.sheet.specs.Sheet.{Outcome, normal, failed, Body, Method, CallStep, Step, event-step, callFrom, failingCallFrom, call-step, pass-step, Sheet, bodyIn, body, exitIn, targetFor}
 use Rattle.sheet.specs.Record.{Record, byteAt, recordAt, value}
 use Rattle.sheet.specs.Reading.{Counted, Reading, isPrimitive, hasTwoOutcomes, whole, readSheet}
 use Rattle.sheet.specs.Decode.{methodOf, stepOf, sheetOf}
-use Rattle.sheet.proofs.Each.{each-map, each-append, each-mapped}
+use Rattle.sheet.proofs.Each.{each-map, each-append, each-mapped, each-get}
 use Rattle.sheet.proofs.Take.{or-false, Took}
 use Rattle.sheet.proofs.Own.{each-own}
 use Rattle.sheet.proofs.SheetOf.{sheet-is}
+use Rattle.runs.specs.Runs.{Call, State, return, by-step, newCall, openCall, makeCall, tryStep, tryReturn, move}
+use Rattle.runs.proofs.Moves.{step-without-target, return-without-exit}
 use Rattle.runs.specs.Rules.{Rule, ifAny, firstsRules, methodRules, methodsRules, stepRules, stepsRules, rules, howMany, bodyCount, eventCount, callCount, passCount, failedExits, failedExitCount, failedCallCount, isAmong, failedExitRules, total, failingStarts, count}
 
 -- no method has a failed exit, and no call a failed target
@@ -71,6 +76,11 @@ module _ (M : Model) (s : List ℕ) (r : Reading) (read : readSheet M s ≡ whol
         exits = each-mapped (λ (x : Method). failedExitCount x ≡ 0) (λ (c : Counted). methodOf (c .last)) (each-map (λ (c : Counted). no-failed-exit (c .last)) (known 3));
         targets = each-mapped (λ (t : Step). failedCallCount t ≡ 0) (λ (c : Counted). stepOf (c .last)) (each-map (λ (c : Counted). no-failed-target (c .last)) (known 4));
       })
+
+-- what is not there
+nothing : {A : Type 0} (x : Option A) → howMany x ≡ 0 → x ≡ none
+nothing none e = refl
+nothing (some a) e = absurd (omega (arith, e))
 
 -- Their count ---------------------------------------------------------------------------------------------------------------------
 
@@ -137,3 +147,63 @@ module _ (S : Sheet) where
   former-rules one =
       each-map (λ (x : Rule). leb-true (x .number) 17)
       (each-append (of-firsts (0 ∷ [])) (each-append (of-methods (0 ∷ []) 0 (one .exits)) (of-steps 0 (one .targets))))
+
+-- Their runs: a failing move changes nothing, or its outcome is not read -----------------------------------------------------------
+
+no-exit : (b : Option Body) → failedExits b ≡ 0 → exitIn failed b ≡ none
+no-exit none e = refl
+no-exit (some b) e = nothing (b .failed-exit) e
+
+-- of the step with a number, if there is one
+abbrev NoTarget : Option Step → Type 0
+NoTarget none = Unit {0}
+NoTarget (some t) = failedCallCount t ≡ 0
+
+module _ (S : Sheet) (one : OneOutcome S) (s : State) where
+  either-way : (b : Bool) → cond b s s ≡ s
+  either-way true = refl
+  either-way false = refl
+
+  no-exit-of : (m : ℕ) → exitIn failed (body S m) ≡ none
+  no-exit-of = each-get (λ (x : Option Method). exitIn failed (bodyIn x) ≡ none) refl (each-map (λ (x : Method). no-exit (x .body)) (one .exits))
+
+  pub failing-return : move S s (return failed) ≡ s
+  unfolding move
+  failing-return = go (s .open-calls) refl
+    where
+      go : (cs : List Call) → s .open-calls ≡ cs → move S s (return failed) ≡ s
+      go [] e = ap (λ (cs : List Call). cond (s .ended) s (tryReturn S s failed cs)) e ∙ either-way (s .ended)
+      go (c ∷ cs) e = return-without-exit S s failed c cs e (no-exit-of (c .method))
+
+  module _ (i : ℕ) (w : Word) where
+    abbrev AsNormal : Type 0
+    AsNormal = (move S s (by-step i failed w) ≡ s) ⊎ (move S s (by-step i failed w) ≡ move S s (by-step i normal w))
+
+    -- the move with an outcome, by the step that it names
+    abbrev tried : Outcome → Option Step → State
+    tried o x = cond (s .ended) s (tryStep S s i o w x)
+
+    as-found : (o : Outcome) (x : Option Step) → getElem? (S .steps) i ≡ x → move S s (by-step i o w) ≡ tried o x
+    unfolding move
+    as-found o x found = ap (tried o) found
+
+    alike : (x : Option Step) → getElem? (S .steps) i ≡ x → tried failed x ≡ tried normal x → AsNormal
+    alike x found e = inr (as-found failed x found ∙ (e ∙ sym (as-found normal x found)))
+
+    pub failing-step : AsNormal
+    failing-step = go (getElem? (S .steps) i) refl
+      where
+        call : (t : CallStep) → getElem? (S .steps) i ≡ some (call-step t) → (b : Option Body) → body S (t .method) ≡ b → AsNormal
+        call t found none is =
+            let nowhere = nothing (t .failed-to) (subst NoTarget found (each-get NoTarget tt (one .targets) i)) in
+            inl (step-without-target S s failed i w found is nowhere)
+        call t found (some b) is =
+            let opens : (o : Outcome) → tried o (some (call-step t)) ≡ cond (s .ended) s (cond (eqb (s .point) (t .from)) (openCall (newCall s i t) (b .entry) s) s)
+            = λ o. ap (λ (x : Option Body). cond (s .ended) s (cond (eqb (s .point) (t .from)) (makeCall S s (newCall s i t) o w (targetFor o t) x) s)) is in
+            alike (some (call-step t)) found (opens failed ∙ sym (opens normal))
+
+        go : (x : Option Step) → getElem? (S .steps) i ≡ x → AsNormal
+        go none found = alike none found refl
+        go (some (event-step p q a)) found = alike (some (event-step p q a)) found refl
+        go (some (call-step t)) found = call t found (body S (t .method)) refl
+        go (some (pass-step p q)) found = alike (some (pass-step p q)) found refl
