@@ -112,8 +112,7 @@ abbrev Former : List Rule → Type 0
 Former = Each (λ (x : Rule). leb (x .number) 17 ≡ true)
 
 none-there : {A : Type 0} (x : Option A) (f : A → List Rule) → howMany x ≡ 0 → Former (ifAny x f)
-none-there none f e = nil
-none-there (some a) f e = absurd (omega (arith, e))
+none-there x f e = subst (λ (x : Option _). Former (ifAny x f)) (sym (nothing x e)) nil
 
 module _ (S : Sheet) where
   of-method : (starts : List ℕ) (m : ℕ) (b : Option Body) → failedExits b ≡ 0 → Former (methodRules S starts m b)
@@ -183,6 +182,10 @@ module _ (S : Sheet) (one : OneOutcome S) (s : State) where
     abbrev tried : Outcome → Option Step → State
     tried o x = cond (s .ended) s (tryStep S s i o w x)
 
+    -- that by a call's step, where control is at its from before the end
+    abbrev fromThere : CallStep → State → State
+    fromThere t x = cond (s .ended) s (cond (eqb (s .point) (t .from)) x s)
+
     as-found : (o : Outcome) (x : Option Step) → getElem? (S .steps) i ≡ x → move S s (by-step i o w) ≡ tried o x
     unfolding move
     as-found o x found = ap (tried o) found
@@ -198,8 +201,8 @@ module _ (S : Sheet) (one : OneOutcome S) (s : State) where
             let nowhere = nothing (t .failed-to) (subst NoTarget found (each-get NoTarget tt (one .targets) i)) in
             inl (step-without-target S s failed i w found is nowhere)
         call t found (some b) is =
-            let opens : (o : Outcome) → tried o (some (call-step t)) ≡ cond (s .ended) s (cond (eqb (s .point) (t .from)) (openCall (newCall s i t) (b .entry) s) s)
-            = λ o. ap (λ (x : Option Body). cond (s .ended) s (cond (eqb (s .point) (t .from)) (makeCall S s (newCall s i t) o w (targetFor o t) x) s)) is in
+            let opens : (o : Outcome) → tried o (some (call-step t)) ≡ fromThere t (openCall (newCall s i t) (b .entry) s)
+            = λ o. ap (λ (x : Option Body). fromThere t (makeCall S s (newCall s i t) o w (targetFor o t) x)) is in
             alike (some (call-step t)) found (opens failed ∙ sym (opens normal))
 
         go : (x : Option Step) → getElem? (S .steps) i ≡ x → AsNormal
