@@ -12,10 +12,10 @@ use Rattle.answers.proofs.of_method.Statement.{statement}
 use Rattle.answers.proofs.of_method.Tie as tie
 
 abbrev Inv-loop : tie.InvT-loop
-Inv-loop rule i₀ i = (i ≤ 6) × (isAmong (drop i rulesOfMethods) rule ≡ ofMethod rule)
+Inv-loop rule i₀ i = (i ≤ 9) × (isAmong (drop i rulesOfMethods) rule ≡ ofMethod rule)
 
 abbrev μ-loop : tie.MeasureT-loop
-μ-loop rule i₀ i = 6 - i
+μ-loop rule i₀ i = 9 - i
 
 loop-holds : tie.Need-loop-holds Inv-loop μ-loop
 loop-holds c = (omega arith, refl)

@@ -44,6 +44,9 @@ enum-known-x-11 c = search needs
 enum-told-2 : tie.Need-enum-told-2
 enum-told-2 c = search needs
 
+enum-known-x-12 : tie.Need-enum-known-x-12
+enum-known-x-12 c = search needs
+
 returns : tie.Need-returns
 returns c = sym (ap placeOf (c .before .x .given .1))
 
@@ -83,6 +86,9 @@ returns-12 c = sym (ap placeOf (c .before .x11 .given .1))
 returns-13 : tie.Need-returns-13
 returns-13 c = search needs
 
+returns-14 : tie.Need-returns-14
+returns-14 c = sym (ap placeOf (c .before .x12 .given .1))
+
 pub refusal-place-spec : {M : Type 1} → statement M
 refusal-place-spec =
     tie.close
@@ -100,6 +106,7 @@ refusal-place-spec =
     enum-told
     enum-known-x-11
     enum-told-2
+    enum-known-x-12
     returns
     returns-2
     returns-3
@@ -112,4 +119,5 @@ refusal-place-spec =
     returns-10
     returns-11
     returns-12
-    returns-13)
+    returns-13
+    returns-14)

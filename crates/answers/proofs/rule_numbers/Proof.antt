@@ -62,6 +62,27 @@ enum-known-r-16 c = search needs
 enum-known-r-17 : tie.Need-enum-known-r-17
 enum-known-r-17 c = search needs
 
+enum-known-r-18 : tie.Need-enum-known-r-18
+enum-known-r-18 c = search needs
+
+enum-known-r-19 : tie.Need-enum-known-r-19
+enum-known-r-19 c = search needs
+
+enum-known-r-20 : tie.Need-enum-known-r-20
+enum-known-r-20 c = search needs
+
+enum-known-r-21 : tie.Need-enum-known-r-21
+enum-known-r-21 c = search needs
+
+enum-known-r-22 : tie.Need-enum-known-r-22
+enum-known-r-22 c = search needs
+
+enum-known-r-23 : tie.Need-enum-known-r-23
+enum-known-r-23 c = search needs
+
+enum-known-r-24 : tie.Need-enum-known-r-24
+enum-known-r-24 c = search needs
+
 returns : tie.Need-returns
 returns c = (sym (ap numbers (c .before .r .given .1)), omega arith)
 
@@ -113,6 +134,27 @@ returns-16 c = (sym (ap numbers (c .before .r16 .given .1)), omega arith)
 returns-17 : tie.Need-returns-17
 returns-17 c = (sym (ap numbers (c .before .r17 .given .1)), omega arith)
 
+returns-18 : tie.Need-returns-18
+returns-18 c = (sym (ap numbers (c .before .r18 .given .1)), omega arith)
+
+returns-19 : tie.Need-returns-19
+returns-19 c = (sym (ap numbers (c .before .r19 .given .1)), omega arith)
+
+returns-20 : tie.Need-returns-20
+returns-20 c = (sym (ap numbers (c .before .r20 .given .1)), omega arith)
+
+returns-21 : tie.Need-returns-21
+returns-21 c = (sym (ap numbers (c .before .r21 .given .1)), omega arith)
+
+returns-22 : tie.Need-returns-22
+returns-22 c = (sym (ap numbers (c .before .r22 .given .1)), omega arith)
+
+returns-23 : tie.Need-returns-23
+returns-23 c = (sym (ap numbers (c .before .r23 .given .1)), omega arith)
+
+returns-24 : tie.Need-returns-24
+returns-24 c = (sym (ap numbers (c .before .r24 .given .1)), omega arith)
+
 pub rule-numbers-spec : {M : Type 1} → statement M
 rule-numbers-spec =
     tie.close
@@ -134,6 +176,13 @@ rule-numbers-spec =
     enum-known-r-15
     enum-known-r-16
     enum-known-r-17
+    enum-known-r-18
+    enum-known-r-19
+    enum-known-r-20
+    enum-known-r-21
+    enum-known-r-22
+    enum-known-r-23
+    enum-known-r-24
     returns
     returns-2
     returns-3
@@ -150,4 +199,11 @@ rule-numbers-spec =
     returns-14
     returns-15
     returns-16
-    returns-17)
+    returns-17
+    returns-18
+    returns-19
+    returns-20
+    returns-21
+    returns-22
+    returns-23
+    returns-24)
