@@ -1,17 +1,19 @@
 -- What the tables of an indexed sheet lead to: its points and methods with their conditions, its bodies and its steps.
-use mathlib.Core.Path.{_≡_, ap, _∙_, subst}
+use mathlib.Core.Path.{_≡_, refl, ap, _∙_, subst}
+use mathlib.Core.Bool.{true}
 use mathlib.Core.Option.{Option, none, some}
 use mathlib.Core.List.{List}
 use Prim.Native.Nat.{ℕ, _<_}
 use native.Mathlib.Omega.{arith}
 use lib.ListN.{length, getD, getElem?}
+use lib.Dec.{T}
 use Rattle.sheet.specs.Each.{Each}
 use Rattle.sheet.specs.Model.{stepLimit}
-use Rattle.sheet.specs.Sheet.{Point, Body, Method, Step, Sheet, conditionNamed, bodyIn, body}
+use Rattle.sheet.specs.Sheet.{Outcome, normal, failed, Point, Declared, Body, Method, Step, Sheet, conditionNamed, declaredFor, declaredIn, bodyIn, body}
 use Rattle.sheet.specs.AtOffset.{methodAt, stepAt}
-use Rattle.sheet.specs.Names.{PointNamed, BodyNamed, MethodNamed, StepNamed, EventBelow}
+use Rattle.sheet.specs.Names.{PointNamed, BodyNamed, DeclaredNamed, MethodNamed, StepNamed, isSome, TargetsFit, EventBelow}
 use Rattle.sheet.proofs.Each.{each-get}
-use Rattle.index.specs.Indexed.{Indexes, ConditionIn, PointIn, MethodIn}
+use Rattle.index.specs.Indexed.{Indexes, ConditionIn, PointIn, DeclaredIn, MethodIn, FailedIn}
 
 abbrev OrNone : {A : Type 0} → (A → Type 0) → Option A → Type 0
 OrNone P none = Unit {0}
@@ -20,6 +22,10 @@ OrNone P (some x) = P x
 -- a property of each element holds of the one with a number
 each-some : {A : Type 0} (P : A → Type 0) {xs : List A} → Each P xs → (k : ℕ) (x : A) → getElem? xs k ≡ some x → P x
 each-some P all k x is = subst (OrNone P) is (each-get (OrNone P) tt all k)
+
+the-some : {A : Type 0} (o : Option A) → true ≡ isSome o → (x : A) × (o ≡ some x)
+the-some none e = absurd (subst T e tt)
+the-some (some x) e = (x, refl)
 
 module _ {S : Sheet} {s conditions points methods steps : List ℕ} (x : Indexes S s conditions points methods steps) where
   -- a field that names a condition
@@ -46,15 +52,39 @@ module _ {S : Sheet} {s conditions points methods steps : List ℕ} (x : Indexes
     named : MethodNamed (length (S .conditions)) (length (S .points)) (methodAt s (getD methods m 0))
     named = each-some (MethodNamed (length (S .conditions)) (length (S .points))) (x .names-exist .methods-named) m _ method-is
 
+    declared-in : (o : Outcome) (d : Declared) → declaredFor o (methodAt s (getD methods m 0)) ≡ some d → DeclaredIn S s conditions d m o
+    declared-in o d e =
+        let is : declaredIn o (getElem? (S .methods) m) ≡ some d = ap (declaredIn o) method-is ∙ e in
+        let n = subst (DeclaredNamed (length (S .conditions))) e (named .declared-named o) in
+        record {
+          trace-named = field-named (λ (y : Declared). y .trace) _ _ is (n .0);
+          future-named = field-named (λ (y : Declared). y .future) _ _ is (n .1);
+        }
+
     pub method-in : MethodIn S s conditions methods m
     method-in =
         record {
           exists = omega (arith, x .methods-tabled .few);
           inside = x .methods-tabled .inside m l;
           pre-named = field-named (λ (y : Method). y .pre) _ _ method-is (named .pre-exists);
-          trace-named = field-named (λ (y : Method). y .trace) _ _ method-is (named .trace-exists);
-          future-named = field-named (λ (y : Method). y .future) _ _ method-is (named .future-exists);
+          normal-named = declared-in normal _ refl;
         }
+
+    -- it has two outcomes
+    pub failed-in : (d : Declared) → methodAt s (getD methods m 0) .failing ≡ some d → FailedIn S s conditions methods m
+    failed-in d e =
+        record {
+          exists = method-in .exists;
+          inside = method-in .inside;
+          declared = d;
+          failing-is = e;
+          failed-named = declared-in failed d e;
+        }
+
+    pub fails-in : true ≡ isSome (declaredIn failed (getElem? (S .methods) m)) → FailedIn S s conditions methods m
+    fails-in two =
+        let (d, e) = the-some (methodAt s (getD methods m 0) .failing) (two ∙ ap (λ (y : Option Method). isSome (declaredIn failed y)) method-is) in
+        failed-in d e
 
     -- its body, and that the points of the body exist
     pub body-is : body S m ≡ methodAt s (getD methods m 0) .body
@@ -73,9 +103,12 @@ module _ {S : Sheet} {s conditions points methods steps : List ℕ} (x : Indexes
     pub step-is : getElem? (S .steps) i ≡ some (stepAt s (getD steps i 0))
     step-is = x .steps-tabled .is i l
 
-    -- its names exist, and its event fits a set
+    -- its names exist, its target and its event fit
     pub step-named : (t : Step) → stepAt s (getD steps i 0) ≡ t → StepNamed (length (S .points)) (length (S .methods)) t
     step-named t e = each-some (StepNamed (length (S .points)) (length (S .methods))) (x .names-exist .steps-named) i t (step-is ∙ ap (λ (t : Step). some t) e)
+
+    pub target-fits : (t : Step) → stepAt s (getD steps i 0) ≡ t → TargetsFit S t
+    target-fits t e = each-some (TargetsFit S) (x .outcomes-fit .targets-fit) i t (step-is ∙ ap (λ (t : Step). some t) e)
 
     pub event-fits : (t : Step) → stepAt s (getD steps i 0) ≡ t → EventBelow 64 t
     event-fits t e = each-some (EventBelow 64) (x .events-fit) i t (step-is ∙ ap (λ (t : Step). some t) e)

@@ -1,16 +1,17 @@
--- The three conditions that a point or a method names, by their numbers as they were read.
+-- The conditions that a point or a method names, by their numbers as they were read.
 use mathlib.Core.Path.{_≡_, sym, ap, subst}
 use mathlib.Core.List.{List}
 use Prim.Native.Nat.{ℕ}
 use lib.ListN.{getD}
 use Rattle.condition.specs.Condition.{Condition}
 use Rattle.sheet.specs.Sheet as sheet
-use Rattle.sheet.specs.Sheet.{Sheet, past, own, due, pre, trace, future}
+use Rattle.sheet.specs.Sheet.{normal, failed, Sheet, past, own, due, pre}
 use Rattle.sheet.specs.AtOffset.{pointAt, methodAt}
 use Rattle.format.specs.declared.values.Point.{Point}
+use Rattle.format.specs.declared.values.Declared.{Declared}
 use Rattle.format.specs.declared.values.Declaration.{Declaration}
-use Rattle.format.specs.Values.{pointValue, Declares}
-use Rattle.index.specs.Indexed.{ConditionIn, PointIn, MethodIn}
+use Rattle.format.specs.Values.{pointValue, declaredValue, Declares, DeclaresFailed}
+use Rattle.index.specs.Indexed.{ConditionIn, PointIn, DeclaredIn, MethodIn, FailedIn}
 
 -- the numbers a, b and c are those of the conditions x, y and z
 pub record Named (s conditions : List ℕ) (a b c : ℕ) (x y z : Condition) : Type 0 where
@@ -32,6 +33,14 @@ module _ {s conditions : List ℕ} where
       named-as (ap (λ (y : sheet.Point). y .past) e) (ap (λ (y : sheet.Point). y .own) e) (ap (λ (y : sheet.Point). y .due) e)
       (x .past-named) (x .own-named) (x .due-named)
 
-  pub method-named : {S : Sheet} {methods : List ℕ} {m : ℕ} → MethodIn S s conditions methods m → (v : Declaration) → Declares v (methodAt s (getD methods m 0))
-      → Named s conditions (v .pre) (v .trace) (v .future) (pre S m) (trace S m) (future S m)
-  method-named x v e = named-as (e .pre-is) (e .trace-is) (e .future-is) (x .pre-named) (x .trace-named) (x .future-named)
+  module _ {S : Sheet} {methods : List ℕ} {m : ℕ} where
+    pub pre-named : MethodIn S s conditions methods m → (v : Declaration) → Declares v (methodAt s (getD methods m 0)) → ConditionIn s conditions (v .pre) (pre S m)
+    pre-named x v e = in-table (e .pre-is) (x .pre-named)
+
+    pub normal-named : MethodIn S s conditions methods m → (v : Declaration) → Declares v (methodAt s (getD methods m 0))
+        → DeclaredIn S s conditions (declaredValue (v .normal)) m normal
+    normal-named x v e = subst (λ (d : sheet.Declared). DeclaredIn S s conditions d m normal) (sym (e .normal-is)) (x .normal-named)
+
+    pub failed-named : FailedIn S s conditions methods m → (v : Declared) → DeclaresFailed v (methodAt s (getD methods m 0))
+        → DeclaredIn S s conditions (declaredValue v) m failed
+    failed-named x v e = subst (λ (d : sheet.Declared). DeclaredIn S s conditions d m failed) (sym (e (x .declared) (x .failing-is))) (x .failed-named)

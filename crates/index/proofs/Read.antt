@@ -64,6 +64,7 @@ module _ (M : Model) (s : List ℕ) (r : Reading) (h : readSheet M s ≡ whole r
         methods-tabled = tabled _ s _ m (x .methods-counted) (x .few-methods) (x .method-found);
         steps-tabled = tabled _ s _ t (x .steps-counted) (x .few-steps) (x .step-found);
         names-exist = x .names;
+        outcomes-fit = x .outcomes;
         events-fit = each-map (fits (M .events) events) (x .events);
         a-method = has-one (sheetOf M s .methods) (x .first);
       }

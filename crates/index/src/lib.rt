@@ -1,11 +1,12 @@
 // The conditions of a sheet's points and methods, by the tables of offsets that lead to them.
+ghost use mathlib.Core.Path.{_≡_};
 ghost use mathlib.Core.List.{List};
 ghost use Prim.Native.Nat.{ℕ};
-ghost use Rattle.sheet.specs.Sheet.{Sheet};
-ghost use Rattle.sheet.specs.Sheet as sheet;
+ghost use Rattle.sheet.specs.Sheet.{Outcome, failed, Sheet};
 ghost use Rattle.condition.specs.Condition.{Condition};
+ghost use Rattle.format.specs.Values.{declaredValue};
 ghost use Rattle.postfix.specs.Parts.{StandsAt};
-ghost use Rattle.index.specs.Indexed.{ConditionIn, PointIn, MethodIn, FailedIn, PointIs, MethodIs, OutcomeIs};
+ghost use Rattle.index.specs.Indexed.{ConditionIn, PointIn, DeclaredIn, MethodIn, FailedIn, PointIs, MethodIs, OutcomeIs};
 use format::values::Declared;
 use format::values::declaration_at;
 use format::values::failed_at;
@@ -30,33 +31,42 @@ pub struct MethodConditions {
     pub normal: OutcomeConditions,
 }
 
+// An offset of a table, as an index.
+fn wide(offset: u32) -> usize
+    ensures { λ r. ⌜ r ≡ offset ⌝ }
+{
+    offset as usize
+}
+
+// The offset where the condition number c stands.
+fn condition_at(conditions: &[u32; 256], c: usize) -> usize
+    requires { ⌜ ((s : List ℕ) × (r : Condition) × ConditionIn s (now conditions) c r) ⌝ }
+    ensures { λ at. ⌜ ((s : List ℕ) (r : Condition) → ConditionIn s (now (conditions .entry)) c r → StandsAt s at r) ⌝ }
+{
+    wide(conditions[c])
+}
+
 // The conditions of the point p.
 pub fn point_of(s: &[u8], conditions: &[u32; 256], points: &[u32], p: usize) -> PointConditions
     requires { ⌜ ((S : Sheet) × PointIn S (now s) (now conditions) (now points) p) ⌝ }
     ensures { λ r. ⌜ ((S : Sheet) → PointIn S (now (s .entry)) (now (conditions .entry)) (now (points .entry)) p → PointIs (now (s .entry)) S p r) ⌝ }
 {
     let point = point_at(s, points[p] as usize);
-    let past = point.past;
-    let own = point.own;
-    let due = point.due;
     PointConditions {
-        past: conditions[past] as usize,
-        own: conditions[own] as usize,
-        due: conditions[due] as usize,
+        past: condition_at(conditions, point.past),
+        own: condition_at(conditions, point.own),
+        due: condition_at(conditions, point.due),
     }
 }
 
 // The conditions that are declared of an outcome by their numbers.
 fn outcome_of(conditions: &[u32; 256], declared: Declared) -> OutcomeConditions
-    requires { ⌜ ((s : List ℕ) × (a : Condition) × (b : Condition) × ConditionIn s (now conditions) (declared .trace) a × ConditionIn s (now conditions) (declared .future) b) ⌝ }
-    ensures { λ r. ⌜ ((s : List ℕ) (a b : Condition) → ConditionIn s (now (conditions .entry)) (declared .trace) a → ConditionIn s (now (conditions .entry)) (declared .future) b →
-        StandsAt s (r .trace) a × StandsAt s (r .future) b) ⌝ }
+    requires { ⌜ ((S : Sheet) × (s : List ℕ) × (m : ℕ) × (o : Outcome) × DeclaredIn S s (now conditions) (declaredValue declared) m o) ⌝ }
+    ensures { λ r. ⌜ ((S : Sheet) (s : List ℕ) (m : ℕ) (o : Outcome) → DeclaredIn S s (now (conditions .entry)) (declaredValue declared) m o → OutcomeIs s S m o r) ⌝ }
 {
-    let trace = declared.trace;
-    let future = declared.future;
     OutcomeConditions {
-        trace: conditions[trace] as usize,
-        future: conditions[future] as usize,
+        trace: condition_at(conditions, declared.trace),
+        future: condition_at(conditions, declared.future),
     }
 }
 
@@ -71,10 +81,9 @@ pub fn method_of(
     ensures { λ r. ⌜ ((S : Sheet) → MethodIn S (now (s .entry)) (now (conditions .entry)) (now (methods .entry)) m → MethodIs (now (s .entry)) S m r) ⌝ }
 {
     let declared = declaration_at(s, methods[m] as usize);
-    let pre = declared.pre;
     let normal = outcome_of(conditions, declared.normal);
     MethodConditions {
-        pre: conditions[pre] as usize,
+        pre: condition_at(conditions, declared.pre),
         normal,
     }
 }
@@ -87,7 +96,7 @@ pub fn failed_of(
     m: usize,
 ) -> OutcomeConditions
     requires { ⌜ ((S : Sheet) × FailedIn S (now s) (now conditions) (now methods) m) ⌝ }
-    ensures { λ r. ⌜ ((S : Sheet) → FailedIn S (now (s .entry)) (now (conditions .entry)) (now (methods .entry)) m → OutcomeIs (now (s .entry)) S m sheet.failed r) ⌝ }
+    ensures { λ r. ⌜ ((S : Sheet) → FailedIn S (now (s .entry)) (now (conditions .entry)) (now (methods .entry)) m → OutcomeIs (now (s .entry)) S m failed r) ⌝ }
 {
     outcome_of(conditions, failed_at(s, methods[m] as usize))
 }

@@ -1,5 +1,4 @@
-use native.Mathlib.Omega.{arith}
-use Rattle.index.proofs.Named.{method-named}
+use Rattle.index.proofs.Named.{pre-named, normal-named}
 use borrow.Author.Needs.{needs}
 use Rattle.index.proofs.method_of.Statement.{statement}
 use Rattle.index.proofs.method_of.Tie as tie
@@ -16,37 +15,19 @@ cast-declaration-at c = search needs
 declaration-at-requires : tie.Need-declaration-at-requires
 declaration-at-requires c κs = search needs
 
-mul-t9 : tie.Need-mul-t9
-mul-t9 c = let t = method-named (c .before .before .before .pre .1) (c .declaration-at .result) (c .declaration-at .ensures) in omega (arith, t .first .exists)
+outcome-of-requires : tie.Need-outcome-of-requires
+outcome-of-requires c κs = let (S, x) = c .before .before .before .pre in (S, _, _, _, normal-named x (c .declaration-at .result) (c .declaration-at .ensures))
 
-element-copy-out-t12 : tie.Need-element-copy-out-t12
-element-copy-out-t12 c = let t = method-named (c .before .before .before .pre .1) (c .declaration-at .result) (c .declaration-at .ensures) in omega (arith, t .first .exists)
-
-cast-t13 : tie.Need-cast-t13
-cast-t13 c = let t = method-named (c .before .before .before .before .pre .1) (c .before .declaration-at .result) (c .before .declaration-at .ensures) in omega (arith, t .first .inside)
-
-mul-t16 : tie.Need-mul-t16
-mul-t16 c = let t = method-named (c .before .before .before .before .pre .1) (c .before .declaration-at .result) (c .before .declaration-at .ensures) in omega (arith, t .second .exists)
-
-element-copy-out-t19 : tie.Need-element-copy-out-t19
-element-copy-out-t19 c = let t = method-named (c .before .before .before .before .pre .1) (c .before .declaration-at .result) (c .before .declaration-at .ensures) in omega (arith, t .second .exists)
-
-cast-t20 : tie.Need-cast-t20
-cast-t20 c = let t = method-named (c .before .before .before .before .before .pre .1) (c .before .before .declaration-at .result) (c .before .before .declaration-at .ensures) in omega (arith, t .second .inside)
-
-mul-t21 : tie.Need-mul-t21
-mul-t21 c = let t = method-named (c .before .before .before .before .before .pre .1) (c .before .before .declaration-at .result) (c .before .before .declaration-at .ensures) in omega (arith, t .third .exists)
-
-element-copy-out-t24 : tie.Need-element-copy-out-t24
-element-copy-out-t24 c = let t = method-named (c .before .before .before .before .before .pre .1) (c .before .before .declaration-at .result) (c .before .before .declaration-at .ensures) in omega (arith, t .third .exists)
-
-cast-t25 : tie.Need-cast-t25
-cast-t25 c = let t = method-named (c .before .before .before .before .before .before .pre .1) (c .before .before .before .declaration-at .result) (c .before .before .before .declaration-at .ensures) in omega (arith, t .third .inside)
+condition-at-requires : tie.Need-condition-at-requires
+condition-at-requires c κs = let (S, x) = c .before .before .before .before .pre in (_, _, pre-named x (c .before .declaration-at .result) (c .before .declaration-at .ensures))
 
 returns : tie.Need-returns
 returns c = λ S x.
-    let t = method-named x (c .before .before .before .declaration-at .result) (c .before .before .before .declaration-at .ensures) in
-    record { pre-stands = t .first .stands; trace-stands = t .second .stands; future-stands = t .third .stands }
+    let v = c .before .before .declaration-at in
+    record {
+      pre-stands = c .condition-at .ensures _ _ (pre-named x (v .result) (v .ensures));
+      normal-is = c .before .outcome-of .ensures S _ _ _ (normal-named x (v .result) (v .ensures));
+    }
 
 pub method-of-spec : {M : Type 1} → statement M
 method-of-spec =
@@ -56,13 +37,6 @@ method-of-spec =
     element-copy-out-declaration-at
     cast-declaration-at
     declaration-at-requires
-    mul-t9
-    element-copy-out-t12
-    cast-t13
-    mul-t16
-    element-copy-out-t19
-    cast-t20
-    mul-t21
-    element-copy-out-t24
-    cast-t25
+    outcome-of-requires
+    condition-at-requires
     returns)
