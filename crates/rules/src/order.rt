@@ -35,7 +35,13 @@ pub struct Counts {
 }
 
 // The way of returning with the normal outcome, and with the failed one, at or to the point p.
-fn way_of(s: &[u8], conditions: &[u32; 256], points: &[u32], p: usize, declared: OutcomeConditions) -> Way
+fn way_of(
+    s: &[u8],
+    conditions: &[u32; 256],
+    points: &[u32],
+    p: usize,
+    declared: OutcomeConditions,
+) -> Way
     requires { ⌜ ((S : Sheet) × PointIn S (now s) (now conditions) (now points) p) ⌝ }
     ensures { λ r. ⌜ ((S : Sheet) (m : ℕ) (o : Outcome) → PointIn S (now (s .entry)) (now (conditions .entry)) (now (points .entry)) p →
         OutcomeIs (now (s .entry)) S m o declared → WayIs (now (s .entry)) S m o p r) ⌝ }
@@ -109,7 +115,16 @@ fn method_subject(
     match method {
         Method::Primitive(_) => Subject::None,
         Method::TwoOutcomePrimitive(_, _) => Subject::None,
-        Method::WithBody(_, inner) => body_subject(s, conditions, points, methods, m, inner, Failing::Never, first),
+        Method::WithBody(_, inner) => body_subject(
+            s,
+            conditions,
+            points,
+            methods,
+            m,
+            inner,
+            Failing::Never,
+            first,
+        ),
         Method::TwoOutcomeBody(_, inner, failed) => {
             let way = failed_way(s, conditions, points, methods, m, failed.exit);
             body_subject(s, conditions, points, methods, m, inner, way, first)
