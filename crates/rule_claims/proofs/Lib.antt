@@ -1,1 +1,2 @@
 pub mod Kth
+pub mod Ways

@@ -100,13 +100,16 @@ pub fn body_claim(
         PointIs s S (b .entry) entry → WayIs s S m sheet.normal (b .exit) exit → FailingIs s S m (b .failed-exit) failed →
         Kth s (methodRules S starts m (some b)) k r) ⌝ }
 {
-    match k {
-        0 => inclusion(Rule::EntryPast(m), pre, entry.past),
-        1 => holds_empty(Rule::EntryOwn(m), entry.own),
-        2 => exit_claim(Rule::ExitOwn(m), Rule::ExitDue(m), exit, 0),
-        3 => exit_claim(Rule::ExitOwn(m), Rule::ExitDue(m), exit, 1),
-        _ => failed_exit_claim(m, failed, first, k - 4),
+    if k == 0 {
+        return inclusion(Rule::EntryPast(m), pre, entry.past);
     }
+    if k == 1 {
+        return holds_empty(Rule::EntryOwn(m), entry.own);
+    }
+    if k < 4 {
+        return exit_claim(Rule::ExitOwn(m), Rule::ExitDue(m), exit, k - 2);
+    }
+    failed_exit_claim(m, failed, first, k - 4)
 }
 
 // 7 past(p)a in past(q); 8 own(p)a in own(q); 9 a due(q) in due(p), of the event a.
@@ -128,12 +131,16 @@ fn return_claim(rules: ReturnRules, p: PointConditions, q: Way, k: usize) -> Ask
     ensures { λ r. ⌜ ((s : List ℕ) (S : Sheet) (n i to : ℕ) (t : sheet.CallStep) (o : sheet.Outcome) → ReturnRulesAre rules n i → PointIs s S (t .from) p →
         WayIs s S (t .method) o to q → Kth s (returnRules S n i t o to) k r) ⌝ }
 {
+    let past = rules.past;
+    let own = rules.own;
+    let future = rules.future;
+    let due = rules.due;
     let raised = Raised::Word(Part::Condition(q.declared.trace));
     match k {
-        0 => forward(rules.past, p.past, raised, q.point.past),
-        1 => forward(rules.own, p.own, raised, q.point.own),
-        2 => inclusion(rules.future, q.point.due, q.declared.future),
-        3 => backward(rules.due, raised, q.point.due, p.due),
+        0 => forward(past, p.past, raised, q.point.past),
+        1 => forward(own, p.own, raised, q.point.own),
+        2 => inclusion(future, q.point.due, q.declared.future),
+        3 => backward(due, raised, q.point.due, p.due),
         _ => Asked::NoMore,
     }
 }

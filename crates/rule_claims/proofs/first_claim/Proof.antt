@@ -15,7 +15,7 @@ returns : tie.Need-returns
 returns c = λ s S d. kth-says (c .before .match .keys1) refl (c .holds-empty .ensures s _ (d .pre-stands))
 
 returns-2 : tie.Need-returns-2
-returns-2 c = λ s S d. kth-says (c .before .match .keys2) refl (c .holds-empty2 .ensures s _ (d .future-stands))
+returns-2 c = λ s S d. kth-says (c .before .match .keys2) refl (c .holds-empty2 .ensures s _ (d .normal-is .future-stands))
 
 returns-3 : tie.Need-returns-3
 returns-3 c = λ s S d. kth-done (omega (arith, c .match .rest .1, c .match .rest .0 .1))
