@@ -34,7 +34,7 @@ pub struct Counts {
     pub steps: usize,
 }
 
-// The way of returning with the normal outcome, and with the failed one, at or to the point p.
+// A way of returning, at or to the point p, by what the method declares of its outcome.
 fn way_of(
     s: &[u8],
     conditions: &[u32; 256],

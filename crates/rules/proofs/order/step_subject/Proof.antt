@@ -1,6 +1,8 @@
+use mathlib.Core.Option.{none, some}
 use native.Mathlib.Omega.{arith}
-use Rattle.index.proofs.Indexed.{point-in, method-in, step-inside}
-use Rattle.rules.proofs.Decoded.{step-rules, named, fits}
+use Rattle.index.proofs.Indexed.{point-in, fails-in, step-inside}
+use Rattle.rules.proofs.Decoded.{step-rules, named, target, fits}
+use Rattle.rules.proofs.Told.{told-rules}
 use borrow.Author.Needs.{needs}
 use Rattle.rules.proofs.order.step_subject.Statement.{statement}
 use Rattle.rules.proofs.order.step_subject.Tie as tie
@@ -29,23 +31,34 @@ point-of-requires-2 c κs = let (S, x, l) = c .before .before .before .before .b
 enum-known-step-2 : tie.Need-enum-known-step-2
 enum-known-step-2 c = search needs
 
-point-of-requires-3 : tie.Need-point-of-requires-3
-point-of-requires-3 c κs = let (S, x, l) = c .before .before .before .before .before .before .before .pre in (S, point-in x _ (named x l (c .before .step2 .given .1) (c .before .before .before .step-at .ensures) .0))
-
-point-of-requires-4 : tie.Need-point-of-requires-4
-point-of-requires-4 c κs = let (S, x, l) = c .before .before .before .before .before .before .before .before .pre in (S, point-in x _ (named x l (c .before .before .step2 .given .1) (c .before .before .before .before .step-at .ensures) .1))
-
-method-of-requires : tie.Need-method-of-requires
-method-of-requires c κs = let (S, x, l) = c .before .before .before .before .before .before .before .before .before .pre in (S, method-in x _ (named x l (c .before .before .before .step2 .given .1) (c .before .before .before .before .before .step-at .ensures) .2))
+call-subject-requires : tie.Need-call-subject-requires
+call-subject-requires c κs = let (S, x, l) = c .before .before .before .before .before .before .before .pre in
+    let names = named x l (c .before .step2 .given .1) (c .before .before .before .step-at .ensures) in
+    (S, _, x, names .3, names .0, names .1)
 
 enum-known-step-3 : tie.Need-enum-known-step-3
 enum-known-step-3 c = search needs
 
-point-of-requires-5 : tie.Need-point-of-requires-5
-point-of-requires-5 c κs = let (S, x, l) = c .before .before .before .before .before .before .before .pre in (S, point-in x _ (named x l (c .before .step3 .given .1) (c .before .before .before .step-at .ensures) .0))
+failed-way-requires : tie.Need-failed-way-requires
+failed-way-requires c κs = let (S, x, l) = c .before .before .before .before .before .before .before .pre in
+    let is = c .before .step3 .given .1 in
+    let read = c .before .before .before .step-at .ensures in
+    let names = named x l is read in
+    (S, point-in x _ (names .2), fails-in x _ (names .3) (target x l is read))
 
-point-of-requires-6 : tie.Need-point-of-requires-6
-point-of-requires-6 c κs = let (S, x, l) = c .before .before .before .before .before .before .before .before .pre in (S, point-in x _ (named x l (c .before .before .step3 .given .1) (c .before .before .before .before .step-at .ensures) .1))
+call-subject-requires-2 : tie.Need-call-subject-requires-2
+call-subject-requires-2 c κs = let (S, x, l) = c .before .before .before .before .before .before .before .before .pre in
+    let names = named x l (c .before .before .step3 .given .1) (c .before .before .before .before .step-at .ensures) in
+    (S, _, x, names .3, names .0, names .1)
+
+enum-known-step-4 : tie.Need-enum-known-step-4
+enum-known-step-4 c = search needs
+
+point-of-requires-3 : tie.Need-point-of-requires-3
+point-of-requires-3 c κs = let (S, x, l) = c .before .before .before .before .before .before .before .pre in (S, point-in x _ (named x l (c .before .step4 .given .1) (c .before .before .before .step-at .ensures) .0))
+
+point-of-requires-4 : tie.Need-point-of-requires-4
+point-of-requires-4 c κs = let (S, x, l) = c .before .before .before .before .before .before .before .before .pre in (S, point-in x _ (named x l (c .before .before .step4 .given .1) (c .before .before .before .before .step-at .ensures) .1))
 
 returns : tie.Need-returns
 returns c = λ S x l.
@@ -62,25 +75,28 @@ returns c = λ S x l.
 
 returns-2 : tie.Need-returns-2
 returns-2 c = λ S x l.
-    let is = c .before .before .before .before .step2 .given .1 in
-    let read = c .before .before .before .before .before .before .step-at .ensures in
-    record {
-      call = _;
-      from-is = c .before .before .point-of3 .ensures S (point-in x _ (named x l is read .0));
-      to-is = c .before .point-of4 .ensures S (point-in x _ (named x l is read .1));
-      declared-is = c .method-of .ensures S (method-in x _ (named x l is read .2));
-      rules-are = step-rules x l is read;
-    }
+    let is = c .before .before .step2 .given .1 in
+    let read = c .before .before .before .before .step-at .ensures in
+    let names = named x l is read in
+    told-rules _ S (c .call-subject .result) (step-rules x l is read) (c .call-subject .ensures S _ none x (names .3) (names .0) (names .1) tt)
 
 returns-3 : tie.Need-returns-3
 returns-3 c = λ S x l.
     let is = c .before .before .before .step3 .given .1 in
     let read = c .before .before .before .before .before .step-at .ensures in
+    let names = named x l is read in
+    let failing = c .before .failed-way .ensures S (point-in x _ (names .2)) (fails-in x _ (names .3) (target x l is read)) in
+    told-rules _ S (c .call-subject2 .result) (step-rules x l is read) (c .call-subject2 .ensures S _ (some _) x (names .3) (names .0) (names .1) failing)
+
+returns-4 : tie.Need-returns-4
+returns-4 c = λ S x l.
+    let is = c .before .before .before .step4 .given .1 in
+    let read = c .before .before .before .before .before .step-at .ensures in
     record {
       from = _;
       to = _;
-      from-is = c .before .point-of5 .ensures S (point-in x _ (named x l is read .0));
-      to-is = c .point-of6 .ensures S (point-in x _ (named x l is read .1));
+      from-is = c .before .point-of3 .ensures S (point-in x _ (named x l is read .0));
+      to-is = c .point-of4 .ensures S (point-in x _ (named x l is read .1));
       rules-are = step-rules x l is read;
     }
 
@@ -96,12 +112,14 @@ step-subject-spec =
     point-of-requires
     point-of-requires-2
     enum-known-step-2
+    call-subject-requires
+    enum-known-step-3
+    failed-way-requires
+    call-subject-requires-2
+    enum-known-step-4
     point-of-requires-3
     point-of-requires-4
-    method-of-requires
-    enum-known-step-3
-    point-of-requires-5
-    point-of-requires-6
     returns
     returns-2
-    returns-3)
+    returns-3
+    returns-4)

@@ -1,8 +1,9 @@
 use Prim.Native.Nat.{_-_, _<_}
+use mathlib.Core.List.{[], _∷_}
 use lib.ListN.{length}
 use native.Mathlib.Omega.{arith}
 use Rattle.index.proofs.Indexed.{method-in, method-is, step-is}
-use Rattle.rules.proofs.Groups.{first-group, method-group, step-group}
+use Rattle.rules.proofs.Groups.{starts-first, first-group, method-group, step-group}
 use Rattle.rules.proofs.Told.{told-rules}
 use borrow.Author.Needs.{needs}
 use Rattle.rules.proofs.order.subject_at.Statement.{statement}
@@ -28,7 +29,7 @@ returns-2 : tie.Need-returns-2
 returns-2 c = λ S xs x is.
     let a = c .before .before .before .before .before .args in
     let l : a .number - 1 < length (S .methods) = omega (arith, x .methods-are) in
-    told-rules (a .s .now) S (c .method-subject .result) (method-group S (a .number) is (a .number - 1) (omega arith) _ (method-is (x .indexes) _ l) l) (c .method-subject .ensures S _ (x .indexes) l)
+    told-rules (a .s .now) S (c .method-subject .result) (method-group S (a .number) is (a .number - 1) (omega arith) _ (method-is (x .indexes) _ l) l) (c .method-subject .ensures S (0 ∷ []) _ (starts-first (a .number - 1)) (x .indexes) l)
 
 step-subject-requires : tie.Need-step-subject-requires
 step-subject-requires c κs = let (S, x) = c .before .before .before .before .pre .0 in (S, x .indexes, omega (arith, x .methods-are, x .steps-are, c .before .before .before .before .pre .1))
