@@ -1,14 +1,19 @@
 -- The needs of the rules of all subjects, one subject after the other.
-use mathlib.Core.Path.{_≡_, sym, ap, subst}
+use mathlib.Core.Path.{_≡_, refl, sym, ap, subst}
+use mathlib.Core.Bool.{Bool, true, false, cond}
+use mathlib.Core.Option.{none, some}
 use mathlib.Core.List.{List, [], _∷_, _++_}
 use Prim.Native.Nat.{ℕ, suc, _+_, _*_, _≤_}
 use native.Mathlib.Numerals.{add-one}
 use native.Mathlib.Omega.{arith}
 use lib.ListN.{length, length-append, drop, drop-of-length-le}
 use Rattle.sheet.specs.Sheet.{Sheet}
-use Rattle.runs.specs.Rules.{Claim, _isIn_, holdsEmpty, Rule, total}
+use Rattle.runs.specs.Rules.{Claim, _isIn_, holdsEmpty, Rule, isAmong, methodRules, total}
 use Rattle.verdict.specs.Verdict.{needed, certificatesNeeded}
 use Rattle.claims.specs.Claims.{NthIs}
+use Rattle.format.specs.declared.values.Body.{Body}
+use Rattle.format.specs.Values.{bodyValue}
+use Rattle.rule_claims.proofs.Ways.{failedRules}
 use Rattle.rules.specs.declared.order.Counts.{Counts}
 use Rattle.rules.specs.Order.{groups, mostRules, together, SheetIn}
 use Rattle.rules.proofs.Groups.{next-together, rules-few}
@@ -33,6 +38,21 @@ few-needed (x ∷ xs) = omega (arith, one-needed (x .claim), few-needed xs)
 
 pub needed-as : {xs ys : List Rule} {n : Needs} → xs ≡ ys → Needed ys n → Needed xs n
 needed-as {n = n} e h = subst (λ (xs : List Rule). Needed xs n) (sym e) h
+
+-- the needs of a method with body that has two outcomes: one rule more if runs start at it
+module _ (S : Sheet) (starts : List ℕ) (m : ℕ) (b : Body) (p : ℕ) where
+  -- 3 to 6, then those of its failed exit
+  abbrev withFailed : Bool → List Rule
+  withFailed first = methodRules S starts m (some (bodyValue b none)) ++ failedRules S first m p
+
+  with-failed : (first : Bool) → Needed (withFailed first) (record { rules = cond first 7 6; certificates = 5 })
+  unfolding certificatesNeeded total
+  with-failed true = record { rules-are = refl; certificates-are = refl }
+  with-failed false = record { rules-are = refl; certificates-are = refl }
+
+  pub two-outcomes : (first : Bool) → isAmong starts m ≡ first
+      → Needed (methodRules S starts m (some (bodyValue b (some p)))) (record { rules = cond first 7 6; certificates = 5 })
+  two-outcomes first is = needed-as (ap withFailed is) (with-failed first)
 
 -- the needs of the first n of the lists xss
 pub record Summed (xss : List (List Rule)) (n rules certificates : ℕ) : Type 0 where

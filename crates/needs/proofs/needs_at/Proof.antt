@@ -1,12 +1,13 @@
 use Prim.Native.Nat.{_-_, _<_}
 use mathlib.Core.Path.{refl, _∙_}
+use mathlib.Core.List.{[], _∷_}
 use lib.ListN.{length}
 use native.Mathlib.Omega.{arith}
 use Rattle.runs.specs.Rules.{total}
 use Rattle.verdict.specs.Verdict.{certificatesNeeded}
 use Rattle.index.proofs.Indexed.{method-in, method-is, step-inside, step-is}
 use Rattle.rules.proofs.Decoded.{body-rules, step-rules}
-use Rattle.rules.proofs.Groups.{first-group, method-group, step-group}
+use Rattle.rules.proofs.Groups.{starts-first, first-group, method-group, step-group}
 use Rattle.needs.proofs.Summed.{needed-as}
 use borrow.Author.Needs.{needs}
 use Rattle.needs.proofs.needs_at.Statement.{statement}
@@ -39,8 +40,8 @@ returns-2 c = λ S cs ps xs x is.
     let a = c .before .before .before .before .before .before .args in
     let l : a .number - 1 < length (S .methods) = omega (arith, x .methods-are, c .before .before .before .if2 .taken) in
     needed-as
-    (method-group S (a .number) is (a .number - 1) (omega (arith, c .before .before .before .before .if1 .left)) _ (method-is (x .indexes) _ l) l ∙ body-rules (x .indexes) l {v = c .before .method-at .result} refl (c .before .method-at .ensures))
-    (c .method-needs .ensures S (a .number - 1))
+    (method-group S (a .number) is (a .number - 1) (omega (arith, c .before .before .before .before .if1 .left)) _ (method-is (x .indexes) _ l) l ∙ body-rules (x .indexes) l {v = c .before .method-at .result} refl (c .before .method-at .ensures) (0 ∷ []))
+    (c .method-needs .ensures S (0 ∷ []) (a .number - 1) (starts-first (a .number - 1)))
 
 mul-step-at : tie.Need-mul-step-at
 mul-step-at c = search needs

@@ -17,6 +17,9 @@ enum-told-2 c = search needs
 enum-told-3 : tie.Need-enum-told-3
 enum-told-3 c = search needs
 
+enum-told-4 : tie.Need-enum-told-4
+enum-told-4 c = search needs
+
 returns : tie.Need-returns
 unfolding certificatesNeeded total
 returns c = λ S i. needed-as (ap (λ (v : Step). stepRules S i (stepValue v)) (c .enum-told .given .1)) (record { rules-are = refl; certificates-are = refl })
@@ -29,6 +32,11 @@ returns-3 : tie.Need-returns-3
 unfolding certificatesNeeded total
 returns-3 c = λ S i. needed-as (ap (λ (v : Step). stepRules S i (stepValue v)) (c .enum-told3 .given .1)) (record { rules-are = refl; certificates-are = refl })
 
+returns-4 : tie.Need-returns-4
+unfolding certificatesNeeded total
+returns-4 c = λ S i. needed-as (ap (λ (v : Step). stepRules S i (stepValue v)) (c .enum-told4 .given .1)) (record { rules-are = refl; certificates-are = refl })
+
 pub step-needs-spec : {M : Type 1} → statement M
 step-needs-spec =
-    tie.close (tie.spec enum-told enum-told-2 enum-told-3 returns returns-2 returns-3)
+    tie.close
+    (tie.spec enum-told enum-told-2 enum-told-3 enum-told-4 returns returns-2 returns-3 returns-4)
