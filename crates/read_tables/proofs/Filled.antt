@@ -1,8 +1,7 @@
 -- What a reader leaves of a sheet that it reads whole: its tally counts the sheet, and its tables index it.
-use mathlib.Core.Path.{_≡_, refl, sym, ap, _∙_, subst}
-use mathlib.Core.List.{List, [], _∷_}
-use Prim.Native.Nat.{ℕ, zero, suc, _≤_}
-use native.Mathlib.Nat.{not-suc-le-zero, le-of-suc-le-suc}
+use mathlib.Core.Path.{_≡_, sym, ap, _∙_, subst}
+use mathlib.Core.List.{List}
+use Prim.Native.Nat.{ℕ, _≤_}
 use native.Mathlib.Omega.{arith}
 use lib.ListN.{length, length-map}
 use Rattle.sheet.specs.Model.{Model}
@@ -15,23 +14,13 @@ use Rattle.sheet.proofs.Located.{Located, located}
 use Rattle.tally.specs.Tally.{countOf}
 use Rattle.sections.specs.declared.Contents.{Contents}
 use Rattle.sections.specs.Sections.{overwritten}
+use Rattle.sections.proofs.Overwritten.{overwritten-length, overwritten-holds}
 use Rattle.reader.specs.Contract.{lastState, ReadWhole, TablesFilled}
 use Rattle.index.specs.Indexed.{ConditionsIn, Indexes}
 use Rattle.index.proofs.Read.{HoldsOffsets, read-conditions, read-indexes}
 
-overwritten-begins : (os table : List ℕ) → length os ≤ length table → HoldsOffsets os (overwritten os table)
-overwritten-begins [] table h i l = absurd (not-suc-le-zero l)
-overwritten-begins (o ∷ os) [] h i l = absurd (not-suc-le-zero h)
-overwritten-begins (o ∷ os) (x ∷ table) h zero l = refl
-overwritten-begins (o ∷ os) (x ∷ table) h (suc i) l = overwritten-begins os table (le-of-suc-le-suc h) i (le-of-suc-le-suc l)
-
-overwritten-length : (os table : List ℕ) → length (overwritten os table) ≡ length table
-overwritten-length [] table = refl
-overwritten-length (o ∷ os) [] = refl
-overwritten-length (o ∷ os) (x ∷ table) = ap suc (overwritten-length os table)
-
 held : (os table table′ : List ℕ) → length os ≤ length table → table′ ≡ overwritten os table → HoldsOffsets os table′
-held os table table′ l e = subst (HoldsOffsets os) (sym e) (overwritten-begins os table l)
+held os table table′ l e = subst (HoldsOffsets os) (sym e) (overwritten-holds os table l)
 
 module _ {M : Model} {s : List ℕ} {c : Contents} (t : ReadWhole M s c) where
   abbrev S : Sheet

@@ -6,11 +6,12 @@ use Rattle.instrument.specs.declared.Instrument.{Instrument}
 use Rattle.instrument.specs.declared.Limits.{Limits}
 use Rattle.instrument.specs.Model.{modelOf, modelWith, limitsOf}
 use Rattle.instrument.proofs.Fits.{limits-fit}
+use Rattle.format.specs.Kinds.{lastKind}
 use Rattle.sections.specs.declared.Read.{Read}
 use Rattle.reader.specs.Contract.{Reads}
 
 module _ (i : Instrument) {l : Limits} (is : l ≡ limitsOf i) where
-  pub readable : {n : ℕ} → modelOf i .points ≤ n → (l .bytes ≤ 4294967296) × (l .points ≤ n) × (l .kinds ≤ 14)
+  pub readable : {n : ℕ} → modelOf i .points ≤ n → (l .bytes ≤ 4294967296) × (l .points ≤ n) × (l .kinds ≤ lastKind)
   readable {n} room =
       let f = limits-fit i is in (f .few-bytes, subst (λ (l : Limits). l .points ≤ n) (sym is) room, f .few-kinds)
 

@@ -5,7 +5,7 @@ use Prim.Native.Nat.{ℕ, zero, suc, _≤_, _<_}
 use native.Mathlib.Omega.{arith}
 use lib.ListN.{length}
 use lib.Dec.{eqb}
-use Rattle.sheet.specs.Model.{Model}
+use Rattle.sheet.specs.Model.{Model, methodLimit}
 use Rattle.sheet.specs.Reading.{Counted, Reading, fresh, tally, startsOf, ReadResult, stateOf, readFrom, readSheet}
 use Rattle.format.specs.declared.Refusal.{Refusal}
 use Rattle.format.specs.declared.Refusal.the-variants.{TooLong}
@@ -15,8 +15,9 @@ use Rattle.sections.specs.declared.Section.{Section}
 use Rattle.sections.specs.declared.Section.the-variants.{Done, Refused}
 use Rattle.sections.specs.declared.Read.{Read}
 use Rattle.sections.specs.declared.Read.the-variants as read
-use Rattle.sections.specs.Sections.{Counts, Ends, overwritten, Comes, Told, overwrittenFrom, Extended, Filled, Answers, Concluded}
+use Rattle.sections.specs.Sections.{Counts, Ends, overwritten, Comes, Told, overwrittenFrom, Extended, Filled, MethodsListed, Answers, Concluded}
 use Rattle.sections.proofs.Comes.{too-long, begins}
+use Rattle.reader.proofs.Methods.{listed}
 use Rattle.reader.specs.Contract.{lastState, Answered, TablesFilled, Reads}
 
 read-is : (M : Model) (s : List ℕ) → readSheet M s ≡ readFrom M fresh s
@@ -47,8 +48,19 @@ refused-length M s {c} {p} {m} {e} h =
 abbrev Reader : Model → List ℕ → ℕ → ℕ → Section → Section → List ℕ → List ℕ → Type 0
 Reader M s j k a b before after = (o : ReadResult) (u : Reading) → Told M s o j a u → u .own k ≡ [] → Filled M s o (suc k) b k u before after
 
+-- .. of steps, by a table of methods
+abbrev ReaderBy : Model → List ℕ → List ℕ → Section → Section → List ℕ → List ℕ → Type 0
+ReaderBy M s ms a b before after = (o : ReadResult) (u : Reading) → Told M s o 4 a u → u .own 4 ≡ [] → MethodsListed s ms 4 u → Filled M s o 5 b 4 u before after
+
+-- a table that a reader has filled, in a state of which nothing was counted before
+in-front : {k : ℕ} {r v : Reading} {before after : List ℕ} {xs : List Counted} → v .before ≡ (λ k. []) → Extended k r v before after → v .own k ≡ xs → after ≡ overwritten (startsOf xs) before
+in-front {k} {r} {v} {before} none g is =
+    g .table ∙ ap (λ (b : ℕ → List Counted). overwrittenFrom (length (b k)) (startsOf (v .own k)) before) none
+    ∙ ap (λ (xs : List Counted). overwritten (startsOf xs) before) is
+
 module _ {M : Model} {s : List ℕ} {t₀ : Tally} {a₁ a₂ a₃ a₄ : Section} {c₀ c p₀ p m₀ m e₀ e : List ℕ} (fits : length s ≤ M .bytes) (start : t₀ ≡ nothingCounted)
-    (r₁ : Reader M s 0 1 (Done 0 t₀) a₁ c₀ c) (r₂ : Reader M s 2 2 a₁ a₂ p₀ p) (r₃ : Reader M s 3 3 a₂ a₃ m₀ m) (r₄ : Reader M s 4 4 a₃ a₄ e₀ e) where
+    (room : methodLimit ≤ length m₀) (r₁ : Reader M s 0 1 (Done 0 t₀) a₁ c₀ c) (r₂ : Reader M s 2 2 a₁ a₂ p₀ p) (r₃ : Reader M s 3 3 a₂ a₃ m₀ m)
+    (r₄ : ReaderBy M s m a₃ a₄ e₀ e) where
   abbrev o : ReadResult
   o = readSheet M s
 
@@ -72,8 +84,16 @@ module _ {M : Model} {s : List ℕ} {t₀ : Tally} {a₁ a₂ a₃ a₄ : Sectio
   f₃ : Filled M s o 4 a₃ 3 (f₂ .state) m₀ m
   f₃ = r₃ o (f₂ .state) (f₂ .told) (f₂ .grown .others 3 (λ e. omega arith) ∙ f₁ .grown .others 3 (λ e. omega arith))
 
+  -- the methods, when they are read
+  methods-listed : MethodsListed s m 4 (f₃ .state)
+  methods-listed is =
+      let alone = f₃ .grown .same ∙ f₂ .grown .same ∙ f₁ .grown .same in
+      listed M s o 4 a₃ (f₃ .state) (begins-here .0 .comes) (f₃ .told) alone m m₀ (in-front alone (f₃ .grown) refl) room
+
   f₄ : Filled M s o 5 a₄ 4 (f₃ .state) e₀ e
-  f₄ = r₄ o (f₃ .state) (f₃ .told) (f₃ .grown .others 4 (λ e. omega arith) ∙ f₂ .grown .others 4 (λ e. omega arith) ∙ f₁ .grown .others 4 (λ e. omega arith))
+  f₄ =
+      r₄ o (f₃ .state) (f₃ .told) (f₃ .grown .others 4 (λ e. omega arith) ∙ f₂ .grown .others 4 (λ e. omega arith) ∙ f₁ .grown .others 4 (λ e. omega arith))
+      methods-listed
 
   -- the state past the steps
   abbrev u : Reading
@@ -85,12 +105,6 @@ module _ {M : Model} {s : List ℕ} {t₀ : Tally} {a₁ a₂ a₃ a₄ : Sectio
   no-certificates : u .own 5 ≡ []
   no-certificates =
       f₄ .grown .others 5 (λ e. omega arith) ∙ f₃ .grown .others 5 (λ e. omega arith) ∙ f₂ .grown .others 5 (λ e. omega arith) ∙ f₁ .grown .others 5 (λ e. omega arith)
-
-  -- a table that a reader has filled, in a state of which nothing was counted before
-  in-front : {k : ℕ} {r v : Reading} {before after : List ℕ} {xs : List Counted} → v .before ≡ (λ k. []) → Extended k r v before after → v .own k ≡ xs → after ≡ overwritten (startsOf xs) before
-  in-front {k} {r} {v} {before} none g is =
-      g .table ∙ ap (λ (b : ℕ → List Counted). overwrittenFrom (length (b k)) (startsOf (v .own k)) before) none
-      ∙ ap (λ (xs : List Counted). overwritten (startsOf xs) before) is
 
   -- whatever certificates are counted
   tables : (own : ℕ → List Counted) → ((j : ℕ) → (j ≡ 5 → ⊥) → own j ≡ u .own j) → TablesFilled c₀ c p₀ p m₀ m e₀ e own

@@ -1,9 +1,8 @@
 -- Refusal 18 by the tests of the code: the kind of a call, and the kind of the method that it names.
 use mathlib.Core.Path.{_≡_, refl, sym, ap, _∙_}
-use mathlib.Core.Bool.{Bool, true, false, not, _&&_, _||_}
+use mathlib.Core.Bool.{Bool, true, false, not, _||_}
 use mathlib.Core.List.{List}
 use Prim.Native.Nat.{ℕ, _+_}
-use lib.Dec.{eqb}
 use borrow.Author.Tests.{ne-eqb}
 use Rattle.sheet.specs.AtOffset.{shortAt}
 use Rattle.format.specs.Kinds.{twoOutcomeKind}

@@ -10,7 +10,7 @@ use borrow.Author.Tests.{ne-eqb, eq-eqb}
 use Rattle.sheet.specs.Model.{Model}
 use Rattle.sheet.specs.Kind.{Role, symbol, a-pair, counts, methods, steps, kindOf, sectionOf}
 use Rattle.sheet.specs.Record.{byteAt, recordAt}
-use Rattle.sheet.specs.Reading.{Opened, Counted, Reading, tally, startOf, startsOf, wrongItems, full, overLimit, allExist, methodRecord, twoOutcomesIn, pastAt, ReadResult}
+use Rattle.sheet.specs.Reading.{Opened, Counted, Reading, tally, startOf, startsOf, wrongItems, full, overLimit, allExist, twoOutcomesIn, pastAt, ReadResult}
 use Rattle.sheet.proofs.Order.{is-4, is-5, is-6, all-named, is-9, is-18, six, seven, nine, eighteen, takes}
 use Rattle.format.specs.declared.Refusal.{Refusal}
 use Rattle.format.specs.declared.Refusal.the-variants.{WrongSection, OverLimit, UnknownName, NoFirstBody, WrongOutcomes}

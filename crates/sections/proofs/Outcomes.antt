@@ -6,7 +6,7 @@ use Prim.Native.Nat.{ℕ, _+_, _<_}
 use native.Mathlib.Omega.{arith}
 use lib.ListN.{getD}
 use lib.Dec.{T, eqb, ltb, ltb→lt}
-use borrow.Author.Tests.{eqb-true, eqb-false, ne-eqb}
+use borrow.Author.Tests.{eqb-true}
 use Rattle.sheet.specs.Kind.{methods, steps, kindOf, sectionOf}
 use Rattle.sheet.specs.Record.{Record, byteAt, valuesAt, recordAt, value}
 use Rattle.sheet.specs.AtOffset.{shortAt}

@@ -15,17 +15,20 @@ nothing-counted-requires c κs = search needs
 read-conditions-requires : tie.Need-read-conditions-requires
 read-conditions-requires c κs = search needs
 
+slice-aggregate-read-alone : tie.Need-slice-aggregate-read-alone
+slice-aggregate-read-alone c = search needs
+
 read-alone-requires : tie.Need-read-alone-requires
-read-alone-requires c κs =
-    let short = c .before .before .before .before in (search needs, omega (arith, short .if1 .left, short .before .before .before .before .pre .0))
+read-alone-requires c κs = let short = c .before .before .before .before .before in (search needs, omega (arith, short .if1 .left, short .before .before .before .before .pre .0))
+
+slice-aggregate-read-alone-2 : tie.Need-slice-aggregate-read-alone-2
+slice-aggregate-read-alone-2 c = search needs
 
 read-alone-requires-2 : tie.Need-read-alone-requires-2
-read-alone-requires-2 c κs =
-    let short = c .before .before .before .before .before .before .before .before in (search needs, omega (arith, short .if1 .left, short .before .before .before .before .pre .0))
+read-alone-requires-2 c κs = let short = c .before .before .before .before .before .before .before .before .before .before in (search needs, omega (arith, short .if1 .left, short .before .before .before .before .pre .0))
 
 read-alone-requires-3 : tie.Need-read-alone-requires-3
-read-alone-requires-3 c κs =
-    let short = c .before .before .before .before .before .before .before .before .before .before in (search needs, omega (arith, short .if1 .left, short .before .before .before .before .pre .0))
+read-alone-requires-3 c κs = let short = c .before .before .before .before .before .before .before .before .before .before .before .before .before .before in (search needs, omega (arith, short .if1 .left, short .before .before .before .before .pre .0))
 
 enum-known-fourth : tie.Need-enum-known-fourth
 enum-known-fourth c = search needs
@@ -36,13 +39,13 @@ enum-known-fourth-2 c = search needs
 read-certificates-requires : tie.Need-read-certificates-requires
 read-certificates-requires c κs =
     let steps = c .before .before .before in
-    let methods = steps .before .before in
-    let points = methods .before .before .before .before in
-    let conditions = points .before .before in
+    let methods = steps .before .before .before .before in
+    let points = methods .before .before .before .before .before in
+    let conditions = points .before .before .before in
     let start = conditions .before .before in (
       start .before .before .before .before .before .pre .2,
-      certificates-le (start .before .if1 .left) (start .nothing-counted .ensures)
-          (conditions .read-conditions .ensures) (points .read-alone .ensures) (methods .read-alone2 .ensures) (steps .read-alone3 .ensures) (c .before .fourth2 .given .1),
+      certificates-le (start .before .if1 .left) (start .nothing-counted .ensures) (search needs)
+          (conditions .read-conditions .ensures) (λ o u told none. points .read-alone .ensures o u told none (λ e. absurd (omega arith))) (λ o u told none. methods .read-alone2 .ensures o u told none (λ e. absurd (omega arith))) (steps .read-alone3 .ensures) (c .before .fourth2 .given .1),
     )
 
 same-length : tie.Need-same-length
@@ -51,12 +54,12 @@ same-length c = search needs
 returns-2 : tie.Need-returns-2
 returns-2 c =
     let steps = c .before .before .before in
-    let methods = steps .before .before in
-    let points = methods .before .before .before .before in
-    let conditions = points .before .before in
+    let methods = steps .before .before .before .before in
+    let points = methods .before .before .before .before .before in
+    let conditions = points .before .before .before in
     let start = conditions .before .before in
-    stops (start .before .if1 .left) (start .nothing-counted .ensures) (conditions .read-conditions .ensures) (points .read-alone .ensures)
-    (methods .read-alone2 .ensures) (steps .read-alone3 .ensures) (c .before .fourth .given .1)
+    stops (start .before .if1 .left) (start .nothing-counted .ensures) (search needs) (conditions .read-conditions .ensures) (λ o u told none. points .read-alone .ensures o u told none (λ e. absurd (omega arith)))
+    (λ o u told none. methods .read-alone2 .ensures o u told none (λ e. absurd (omega arith))) (steps .read-alone3 .ensures) (c .before .fourth .given .1)
 
 same-length-2 : tie.Need-same-length-2
 same-length-2 c = search needs
@@ -64,12 +67,12 @@ same-length-2 c = search needs
 returns-3 : tie.Need-returns-3
 returns-3 c =
     let steps = c .before .before .before .before in
-    let methods = steps .before .before in
-    let points = methods .before .before .before .before in
-    let conditions = points .before .before in
+    let methods = steps .before .before .before .before in
+    let points = methods .before .before .before .before .before in
+    let conditions = points .before .before .before in
     let start = conditions .before .before in
-    concludes (start .before .if1 .left) (start .nothing-counted .ensures) (conditions .read-conditions .ensures) (points .read-alone .ensures)
-    (methods .read-alone2 .ensures) (steps .read-alone3 .ensures) (c .before .before .fourth2 .given .1) (c .read-certificates .ensures)
+    concludes (start .before .if1 .left) (start .nothing-counted .ensures) (search needs) (conditions .read-conditions .ensures) (λ o u told none. points .read-alone .ensures o u told none (λ e. absurd (omega arith)))
+    (λ o u told none. methods .read-alone2 .ensures o u told none (λ e. absurd (omega arith))) (steps .read-alone3 .ensures) (c .before .before .fourth2 .given .1) (c .read-certificates .ensures)
 
 pub read-with-spec : {M : Type 1} → statement M
 read-with-spec =
@@ -78,7 +81,9 @@ read-with-spec =
     returns
     nothing-counted-requires
     read-conditions-requires
+    slice-aggregate-read-alone
     read-alone-requires
+    slice-aggregate-read-alone-2
     read-alone-requires-2
     read-alone-requires-3
     enum-known-fourth
