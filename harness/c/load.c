@@ -1,5 +1,5 @@
 /* Loads the sheet on standard input by the library, and prints the status and
- * document 01's number and values: on the large instrument, on the entry
+ * the answer's number and values: on the large instrument, on the entry
  * instrument, and by the door that the latter has alone; then the status where
  * `out` has too little room, and for a number that is no instrument's. */
 #include "sheet_loader.h"

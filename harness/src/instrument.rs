@@ -10,20 +10,31 @@ pub struct Instrument {
     /// The most bytes, and the most points.
     pub bytes: usize,
     pub points: usize,
+    /// The highest kind of a record.
+    pub kinds: u8,
 }
 
+/// The highest kind, and the highest without request 2.
+pub const KINDS: u8 = 17;
+pub const FORMER_KINDS: u8 = 14;
+
 pub const LARGE: Instrument =
-    Instrument { name: "large", number: header::LARGE, bytes: 65_536, points: 512 };
+    Instrument { name: "large", number: header::LARGE, bytes: 65_536, points: 512, kinds: KINDS };
 
 pub const ENTRY: Instrument =
-    Instrument { name: "entry", number: header::ENTRY, bytes: 8_192, points: 64 };
+    Instrument { name: "entry", number: header::ENTRY, bytes: 8_192, points: 64, kinds: KINDS };
 
 pub const BOTH: [Instrument; 2] = [LARGE, ENTRY];
 
 impl Instrument {
     /// An instrument with any limits, which the library does not have.
     pub fn of(bytes: usize, points: usize) -> Instrument {
-        Instrument { name: "other", number: 0, bytes, points }
+        Instrument { name: "other", number: 0, bytes, points, kinds: KINDS }
+    }
+
+    /// The same without request 2, which the library does not have either.
+    pub fn former(self) -> Instrument {
+        Instrument { kinds: FORMER_KINDS, ..self }
     }
 
     pub fn named(word: &str) -> Option<Instrument> {

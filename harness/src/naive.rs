@@ -11,7 +11,8 @@ use crate::instrument::{Instrument, ENTRY};
 use crate::tree::Tree;
 pub use glushkov::Side;
 pub use matching::{holds, holds_empty};
-pub use reading::{read as read_sheet, Act, Sheet};
+pub use reading::{read as read_sheet, Act, Outcome, Sheet};
+use reading::{Method, Point, Step};
 
 pub const DOORS: Doors = Doors { name: "naive", load, load_entry, word_test, read };
 
@@ -66,41 +67,59 @@ pub fn load(on: &Instrument, bytes: &[u8]) -> Verdict {
             return Verdict::Unproved { rule: rule.number, subject: rule.subject, fault };
         }
     }
-    // The formula of the count adds up to the number of rules.
+    // The count adds up to the number of rules.
     Verdict::Accepted(rules.len())
 }
 
 /// The rules of a sheet, in the order in which they are tested.
 pub fn rules(sheet: &Sheet) -> Vec<Rule> {
     let mut list = vec![];
-    let tree = |number: usize| sheet.conditions[number].clone();
     let mut add = |number, subject, ask| list.push(Rule { number, subject, ask });
-    add(1, 0, Ask::Empty(tree(sheet.methods[0].pre)));
-    add(2, 0, Ask::Empty(tree(sheet.methods[0].future)));
-    for (m, method) in sheet.methods.iter().enumerate() {
-        if let Some((entry, exit)) = method.body {
-            let (entry, exit) = (sheet.points[entry], sheet.points[exit]);
-            add(3, m, Ask::Within(tree(method.pre), tree(entry.past)));
-            add(4, m, Ask::Empty(tree(entry.own)));
-            add(5, m, Ask::Within(tree(exit.own), tree(method.trace)));
-            add(6, m, Ask::Within(tree(method.future), tree(exit.due)));
+    let first = &sheet.methods[0];
+    add(1, 0, Ask::Empty(sheet.conditions[first.pre].clone()));
+    add(2, 0, Ask::Empty(sheet.conditions[first.normal.future].clone()));
+    for (subject, method) in sheet.methods.iter().enumerate() {
+        for (number, ask) in method_rules(sheet, method) {
+            add(number, subject, ask);
+        }
+        if let (0, Some(failed)) = (subject, &method.failed) {
+            add(24, 0, Ask::Empty(sheet.conditions[failed.future].clone()));
         }
     }
-    for s in 0..sheet.steps.len() {
-        for (number, left, right) in step_rules(sheet, s) {
-            list.push(Rule { number, subject: s, ask: Ask::Within(left, right) });
+    for (subject, step) in sheet.steps.iter().enumerate() {
+        for (number, left, right) in step_rules(sheet, step) {
+            add(number, subject, Ask::Within(left, right));
         }
     }
     list
 }
 
-fn step_rules(sheet: &Sheet, step: usize) -> Vec<(usize, Tree, Tree)> {
-    let step = &sheet.steps[step];
+/// The rules of a method with body; those of the first method alone are not among them.
+fn method_rules(sheet: &Sheet, method: &Method) -> Vec<(usize, Ask)> {
+    let Some(entry) = method.entry else {
+        return vec![];
+    };
+    let tree = |number: usize| sheet.conditions[number].clone();
+    let entry = sheet.points[entry];
+    let mut list = vec![
+        (3, Ask::Within(tree(method.pre), tree(entry.past))),
+        (4, Ask::Empty(tree(entry.own))),
+    ];
+    for (outcome, [own, due]) in [(Outcome::Normal, [5, 6]), (Outcome::Failed, [22, 23])] {
+        let Some(ending) = method.ending(outcome) else { continue };
+        let exit = sheet.points[ending.exit.unwrap()];
+        list.push((own, Ask::Within(tree(exit.own), tree(ending.trace))));
+        list.push((due, Ask::Within(tree(ending.future), tree(exit.due))));
+    }
+    list
+}
+
+fn step_rules(sheet: &Sheet, step: &Step) -> Vec<(usize, Tree, Tree)> {
     let (p, q) = (sheet.points[step.from], sheet.points[step.to]);
     let tree = |number: usize| sheet.conditions[number].clone();
-    let past = |p: reading::Point| tree(p.past);
-    let own = |p: reading::Point| tree(p.own);
-    let due = |p: reading::Point| tree(p.due);
+    let past = |p: Point| tree(p.past);
+    let own = |p: Point| tree(p.own);
+    let due = |p: Point| tree(p.due);
     match step.act {
         Act::Event(event) => {
             let a = Tree::event(event);
@@ -112,14 +131,20 @@ fn step_rules(sheet: &Sheet, step: usize) -> Vec<(usize, Tree, Tree)> {
         }
         Act::Call(method) => {
             let called = &sheet.methods[method];
-            let t = tree(called.trace);
-            vec![
-                (10, past(p), tree(called.pre)),
-                (11, past(p).join(t.clone()), past(q)),
-                (12, own(p).join(t.clone()), own(q)),
-                (13, due(q), tree(called.future)),
-                (14, t.join(due(q)), due(p)),
-            ]
+            let mut list = vec![(10, past(p), tree(called.pre))];
+            for (outcome, first) in [(Outcome::Normal, 11), (Outcome::Failed, 18)] {
+                let Some(target) = step.target(outcome) else { continue };
+                // Reading has it that a call has as many outcomes as its method.
+                let (q, ending) = (sheet.points[target], called.ending(outcome).unwrap());
+                let t = tree(ending.trace);
+                list.extend([
+                    (first, past(p).join(t.clone()), past(q)),
+                    (first + 1, own(p).join(t.clone()), own(q)),
+                    (first + 2, due(q), tree(ending.future)),
+                    (first + 3, t.join(due(q)), due(p)),
+                ]);
+            }
+            list
         }
         Act::Pass => {
             vec![(15, past(p), past(q)), (16, own(p), own(q)), (17, due(q), due(p))]

@@ -1,7 +1,7 @@
 //! Runs of a sheet and what is promised of them: document 01, "Runs", with
 //! demand 3, and document 02, Ask 12.
 use crate::derivatives::missing_word;
-use crate::naive::{holds, Act, Sheet};
+use crate::naive::{holds, Act, Outcome, Sheet};
 use crate::random::Random;
 use std::collections::HashMap;
 
@@ -10,15 +10,19 @@ pub struct Call {
     pub method: usize,
     pub step: Option<usize>,
     pub began: usize,
-    pub returned: Option<usize>,
+    /// The history at its return, and its outcome.
+    pub returned: Option<(usize, Outcome)>,
     /// The activation that made it.
     pub maker: Option<usize>,
 }
 
+/// A step's outcome and word are those of a call of a primitive, and not read otherwise.
 pub enum Move {
-    Return,
-    Step(usize, Vec<u8>),
+    Return(Outcome),
+    Step(usize, Outcome, Vec<u8>),
 }
+
+const OUTCOMES: [Outcome; 2] = [Outcome::Normal, Outcome::Failed];
 
 /// What a call breaks.
 #[derive(Clone, Copy, Debug, PartialEq, Eq, Hash, PartialOrd, Ord)]
@@ -44,7 +48,7 @@ pub struct Run<'a> {
 impl<'a> Run<'a> {
     /// The run that has made no move; the first method has a body.
     pub fn start(sheet: &'a Sheet) -> Run<'a> {
-        let (entry, _) = sheet.methods[0].body.unwrap();
+        let entry = sheet.methods[0].entry.unwrap();
         let mut run = Run { sheet, history: vec![], calls: vec![], open: vec![], point: entry };
         run.begin(0, None);
         run
@@ -60,12 +64,11 @@ impl<'a> Run<'a> {
         self.open.push(self.calls.len() - 1);
     }
 
-    fn close(&mut self) {
+    /// Ends the active call with an outcome and leads to a point.
+    fn close(&mut self, outcome: Outcome, target: usize) {
         let call = self.open.pop().unwrap();
-        self.calls[call].returned = Some(self.history.len());
-        if let Some(step) = self.calls[call].step {
-            self.point = self.sheet.steps[step].to;
-        }
+        self.calls[call].returned = Some((self.history.len(), outcome));
+        self.point = target;
     }
 
     /// Makes a move if it can be made; tells whether it was made.
@@ -74,44 +77,71 @@ impl<'a> Run<'a> {
             return false;
         };
         match what {
-            Move::Return => {
-                let body = self.sheet.methods[self.calls[active].method].body;
-                let exits = body.is_some_and(|(_, exit)| exit == self.point);
-                if exits {
-                    self.close();
-                }
-                exits
-            }
-            Move::Step(number, word) => self.make_step(*number, word),
+            Move::Return(outcome) => self.make_return(active, *outcome),
+            Move::Step(number, outcome, word) => self.make_step(*number, *outcome, word),
         }
     }
 
-    fn make_step(&mut self, number: usize, word: &[u8]) -> bool {
+    /// Whether control is at the active method's exit to an outcome.
+    fn at_exit(&self, active: usize, outcome: Outcome) -> bool {
+        let ending = self.sheet.methods[self.calls[active].method].ending(outcome);
+        ending.is_some_and(|ending| ending.exit == Some(self.point))
+    }
+
+    /// The outcomes with which the active call can return.
+    fn exits(&self) -> Vec<Outcome> {
+        let active = self.open.last();
+        let can = |outcome: &Outcome| active.is_some_and(|&call| self.at_exit(call, *outcome));
+        OUTCOMES.into_iter().filter(can).collect()
+    }
+
+    fn make_return(&mut self, active: usize, outcome: Outcome) -> bool {
+        if !self.at_exit(active, outcome) {
+            return false;
+        }
+        let call = &self.calls[active];
+        // The outermost call has no step, and control stays where it is.
+        let target = match call.step {
+            Some(step) => self.sheet.steps[step].target(outcome),
+            None => Some(self.point),
+        };
+        let Some(target) = target else {
+            return false;
+        };
+        self.close(outcome, target);
+        true
+    }
+
+    fn make_step(&mut self, number: usize, outcome: Outcome, word: &[u8]) -> bool {
         let Some(step) = self.sheet.steps.get(number).filter(|step| step.from == self.point) else {
             return false;
         };
         match step.act {
             Act::Event(event) => self.history.push(event),
             Act::Pass => {}
-            Act::Call(method) => return self.make_call(number, method, word),
+            Act::Call(method) => return self.make_call(number, method, outcome, word),
         }
         self.point = step.to;
         true
     }
 
-    fn make_call(&mut self, step: usize, method: usize, word: &[u8]) -> bool {
+    fn make_call(&mut self, step: usize, method: usize, outcome: Outcome, word: &[u8]) -> bool {
         let called = &self.sheet.methods[method];
-        if let Some((entry, _)) = called.body {
+        if let Some(entry) = called.entry {
             self.begin(method, Some(step));
             self.point = entry;
             return true;
         }
-        if !holds(&self.sheet.conditions[called.trace], word) {
+        let target = self.sheet.steps[step].target(outcome);
+        let (Some(ending), Some(target)) = (called.ending(outcome), target) else {
+            return false;
+        };
+        if !holds(&self.sheet.conditions[ending.trace], word) {
             return false;
         }
         self.begin(method, Some(step));
         self.history.extend_from_slice(word);
-        self.close();
+        self.close(outcome, target);
         true
     }
 
@@ -165,16 +195,17 @@ impl<'a> Languages<'a> {
         if !self.holds(method.pre, &run.history[..call.began]) {
             return Some(Broken::Pre);
         }
-        let returned = call.returned?;
+        let (returned, outcome) = call.returned?;
+        let ending = method.ending(outcome).unwrap();
         let since = &run.history[returned..];
-        if !self.holds(method.trace, &run.history[call.began..returned]) {
+        if !self.holds(ending.trace, &run.history[call.began..returned]) {
             return Some(Broken::Trace);
         }
-        if run.ended() && !self.holds(method.future, since) {
+        if run.ended() && !self.holds(ending.future, since) {
             return Some(Broken::Future);
         }
         if run.in_caller(number) {
-            return self.owed(self.sheet.points[run.point].due, method.future, since);
+            return self.owed(self.sheet.points[run.point].due, ending.future, since);
         }
         None
     }
@@ -190,20 +221,34 @@ pub fn random_move(run: &Run, random: &mut Random) -> Move {
     let sheet = run.sheet;
     if random.once_in(5) {
         let word = (0..random.below(3)).map(|_| random.below(4) as u8).collect();
+        let outcome = OUTCOMES[random.below(2)];
         return match random.below(sheet.steps.len() + 2) {
-            0 => Move::Return,
-            number => Move::Step(number - 1, word),
+            0 => Move::Return(outcome),
+            number => Move::Step(number - 1, outcome, word),
         };
     }
     let fitting = |&step: &usize| sheet.steps[step].from == run.point;
     let steps: Vec<usize> = (0..sheet.steps.len()).filter(fitting).collect();
     if steps.is_empty() || random.once_in(3) {
-        return Move::Return;
+        return Move::Return(one_of(&run.exits(), random));
     }
     let step = steps[random.below(steps.len())];
+    let Act::Call(method) = sheet.steps[step].act else {
+        return Move::Step(step, Outcome::Normal, vec![]);
+    };
+    let has = |outcome: &Outcome| sheet.methods[method].ending(*outcome).is_some();
+    let outcome = one_of(&OUTCOMES.into_iter().filter(has).collect::<Vec<_>>(), random);
     let mut word = vec![];
-    if let Act::Call(method) = sheet.steps[step].act {
-        sheet.conditions[sheet.methods[method].trace].word(random, &mut word);
+    if let Some(ending) = sheet.methods[method].ending(outcome) {
+        sheet.conditions[ending.trace].word(random, &mut word);
     }
-    Move::Step(step, word)
+    Move::Step(step, outcome, word)
+}
+
+/// One of some outcomes; the normal one if there is none.
+fn one_of(outcomes: &[Outcome], random: &mut Random) -> Outcome {
+    match outcomes {
+        [] => Outcome::Normal,
+        some => some[random.below(some.len())],
+    }
 }

@@ -63,7 +63,7 @@ fn least() -> Vec<u8> {
 #[test]
 fn starred_refusals() {
     loads(&[], "refused 9 at 0");
-    loads(&hex("0F"), "refused 2 at 0");
+    loads(&hex("0F"), "refused 3 at 0");
     loads(&hex("01"), "refused 3 at 0");
     loads(&hex("03"), "refused 5 at 0");
     loads(&hex("02 06 07 01 00 00 00 00 00"), "refused 7 at 2");

@@ -2,16 +2,19 @@
 use crate::answer::{Answer, Verdict};
 use crate::instrument::{Instrument, BOTH, ENTRY};
 
+/// The numbers of refusals.
+const REFUSALS: [usize; 14] = [1, 2, 3, 4, 5, 6, 7, 8, 9, 10, 12, 13, 14, 18];
+
 /// The answers on one instrument.
 #[derive(Default)]
 struct Answers {
     accepted: usize,
-    refused: [usize; 15],
+    refused: [usize; 19],
     /// By rule and clause.
-    unproved: [[usize; 6]; 18],
+    unproved: [[usize; 6]; 25],
     yes: usize,
     no: usize,
-    word_refused: [usize; 15],
+    word_refused: [usize; 19],
 }
 
 /// Sheets with so many bytes or points, and those of them that each instrument accepts.
@@ -97,7 +100,7 @@ impl Seen {
         println!("| accepted | {} | {} | | |", a.accepted, b.accepted);
         println!("| yes | | | {} | {} |", a.yes, b.yes);
         println!("| no | | | {} | {} |", a.no, b.no);
-        for i in (1..15).filter(|&i| i != 11) {
+        for i in REFUSALS {
             let loads = format!("{} | {}", a.refused[i], b.refused[i]);
             println!("| refused {i} | {loads} | {} | {} |", a.word_refused[i], b.word_refused[i]);
         }

@@ -3,7 +3,10 @@ use crate::answer::Refusal;
 use crate::instrument::Instrument;
 use crate::tree::Tree;
 
-const BODY_LENGTHS: [usize; 14] = [4, 0, 0, 0, 0, 0, 6, 6, 10, 5, 6, 4, 5, 0];
+const BODY_LENGTHS: [usize; 17] = [4, 0, 0, 0, 0, 0, 6, 6, 10, 5, 6, 4, 5, 0, 10, 16, 8];
+
+const METHODS: [u8; 4] = [8, 9, 15, 16];
+const STEPS: [u8; 4] = [10, 11, 12, 17];
 
 struct Record<'a> {
     offset: usize,
@@ -18,11 +21,35 @@ pub struct Point {
     pub due: usize,
 }
 
-pub struct Method {
-    pub pre: usize,
+/// How a call returns.
+#[derive(Clone, Copy, Debug, PartialEq, Eq, Hash, PartialOrd, Ord)]
+pub enum Outcome {
+    Normal,
+    Failed,
+}
+
+/// What a method has for one outcome; a primitive has no exit.
+pub struct Ending {
     pub trace: usize,
     pub future: usize,
-    pub body: Option<(usize, usize)>,
+    pub exit: Option<usize>,
+}
+
+pub struct Method {
+    pub pre: usize,
+    /// A primitive has none.
+    pub entry: Option<usize>,
+    pub normal: Ending,
+    pub failed: Option<Ending>,
+}
+
+impl Method {
+    pub fn ending(&self, outcome: Outcome) -> Option<&Ending> {
+        match outcome {
+            Outcome::Normal => Some(&self.normal),
+            Outcome::Failed => self.failed.as_ref(),
+        }
+    }
 }
 
 pub enum Act {
@@ -34,7 +61,18 @@ pub enum Act {
 pub struct Step {
     pub from: usize,
     pub to: usize,
+    /// The failed target of a call of kind 17.
+    pub failed: Option<usize>,
     pub act: Act,
+}
+
+impl Step {
+    pub fn target(&self, outcome: Outcome) -> Option<usize> {
+        match outcome {
+            Outcome::Normal => Some(self.to),
+            Outcome::Failed => self.failed,
+        }
+    }
 }
 
 #[derive(Default)]
@@ -50,7 +88,7 @@ pub fn read(on: &Instrument, bytes: &[u8]) -> Result<Sheet, Refusal> {
     if bytes.len() > on.bytes {
         return Err(Refusal::at(1, on.bytes));
     }
-    let (records, cut) = split(bytes);
+    let (records, cut) = split(on, bytes);
     for (i, record) in records.iter().enumerate() {
         if let Some(number) = refusal(on, &records[..i], record) {
             return Err(Refusal::at(number, record.offset));
@@ -63,19 +101,19 @@ pub fn read(on: &Instrument, bytes: &[u8]) -> Result<Sheet, Refusal> {
     if (1..=5).contains(&last) || last == 13 {
         return Err(Refusal::at(8, bytes.len()));
     }
-    if count(&records, &[8, 9]) == 0 {
+    if count(&records, &METHODS) == 0 {
         return Err(Refusal::at(9, bytes.len()));
     }
     Ok(build(&records))
 }
 
 /// The records, and refusal 2 or 3 where they stop early.
-fn split(bytes: &[u8]) -> (Vec<Record<'_>>, Option<Refusal>) {
+fn split<'a>(on: &Instrument, bytes: &'a [u8]) -> (Vec<Record<'a>>, Option<Refusal>) {
     let mut records = vec![];
     let mut rest = bytes;
     while let Some((&kind, after)) = rest.split_first() {
         let offset = bytes.len() - rest.len();
-        if !(1..=14).contains(&kind) {
+        if !(1..=on.kinds).contains(&kind) {
             return (records, Some(Refusal::at(2, offset)));
         }
         let length = BODY_LENGTHS[kind as usize - 1];
@@ -88,21 +126,22 @@ fn split(bytes: &[u8]) -> (Vec<Record<'_>>, Option<Refusal>) {
     (records, None)
 }
 
-/// The first of 4 to 7 and 9 that applies to a record.
+/// The first of 4 to 7, 9 and 18 that applies to a record.
 fn refusal(on: &Instrument, before: &[Record], record: &Record) -> Option<usize> {
     type Test = fn(&Instrument, &[Record], &Record) -> bool;
-    let tests: [(usize, Test); 5] = [
+    let tests: [(usize, Test); 6] = [
         (4, |_, before, record| misplaced(before, record)),
         (5, |_, before, record| malformed(before, record)),
         (6, too_many),
         (7, |_, before, record| misnamed(before, record)),
         (9, |_, before, record| primitive_first(before, record)),
+        (18, |_, before, record| other_outcomes(before, record)),
     ];
     tests.iter().find(|(_, test)| test(on, before, record)).map(|(number, _)| *number)
 }
 
 fn section(kind: u8) -> usize {
-    let sections: [&[u8]; 5] = [&[1, 2, 3, 4, 5, 6], &[7], &[8, 9], &[10, 11, 12], &[13, 14]];
+    let sections: [&[u8]; 5] = [&[1, 2, 3, 4, 5, 6], &[7], &METHODS, &STEPS, &[13, 14]];
     sections.iter().position(|kinds| kinds.contains(&kind)).unwrap()
 }
 
@@ -144,8 +183,8 @@ fn too_many(on: &Instrument, before: &[Record], record: &Record) -> bool {
         1..=5 => open_condition(before).len() + 1 > 96,
         6 => count(before, &[6]) + 1 > 256,
         7 => count(before, &[7]) + 1 > on.points,
-        8 | 9 => count(before, &[8, 9]) + 1 > 64,
-        10..=12 => count(before, &[10, 11, 12]) + 1 > 512,
+        kind if METHODS.contains(&kind) => count(before, &METHODS) + 1 > 64,
+        kind if STEPS.contains(&kind) => count(before, &STEPS) + 1 > 512,
         _ => false,
     }
 }
@@ -164,14 +203,29 @@ fn misnamed(before: &[Record], record: &Record) -> bool {
         7 | 8 => any(&[0, 1, 2], &[6]),
         9 => any(&[0, 1, 2], &[6]) || any(&[3, 4], &[7]),
         10 => any(&[0, 1], &[7]) || body[4] > 31,
-        11 => any(&[0, 1], &[7]) || any(&[2], &[8, 9]),
+        11 => any(&[0, 1], &[7]) || any(&[2], &METHODS),
         12 => any(&[0, 1], &[7]),
+        15 => any(&[0, 1, 2, 3, 4], &[6]),
+        16 => any(&[0, 1, 2, 5, 6], &[6]) || any(&[3, 4, 7], &[7]),
+        17 => any(&[0, 1, 2], &[7]) || any(&[3], &METHODS),
         _ => false,
     }
 }
 
 fn primitive_first(before: &[Record], record: &Record) -> bool {
-    record.kind == 8 && count(before, &[8, 9]) == 0
+    matches!(record.kind, 8 | 15) && count(before, &METHODS) == 0
+}
+
+/// A call of kind 11 names a method of kind 15 or 16, or one of kind 17 a method of
+/// kind 8 or 9.
+fn other_outcomes(before: &[Record], record: &Record) -> bool {
+    let (method, others) = match record.kind {
+        11 => (name(record.body, 2), [15, 16]),
+        17 => (name(record.body, 3), [8, 9]),
+        _ => return false,
+    };
+    let mut methods = before.iter().filter(|record| METHODS.contains(&record.kind));
+    methods.nth(method).is_some_and(|named| others.contains(&named.kind))
 }
 
 /// The parts of a sheet whose records are all in order.
@@ -188,8 +242,8 @@ fn build(records: &[Record]) -> Sheet {
                 let (past, own, due) = (name(body, 0), name(body, 1), name(body, 2));
                 sheet.points.push(Point { past, own, due });
             }
-            8 | 9 => sheet.methods.push(method(record)),
-            10..=12 => sheet.steps.push(step(record)),
+            8 | 9 | 15 | 16 => sheet.methods.push(method(record)),
+            10 | 11 | 12 | 17 => sheet.steps.push(step(record)),
             13 => {
                 let set = [body[1], body[2], body[3], body[4]];
                 pairs.push((body[0] as usize, u32::from_le_bytes(set)));
@@ -218,9 +272,20 @@ fn token(record: &Record, items: &mut Vec<Tree>) {
 }
 
 fn method(record: &Record) -> Method {
-    let body = record.body;
-    let points = (record.kind == 9).then(|| (name(body, 3), name(body, 4)));
-    Method { pre: name(body, 0), trace: name(body, 1), future: name(body, 2), body: points }
+    let field = |index: usize| name(record.body, index);
+    // The indices of a trace, a future and an exit.
+    let ending = |trace: usize, future: usize, exit: Option<usize>| Ending {
+        trace: field(trace),
+        future: field(future),
+        exit: exit.map(field),
+    };
+    let (entry, normal, failed) = match record.kind {
+        8 => (None, ending(1, 2, None), None),
+        9 => (Some(field(3)), ending(1, 2, Some(4)), None),
+        15 => (None, ending(1, 2, None), Some(ending(3, 4, None))),
+        _ => (Some(field(3)), ending(1, 2, Some(4)), Some(ending(5, 6, Some(7)))),
+    };
+    Method { pre: field(0), entry, normal, failed }
 }
 
 fn step(record: &Record) -> Step {
@@ -228,7 +293,9 @@ fn step(record: &Record) -> Step {
     let act = match record.kind {
         10 => Act::Event(body[4]),
         11 => Act::Call(name(body, 2)),
+        17 => Act::Call(name(body, 3)),
         _ => Act::Pass,
     };
-    Step { from: name(body, 0), to: name(body, 1), act }
+    let failed = (record.kind == 17).then(|| name(body, 2));
+    Step { from: name(body, 0), to: name(body, 1), failed, act }
 }

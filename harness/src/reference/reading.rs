@@ -1,6 +1,6 @@
-//! Reading a sheet: refusals 1 to 9, and where its parts are.
+//! Reading a sheet: refusals 1 to 9 and 18, and where its parts are.
 use crate::answer::{Counts, Refusal};
-use crate::instrument::Instrument;
+use crate::instrument::{Instrument, KINDS};
 
 const CONDITIONS: usize = 256;
 const RECORDS: usize = 96;
@@ -8,27 +8,47 @@ const LEAVES: usize = 31;
 const METHODS: usize = 64;
 const STEPS: usize = 512;
 
-/// The most points with which the last step starts below 65,536, whatever the bytes:
-/// 256 conditions of 221 bytes at most, 64 methods of 11, 511 steps of 7 and 668
-/// points of 7.
-const MOST_POINTS: usize = 668;
+/// The most points with which the last method starts below 65,536, whatever the bytes:
+/// 256 conditions of 221 bytes at most, 63 methods of 17 and 1,126 points of 7.
+const MOST_POINTS: usize = 1_126;
 
-/// By kind; there is no kind 0.
-const BODY: [u8; 15] = [0, 4, 0, 0, 0, 0, 0, 6, 6, 10, 5, 6, 4, 5, 0];
-const SECTION: [u8; 15] = [0, 1, 1, 1, 1, 1, 1, 2, 3, 3, 4, 4, 4, 5, 5];
+/// By kind, with a row for every byte, so that no index is tested.
+const BODY: [u8; 256] = rows([0, 4, 0, 0, 0, 0, 0, 6, 6, 10, 5, 6, 4, 5, 0, 10, 16, 8]);
+const SECTION: [u8; 256] = rows([0, 1, 1, 1, 1, 1, 1, 2, 3, 3, 4, 4, 4, 5, 5, 3, 3, 4]);
 
 const POINT_LENGTH: usize = 7;
 
-/// A sheet that none of 1 to 9 applies to.
+/// The rows of the kinds from 0 on; there is no kind 0, nor one above the last.
+const fn rows(kinds: [u8; KINDS as usize + 1]) -> [u8; 256] {
+    let mut rows = [0; 256];
+    let mut kind = 1;
+    while kind < kinds.len() {
+        rows[kind] = kinds[kind];
+        kind += 1;
+    }
+    rows
+}
+
+/// How many of something there are, and how many of them have two outcomes.
+#[derive(Clone, Copy, Default)]
+struct Number {
+    all: usize,
+    two: usize,
+}
+
+/// A sheet that none of 1 to 9 and 18 applies to.
 pub struct Sheet<'a> {
     pub bytes: &'a [u8],
     pub counts: Counts,
     pub certificates_at: usize,
-    bodies: usize,
-    calls: usize,
+    /// Methods with body, and call steps.
+    bodies: Number,
+    calls: Number,
     condition_ends: [u16; CONDITIONS],
     points_at: usize,
     methods_at: [u16; METHODS],
+    /// Where the first step is, and from there each.
+    first_step: usize,
     steps_at: [u16; STEPS],
 }
 
@@ -39,32 +59,43 @@ pub struct Point {
     pub due: usize,
 }
 
+/// The conditions of one outcome of a method.
 #[derive(Clone, Copy)]
-pub struct Method {
-    pub pre: usize,
+pub struct Outcome {
     pub trace: usize,
     pub future: usize,
-    /// Entry and exit point.
-    pub body: Option<(usize, usize)>,
 }
 
-#[derive(Clone, Copy)]
+/// A method with body: its entry, and each outcome with the exit that leads to it.
+pub struct Body {
+    pub pre: usize,
+    pub entry: usize,
+    pub normal: (Outcome, usize),
+    pub failed: Option<(Outcome, usize)>,
+}
+
+/// A call step: its method's pre, and each outcome with the target that it leads to.
+pub struct Call {
+    pub pre: usize,
+    pub normal: (Outcome, usize),
+    pub failed: Option<(Outcome, usize)>,
+}
+
+/// What a step does; an event and a pass have a target.
 pub enum Act {
-    Event(u8),
-    Call(usize),
-    Pass,
+    Event(u8, usize),
+    Call(Call),
+    Pass(usize),
 }
 
-#[derive(Clone, Copy)]
 pub struct Step {
     pub from: usize,
-    pub to: usize,
     pub act: Act,
 }
 
 impl<'a> Sheet<'a> {
     pub fn read(on: &Instrument, bytes: &'a [u8]) -> Result<Sheet<'a>, Refusal> {
-        assert!(on.points <= MOST_POINTS);
+        assert!(on.points <= MOST_POINTS && on.kinds <= KINDS);
         if bytes.len() > on.bytes {
             return Err(Refusal::at(1, on.bytes));
         }
@@ -72,7 +103,7 @@ impl<'a> Sheet<'a> {
         let mut at = 0;
         while at < bytes.len() {
             let kind = bytes[at];
-            if kind == 0 || kind > 14 {
+            if kind == 0 || kind > on.kinds {
                 return Err(Refusal::at(2, at));
             }
             let next = at + 1 + BODY[kind as usize] as usize;
@@ -106,30 +137,62 @@ impl<'a> Sheet<'a> {
         Point { past: self.name(at), own: self.name(at + 2), due: self.name(at + 4) }
     }
 
-    pub fn method(&self, number: usize) -> Method {
+    /// The conditions of an outcome, which stand side by side.
+    fn outcome(&self, at: usize) -> Outcome {
+        Outcome { trace: self.name(at), future: self.name(at + 2) }
+    }
+
+    /// A method, if it has a body.
+    pub fn body(&self, number: usize) -> Option<Body> {
         let at = self.methods_at[number] as usize;
-        let body = (self.bytes[at] == 9).then(|| (self.name(at + 7), self.name(at + 9)));
-        let (pre, trace, future) = (self.name(at + 1), self.name(at + 3), self.name(at + 5));
-        Method { pre, trace, future, body }
+        let kind = self.bytes[at];
+        if kind != 9 && kind != 16 {
+            return None;
+        }
+        Some(Body {
+            pre: self.name(at + 1),
+            entry: self.name(at + 7),
+            normal: (self.outcome(at + 3), self.name(at + 9)),
+            failed: (kind == 16).then(|| (self.outcome(at + 11), self.name(at + 15))),
+        })
     }
 
     pub fn step(&self, number: usize) -> Step {
-        let at = self.steps_at[number] as usize;
+        let at = self.first_step + self.steps_at[number] as usize;
+        let (from, to) = (self.name(at + 1), self.name(at + 3));
         let act = match self.bytes[at] {
-            10 => Act::Event(self.bytes[at + 5]),
-            11 => Act::Call(self.name(at + 5)),
-            _ => Act::Pass,
+            10 => Act::Event(self.bytes[at + 5], to),
+            12 => Act::Pass(to),
+            11 => Act::Call(self.call(self.name(at + 5), to, None)),
+            _ => Act::Call(self.call(self.name(at + 7), to, Some(self.name(at + 5)))),
         };
-        Step { from: self.name(at + 1), to: self.name(at + 3), act }
+        Step { from, act }
     }
 
+    /// A call of a method, with its target and, if it has one, its failed target.
+    fn call(&self, method: usize, to: usize, failed: Option<usize>) -> Call {
+        let at = self.methods_at[method] as usize;
+        // The failed conditions follow a future, or an exit.
+        let failing = if self.bytes[at] == 15 { at + 7 } else { at + 11 };
+        Call {
+            pre: self.name(at + 1),
+            normal: (self.outcome(at + 3), to),
+            failed: failed.map(|target| (self.outcome(failing), target)),
+        }
+    }
+
+    /// The rules with a certificate.
     pub fn certificates_needed(&self) -> usize {
-        3 * self.bodies + 3 * (self.counts.steps - self.calls) + 5 * self.calls
+        let Number { all: calls, two: failing } = self.calls;
+        let steps = 3 * (self.counts.steps - calls) + 5 * calls + 4 * failing;
+        3 * self.bodies.all + 2 * self.bodies.two + steps
     }
 
-    /// The count of an accepted sheet.
+    /// The count of an accepted sheet: the rules with a certificate, 1 and 2, 4 of
+    /// each method with body, and 24 of a first method with two outcomes.
     pub fn count(&self) -> usize {
-        2 + 4 * self.bodies + 3 * (self.counts.steps - self.calls) + 5 * self.calls
+        let first = (self.bytes[self.methods_at[0] as usize] == 16) as usize;
+        self.certificates_needed() + 2 + self.bodies.all + first
     }
 }
 
@@ -152,11 +215,12 @@ impl<'a> Reader<'a> {
             bytes,
             counts: Counts::default(),
             certificates_at: bytes.len(),
-            bodies: 0,
-            calls: 0,
+            bodies: Number::default(),
+            calls: Number::default(),
             condition_ends: [0; CONDITIONS],
             points_at: 0,
             methods_at: [0; METHODS],
+            first_step: 0,
             steps_at: [0; STEPS],
         };
         Reader { sheet, points, section: 0, records: 0, leaves: 0, items: 0, in_certificate: false }
@@ -176,17 +240,17 @@ impl<'a> Reader<'a> {
             1..=5 => self.token(kind),
             6 => self.end_of_condition(at),
             7 => self.point(at),
-            8 | 9 => self.method(kind, at),
-            10..=12 => self.step(kind, at),
             13 => {
                 self.in_certificate = true;
                 Ok(())
             }
-            _ => {
+            14 => {
                 self.in_certificate = false;
                 self.sheet.counts.certificates += 1;
                 Ok(())
             }
+            8 | 9 | 15 | 16 => self.method(kind, at),
+            _ => self.step(kind, at),
         }
     }
 
@@ -252,11 +316,18 @@ impl<'a> Reader<'a> {
         if number == METHODS {
             return Err(6);
         }
-        self.names(at + 1, 3, self.sheet.counts.conditions)?;
-        if kind == 9 {
-            self.names(at + 7, 2, self.sheet.counts.points)?;
-            self.sheet.bodies += 1;
-        } else if number == 0 {
+        let Counts { conditions, points, .. } = self.sheet.counts;
+        self.names(at + 1, if kind == 15 { 5 } else { 3 }, conditions)?;
+        if kind == 9 || kind == 16 {
+            self.names(at + 7, 2, points)?;
+            self.sheet.bodies.all += 1;
+        }
+        if kind == 16 {
+            self.names(at + 11, 2, conditions)?;
+            self.names(at + 15, 1, points)?;
+            self.sheet.bodies.two += 1;
+        }
+        if number == 0 && (kind == 8 || kind == 15) {
             return Err(9);
         }
         self.sheet.methods_at[number] = at as u16;
@@ -273,12 +344,32 @@ impl<'a> Reader<'a> {
         if kind == 10 && self.sheet.bytes[at + 5] > 31 {
             return Err(7);
         }
-        if kind == 11 {
-            self.names(at + 5, 1, self.sheet.counts.methods)?;
-            self.sheet.calls += 1;
+        match kind {
+            11 => self.call(at + 5, false)?,
+            17 => {
+                self.names(at + 5, 1, self.sheet.counts.points)?;
+                self.call(at + 7, true)?;
+            }
+            _ => {}
         }
-        self.sheet.steps_at[number] = at as u16;
+        if number == 0 {
+            self.sheet.first_step = at;
+        }
+        self.sheet.steps_at[number] = (at - self.sheet.first_step) as u16;
         self.sheet.counts.steps += 1;
+        Ok(())
+    }
+
+    /// A call of the method that is named at an offset, with one outcome or two; 18 if
+    /// the method has not as many.
+    fn call(&mut self, at: usize, two: bool) -> Result<(), usize> {
+        self.names(at, 1, self.sheet.counts.methods)?;
+        let method = self.sheet.methods_at[self.sheet.name(at)] as usize;
+        if (self.sheet.bytes[method] > 14) != two {
+            return Err(18);
+        }
+        self.sheet.calls.all += 1;
+        self.sheet.calls.two += two as usize;
         Ok(())
     }
 

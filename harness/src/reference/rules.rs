@@ -1,8 +1,14 @@
-//! The seventeen rules, in order.
+//! The rules, in order.
 use super::clauses::{self, Pair};
 use super::places::{holds_empty, Side};
-use super::reading::{Act, Sheet};
+use super::reading::{Act, Outcome, Point, Sheet};
 use crate::answer::{Fault, Verdict};
+
+/// Of each outcome, the numbers of the rules of an exit, and of a call's target.
+const EXIT: [usize; 2] = [5, 6];
+const FAILED_EXIT: [usize; 2] = [22, 23];
+const TARGET: [usize; 4] = [11, 12, 13, 14];
+const FAILED_TARGET: [usize; 4] = [18, 19, 20, 21];
 
 /// A left side, by the numbers of its conditions.
 enum Left {
@@ -31,9 +37,10 @@ pub fn test(sheet: &Sheet) -> Result<(), Verdict> {
         right: Side::new(),
         pairs: Vec::with_capacity(room),
     };
-    let main = sheet.method(0);
-    tester.empty(1, 0, main.pre)?;
-    tester.empty(2, 0, main.future)?;
+    if let Some(main) = sheet.body(0) {
+        tester.empty(1, 0, main.pre)?;
+        tester.empty(2, 0, main.normal.0.future)?;
+    }
     for number in 0..sheet.counts.methods {
         tester.method(number)?;
     }
@@ -45,40 +52,75 @@ pub fn test(sheet: &Sheet) -> Result<(), Verdict> {
 
 impl Tester<'_> {
     fn method(&mut self, number: usize) -> Result<(), Verdict> {
-        let method = self.sheet.method(number);
-        let Some((entry, exit)) = method.body else {
+        let Some(body) = self.sheet.body(number) else {
             return Ok(());
         };
-        let (entry, exit) = (self.sheet.point(entry), self.sheet.point(exit));
-        self.within(3, number, Left::Whole(method.pre), entry.past)?;
+        let entry = self.sheet.point(body.entry);
+        self.within(3, number, Left::Whole(body.pre), entry.past)?;
         self.empty(4, number, entry.own)?;
-        self.within(5, number, Left::Whole(exit.own), method.trace)?;
-        self.within(6, number, Left::Whole(method.future), exit.due)
+        self.exit(EXIT, number, body.normal)?;
+        let Some(failed) = body.failed else {
+            return Ok(());
+        };
+        self.exit(FAILED_EXIT, number, failed)?;
+        match number {
+            0 => self.empty(24, 0, failed.0.future),
+            _ => Ok(()),
+        }
+    }
+
+    /// The rules of a method's exit to an outcome.
+    fn exit(
+        &mut self,
+        [own, due]: [usize; 2],
+        number: usize,
+        (outcome, exit): (Outcome, usize),
+    ) -> Result<(), Verdict> {
+        let exit = self.sheet.point(exit);
+        self.within(own, number, Left::Whole(exit.own), outcome.trace)?;
+        self.within(due, number, Left::Whole(outcome.future), exit.due)
     }
 
     fn step(&mut self, number: usize) -> Result<(), Verdict> {
         let step = self.sheet.step(number);
-        let (p, q) = (self.sheet.point(step.from), self.sheet.point(step.to));
+        let p = self.sheet.point(step.from);
         match step.act {
-            Act::Event(a) => {
+            Act::Event(a, to) => {
+                let q = self.sheet.point(to);
                 self.within(7, number, Left::Before(p.past, a), q.past)?;
                 self.within(8, number, Left::Before(p.own, a), q.own)?;
                 self.within(9, number, Left::After(a, q.due), p.due)
             }
-            Act::Call(method) => {
-                let called = self.sheet.method(method);
-                self.within(10, number, Left::Whole(p.past), called.pre)?;
-                self.within(11, number, Left::Joined(p.past, called.trace), q.past)?;
-                self.within(12, number, Left::Joined(p.own, called.trace), q.own)?;
-                self.within(13, number, Left::Whole(q.due), called.future)?;
-                self.within(14, number, Left::Joined(called.trace, q.due), p.due)
+            Act::Call(call) => {
+                self.within(10, number, Left::Whole(p.past), call.pre)?;
+                self.target(TARGET, number, p, call.normal)?;
+                match call.failed {
+                    Some(failed) => self.target(FAILED_TARGET, number, p, failed),
+                    None => Ok(()),
+                }
             }
-            Act::Pass => {
+            Act::Pass(to) => {
+                let q = self.sheet.point(to);
                 self.within(15, number, Left::Whole(p.past), q.past)?;
                 self.within(16, number, Left::Whole(p.own), q.own)?;
                 self.within(17, number, Left::Whole(q.due), p.due)
             }
         }
+    }
+
+    /// The rules of a call's target for an outcome.
+    fn target(
+        &mut self,
+        [past, own, future, due]: [usize; 4],
+        number: usize,
+        p: Point,
+        (outcome, target): (Outcome, usize),
+    ) -> Result<(), Verdict> {
+        let q = self.sheet.point(target);
+        self.within(past, number, Left::Joined(p.past, outcome.trace), q.past)?;
+        self.within(own, number, Left::Joined(p.own, outcome.trace), q.own)?;
+        self.within(future, number, Left::Whole(q.due), outcome.future)?;
+        self.within(due, number, Left::Joined(outcome.trace, q.due), p.due)
     }
 
     /// A rule that a condition holds the empty word.

@@ -168,7 +168,8 @@ fn testing_words() {
     tests(1, &[2], REFUSED, 14, &[NO_PLACE]);
     tests(usize::MAX, &[2], REFUSED, 14, &[NO_PLACE]);
     for on in [LARGE, ENTRY] {
-        gives(|out| raw::word_test(on, &[15], 0, &[], out), REFUSED, 2, &[0]);
+        gives(|out| raw::word_test(on, &[15], 0, &[], out), REFUSED, 3, &[0]);
+        gives(|out| raw::word_test(on, &[18], 0, &[], out), REFUSED, 2, &[0]);
     }
     let long = [0; 8_193];
     gives(|out| raw::word_test(LARGE, &long, 0, &[], out), REFUSED, 2, &[0]);
@@ -194,7 +195,8 @@ fn from_c() {
     for standard in ["c89", "c99"] {
         let Some(program) = compiled(standard) else { return };
         from_c_prints(&program, &least(), ["accepted 0 6 0 0 0 0 0"; 2]);
-        from_c_prints(&program, &[15], ["refused 2 0 0 0 0 0 0"; 2]);
+        from_c_prints(&program, &[15], ["refused 3 0 0 0 0 0 0"; 2]);
+        from_c_prints(&program, &[18], ["refused 2 0 0 0 0 0 0"; 2]);
         from_c_prints(&program, &unproved(), ["unproved 11 5 0 3 0 0 0"; 2]);
         let lines = ["refused 2 0 0 0 0 0 0", "refused 1 8192 0 0 0 0 0"];
         from_c_prints(&program, &[0; 8_193], lines);

@@ -1,7 +1,7 @@
 //! Runs, demand 3 and Ask 12.
 use crate::derivatives::missing_word;
 use crate::instrument::LARGE;
-use crate::naive::{self, holds};
+use crate::naive::{self, holds, Outcome};
 use crate::random::Random;
 use crate::runs::{Broken, Languages, Move, Run};
 use crate::simulate::Totals;
@@ -15,12 +15,14 @@ fn example(name: &str) -> naive::Sheet {
 }
 
 fn step(number: usize) -> Move {
-    Move::Step(number, vec![])
+    Move::Step(number, Outcome::Normal, vec![])
 }
 
 fn close(number: usize) -> Move {
-    Move::Step(number, vec![1])
+    Move::Step(number, Outcome::Normal, vec![1])
 }
+
+const RETURN: Move = Move::Return(Outcome::Normal);
 
 /// Makes moves, each of which can be made.
 fn make(run: &mut Run, moves: &[Move]) {
@@ -43,12 +45,12 @@ fn what_is_owed_after_the_callers_return() {
     make(&mut run, &[step(0), close(2)]);
     assert_eq!(languages.first_break(&run), None);
     for (next, broken) in
-        [(Move::Return, Broken::Owed), (step(1), Broken::Owed), (Move::Return, Broken::Future)]
+        [(RETURN, Broken::Owed), (step(1), Broken::Owed), (RETURN, Broken::Future)]
     {
         make(&mut run, &[next]);
         assert_eq!(languages.first_break(&run), Some((2, broken)));
     }
-    assert!(run.ended() && !run.make(&Move::Return) && !run.make(&step(0)));
+    assert!(run.ended() && !run.make(&RETURN) && !run.make(&step(0)));
 }
 
 /// Two activations of one method by one step with one caller and one history.
@@ -60,7 +62,7 @@ fn activations_are_told_apart() {
     make(&mut run, &[step(0), step(1), step(0)]);
     let (first, probed) = (2, 3);
     assert_eq!((run.open.as_slice(), run.in_caller(probed)), (&[0, first][..], true));
-    make(&mut run, &[step(2), Move::Return]);
+    make(&mut run, &[step(2), RETURN]);
     assert!(run.in_caller(probed));
     make(&mut run, &[step(1)]);
     let second = 4;
@@ -72,7 +74,7 @@ fn activations_are_told_apart() {
     );
     assert_eq!(languages.first_break(&run), None);
     let due = sheet.points[run.point].due;
-    let future = sheet.methods[run.calls[probed].method].future;
+    let future = sheet.methods[run.calls[probed].method].normal.future;
     let word = missing_word(&sheet.conditions[due], &sheet.conditions[future], &[]);
     assert_eq!(word, Ok(Some(vec![0])));
 }
@@ -84,9 +86,9 @@ fn moves_that_cannot_be_made_change_nothing() {
     assert!(!run.make(&close(1)) && !run.make(&step(9)));
     make(&mut run, &[step(0)]);
     for word in [vec![], vec![2], vec![1, 1]] {
-        assert!(!run.make(&Move::Step(1, word)));
+        assert!(!run.make(&Move::Step(1, Outcome::Normal, word)));
     }
-    assert!(!run.make(&Move::Return));
+    assert!(!run.make(&RETURN));
     assert_eq!((run.history.as_slice(), run.calls.len()), (&[2][..], 1));
 }
 

@@ -100,7 +100,7 @@ fn stored_sheets() {
     let file = [&length[..], &sheet, &[0; 4], &[1, 0, 0, 0, 15]].concat();
     for doors in &BOTH {
         let lines = vectors::lines(doors, &LARGE, &vectors::Kind::Sheets, &file).unwrap();
-        assert_eq!(lines, ["accepted 6", "refused 9 at 0", "refused 2 at 0"]);
+        assert_eq!(lines, ["accepted 6", "refused 9 at 0", "refused 3 at 0"]);
     }
     assert!(vectors::sheets(&file[..20]).is_err());
 }
