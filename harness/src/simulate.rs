@@ -1,7 +1,7 @@
 //! Random runs of stored sheets, checked state by state.
 use crate::answer::{Doors, Verdict};
 use crate::instrument::LARGE;
-use crate::naive;
+use crate::naive::{self, Outcome};
 use crate::random::Random;
 use crate::runs::{random_move, Broken, Languages, Run};
 use crate::vectors;
@@ -18,7 +18,12 @@ pub struct Totals {
     pub runs: usize,
     pub states: usize,
     pub ended: usize,
+    /// Calls that failed in a state that was looked at, and runs that ended so.
+    pub failed: usize,
+    pub ended_failed: usize,
     pub owed: usize,
+    /// Of these futures, those of calls that failed.
+    pub owed_failed: usize,
     pub past_maker: usize,
     pub broken: BTreeMap<Broken, usize>,
 }
@@ -26,10 +31,15 @@ pub struct Totals {
 impl Totals {
     fn state(&mut self, run: &Run) {
         self.states += 1;
-        let returned = (0..run.calls.len()).filter(|&call| run.calls[call].returned.is_some());
-        for call in returned.filter(|&call| run.in_caller(call)) {
-            self.owed += 1;
-            self.past_maker += (run.calls[call].maker != run.open.last().copied()) as usize;
+        for (number, call) in run.calls.iter().enumerate() {
+            let Some((_, outcome)) = call.returned else { continue };
+            let failed = (outcome == Outcome::Failed) as usize;
+            self.failed += failed;
+            if run.in_caller(number) {
+                self.owed += 1;
+                self.owed_failed += failed;
+                self.past_maker += (call.maker != run.open.last().copied()) as usize;
+            }
         }
     }
 
@@ -61,6 +71,8 @@ impl Totals {
             run.make(&next);
         }
         self.ended += run.ended() as usize;
+        let failed = run.calls[0].returned.is_some_and(|(_, outcome)| outcome == Outcome::Failed);
+        self.ended_failed += failed as usize;
     }
 }
 
@@ -75,9 +87,12 @@ pub fn simulate(crates: &str, doors: &Doors, seed: u64) -> Result<usize, String>
             totals.sheet(&sheet, &mut random);
         }
     }
-    let Totals { sheets, runs, states, ended, owed, past_maker, broken } = totals;
-    println!("{sheets} sheets that the {} accepts, {runs} runs, {ended} ended", doors.name);
-    println!("{states} states; {owed} futures owed, {past_maker} after the caller's return");
+    let Totals { sheets, runs, states, ended, owed, past_maker, broken, .. } = &totals;
+    let Totals { failed, ended_failed, owed_failed, .. } = &totals;
+    println!("{sheets} sheets that the {} accepts, {runs} runs", doors.name);
+    println!("{ended} runs ended, {ended_failed} of them as method 0 failed");
+    println!("{states} states, with {failed} calls that failed");
+    println!("{owed} futures owed, {owed_failed} of failed calls, {past_maker} after the caller's return");
     println!("{} breaks {broken:?}", broken.values().sum::<usize>());
     Ok(broken.values().sum())
 }

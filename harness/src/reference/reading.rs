@@ -226,7 +226,9 @@ impl<'a> Reader<'a> {
         Reader { sheet, points, section: 0, records: 0, leaves: 0, items: 0, in_certificate: false }
     }
 
-    /// One whole record; an error is the number of its refusal.
+    /// One whole record; an error is the number of its refusal. Methods and steps are
+    /// few, and kept out of the loop over all records.
+    #[inline(always)]
     fn record(&mut self, kind: u8, at: usize) -> Result<(), usize> {
         let section = SECTION[kind as usize];
         if section < self.section || (self.records > 0 && kind > 6) {
@@ -311,6 +313,7 @@ impl<'a> Reader<'a> {
         Ok(())
     }
 
+    #[inline(never)]
     fn method(&mut self, kind: u8, at: usize) -> Result<(), usize> {
         let number = self.sheet.counts.methods;
         if number == METHODS {
@@ -335,6 +338,7 @@ impl<'a> Reader<'a> {
         Ok(())
     }
 
+    #[inline(never)]
     fn step(&mut self, kind: u8, at: usize) -> Result<(), usize> {
         let number = self.sheet.counts.steps;
         if number == STEPS {
