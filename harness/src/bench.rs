@@ -42,7 +42,14 @@ type Make = Box<dyn Fn(&str) -> Family>;
 
 /// The families by name; each is made where it is asked for.
 fn families() -> Vec<(&'static str, Make)> {
-    let mut list: Vec<(&str, Make)> = vec![("small honest sheet", Box::new(small))];
+    let smalls: [(&str, fn(usize) -> Vec<Vec<u8>>); 2] = [
+        ("small honest sheet", sheets::small_honest),
+        ("small honest sheet, two outcomes", sheets::small_failing),
+    ];
+    let mut list: Vec<(&str, Make)> = vec![];
+    for (name, make) in smalls {
+        list.push((name, Box::new(move |name| small(name, make(200)))));
+    }
     let loads: [(&str, fn() -> Vec<u8>); 3] = [
         ("as many rules as fit", sheets::many_rules),
         ("as many rules as fit, under 35 stars", sheets::starred_rules),
@@ -71,8 +78,7 @@ fn families() -> Vec<(&'static str, Make)> {
     list
 }
 
-fn small(name: &str) -> Family {
-    let small = sheets::small_honest(200);
+fn small(name: &str, small: Vec<Vec<u8>>) -> Family {
     let bytes: usize = small.iter().map(Vec::len).sum();
     let name = format!("{name}, {} bytes on average", bytes / small.len());
     let parts = small.len();

@@ -1,6 +1,7 @@
 //! Seeded sheets and words to try.
 
 mod draft;
+mod failing;
 mod families;
 mod honest;
 mod hostile;
@@ -14,11 +15,13 @@ use crate::instrument::{ENTRY, LARGE};
 use crate::naive;
 use crate::random::Random;
 #[cfg(test)]
-pub use draft::{certificate, Draft, Step};
+pub use draft::{certificate, Draft, Method, Step};
+#[cfg(test)]
+pub use failing::failing;
 use families::entry_rules;
 pub use families::{
-    changing_word, large_certificate, many_records, many_rules, single_word, small_honest,
-    starred_rules, steady_word,
+    changing_word, large_certificate, many_records, many_rules, single_word, small_failing,
+    small_honest, starred_rules, steady_word,
 };
 pub use hostile::HOSTILE;
 pub use limits::limits;
@@ -36,9 +39,9 @@ pub fn sheet(random: &mut Random) -> Vec<u8> {
         5..=19 => stray::records(random),
         20..=21 => stray::at_a_limit(random),
         22..=24 => honest::wild(random),
-        25..=39 => honest::honest(random).certified(),
+        25..=39 => failing::either(random).certified(),
         40..=59 => {
-            let mut draft = honest::honest(random);
+            let mut draft = failing::either(random);
             honest::spoil(&mut draft, random);
             draft.certified()
         }
@@ -46,7 +49,7 @@ pub fn sheet(random: &mut Random) -> Vec<u8> {
         62..=65 => mutate::mutate(&honest::large(random).certified(), random),
         94..=99 => limits::around_entry(random),
         _ => {
-            let mut sheet = honest::honest(random).certified();
+            let mut sheet = failing::either(random).certified();
             for _ in 0..1 + random.below(2) {
                 sheet = mutate::mutate(&sheet, random);
             }

@@ -12,14 +12,47 @@ pub enum Step {
     Event(usize, usize, u8),
     Call(usize, usize, usize),
     Pass(usize, usize),
+    /// A call that can fail: from, to, failed target, method.
+    Failing(usize, usize, usize, usize),
+}
+
+/// A method. Its conditions are three, and two more if it can fail: the failed trace
+/// and the failed future. Its points are none of a primitive; entry and exit of a
+/// method with body, and the failed exit if it can fail.
+#[derive(Clone, Default)]
+pub struct Method {
+    pub conditions: Vec<usize>,
+    pub points: Vec<usize>,
+}
+
+impl Method {
+    pub fn new(conditions: &[usize], points: &[usize]) -> Method {
+        Method { conditions: conditions.to_vec(), points: points.to_vec() }
+    }
+
+    pub fn fails(&self) -> bool {
+        self.conditions.len() == 5
+    }
+
+    /// Its kind, and its names in the order of the record.
+    fn record(&self) -> (u8, Vec<usize>) {
+        let kind = match (self.fails(), self.points.is_empty()) {
+            (false, true) => 8,
+            (false, false) => 9,
+            (true, true) => 15,
+            (true, false) => 16,
+        };
+        let (conditions, failed) = self.conditions.split_at(3);
+        let (points, failed_exit) = self.points.split_at(self.points.len().min(2));
+        (kind, [conditions, points, failed, failed_exit].concat())
+    }
 }
 
 #[derive(Clone, Default)]
 pub struct Draft {
     pub conditions: Vec<Tree>,
     pub points: Vec<[usize; 3]>,
-    /// Three names for a primitive, five for a method with body.
-    pub methods: Vec<Vec<usize>>,
+    pub methods: Vec<Method>,
     pub steps: Vec<Step>,
 }
 
@@ -51,8 +84,9 @@ impl Draft {
             names(&mut out, point);
         }
         for method in &self.methods {
-            out.push(if method.len() == 3 { 8 } else { 9 });
-            names(&mut out, method);
+            let (kind, record) = method.record();
+            out.push(kind);
+            names(&mut out, &record);
         }
         for step in &self.steps {
             match *step {
@@ -68,6 +102,10 @@ impl Draft {
                 Step::Pass(from, to) => {
                     out.push(12);
                     names(&mut out, &[from, to]);
+                }
+                Step::Failing(from, to, failed, method) => {
+                    out.push(17);
+                    names(&mut out, &[from, to, failed, method]);
                 }
             }
         }

@@ -1,5 +1,6 @@
 //! The sheets of the timings.
-use super::draft::{certify, Draft, Step};
+use super::draft::{certify, Draft, Method, Step};
+use super::failing::failing;
 use super::honest::honest;
 use super::hostile::by_entry;
 use super::stray::{least, row};
@@ -14,10 +15,24 @@ pub const LONGEST: usize = LARGE.bytes;
 
 /// Small accepted sheets.
 pub fn small_honest(count: usize) -> Vec<Vec<u8>> {
+    small(count, honest)
+}
+
+/// Small accepted sheets with calls that can fail.
+pub fn small_failing(count: usize) -> Vec<Vec<u8>> {
+    small(count, |random| loop {
+        let draft = failing(random);
+        if draft.steps.iter().any(|step| matches!(step, Step::Failing(..))) {
+            return draft;
+        }
+    })
+}
+
+fn small(count: usize, make: fn(&mut Random) -> Draft) -> Vec<Vec<u8>> {
     let mut random = Random::new(7);
     let mut sheets = vec![];
     while sheets.len() < count {
-        let sheet = honest(&mut random).certified();
+        let sheet = make(&mut random).certified();
         let accepted = matches!(reference::load(&LARGE, &sheet), Verdict::Accepted(_));
         if accepted && sheet.len() < 2_048 {
             sheets.push(sheet);
@@ -60,7 +75,7 @@ fn rules_on(heavy: &Tree, on: &Instrument, methods: usize, steps: usize) -> Vec<
         draft.point(heavy, heavy, heavy);
     }
     let last = on.points - 1;
-    draft.methods = (0..methods).map(|m| vec![0, 0, 0, m, last - m]).collect();
+    draft.methods = (0..methods).map(|m| Method::new(&[0; 3], &[m, last - m])).collect();
     let call = |s| Step::Call(s % on.points, last - s % on.points, s % methods);
     draft.steps = (0..steps).map(call).collect();
     let mut left = on.bytes - draft.certified().len();

@@ -1,5 +1,5 @@
 //! Drafts whose rules hold, and drafts spoilt after that.
-use super::draft::{Draft, Step};
+use super::draft::{Draft, Method, Step};
 use crate::random::Random;
 use crate::tree::Tree;
 
@@ -26,20 +26,32 @@ pub fn wild(random: &mut Random) -> Vec<u8> {
     }
     let methods = 1 + random.below(4);
     for number in 0..methods {
-        let mut names: Vec<usize> = (0..3).map(|_| random.below(conditions)).collect();
-        if number == 0 || random.once_in(2) {
-            names.extend((0..2).map(|_| random.below(points)));
-        }
-        draft.methods.push(names);
+        let failing = random.below(2);
+        let body = (number == 0 || random.once_in(2)) as usize;
+        let names = (0..3 + 2 * failing).map(|_| random.below(conditions)).collect();
+        let places = (0..body * (2 + failing)).map(|_| random.below(points)).collect();
+        draft.methods.push(Method { conditions: names, points: places });
     }
     for _ in 0..random.below(5) {
         let step = random_step(random, points, methods);
+        let unfit = random.once_in(20);
+        let step = if unfit { step } else { fitted(step, &draft.methods, points, random) };
         draft.steps.push(step);
     }
     draft.certified()
 }
 
-fn random_step(random: &mut Random, points: usize, methods: usize) -> Step {
+/// A call of a method that can fail gets a failed target.
+pub fn fitted(step: Step, methods: &[Method], points: usize, random: &mut Random) -> Step {
+    match step {
+        Step::Call(from, to, method) if methods[method].fails() => {
+            Step::Failing(from, to, random.below(points), method)
+        }
+        step => step,
+    }
+}
+
+pub fn random_step(random: &mut Random, points: usize, methods: usize) -> Step {
     let (from, to) = (random.below(points), random.below(points));
     match random.below(3) {
         0 => Step::Event(from, to, random.below(4) as u8),
@@ -53,7 +65,7 @@ fn random_step(random: &mut Random, points: usize, methods: usize) -> Step {
 pub fn honest(random: &mut Random) -> Draft {
     let mut draft = Draft::default();
     let bodies = 1 + random.below(3);
-    draft.methods = vec![vec![]; bodies];
+    draft.methods = vec![Method::default(); bodies];
     let open: Vec<bool> = (0..bodies).map(|_| random.once_in(3)).collect();
     let callable: Vec<usize> = (0..bodies).filter(|&m| open[m]).collect();
     for (number, &open) in open.iter().enumerate() {
@@ -67,8 +79,8 @@ pub fn honest(random: &mut Random) -> Draft {
     draft
 }
 
-/// One call with sides of many leaves: left sides are stars of a few events
-/// a leaf, right sides stars whose leaves cover all events.
+/// One call, which may fail, with sides of many leaves: left sides are stars of a few
+/// events a leaf, right sides stars whose leaves cover all events.
 pub fn large(random: &mut Random) -> Draft {
     let mut draft = Draft::default();
     let [pre, past, own, trace, due] = [0; 5].map(|_| wide_star(random));
@@ -77,10 +89,18 @@ pub fn large(random: &mut Random) -> Draft {
     let p = draft.point(&past, &own, &d);
     let q = draft.point(&a, &b, &due);
     let names = [&pre, &Tree::any(), &Tree::Empty].map(|tree| draft.condition(tree));
-    draft.methods.push([names.as_slice(), &[entry, entry]].concat());
+    draft.methods.push(Method::new(&names, &[entry, entry]));
     let names = [&b, &trace, &c].map(|tree| draft.condition(tree));
-    draft.methods.push(names.to_vec());
-    draft.steps.push(Step::Call(p, q, 1));
+    if random.once_in(2) {
+        draft.methods.push(Method::new(&names, &[]));
+        draft.steps.push(Step::Call(p, q, 1));
+        return draft;
+    }
+    let [trace, due] = [0; 2].map(|_| wide_star(random));
+    let failed = draft.point(&c, &a, &due);
+    let more = [&trace, &d].map(|tree| draft.condition(tree));
+    draft.methods.push(Method::new(&[&names[..], &more].concat(), &[]));
+    draft.steps.push(Step::Failing(p, q, failed, 1));
     draft
 }
 
@@ -101,12 +121,13 @@ fn loose(draft: &mut Draft, random: &mut Random, number: usize, callable: &[usiz
     }
     let name = draft.condition(&any);
     let (entry, exit) = (start + random.below(count), start + random.below(count));
-    draft.methods[number] = vec![name, name, name, entry, exit];
+    draft.methods[number] = Method::new(&[name; 3], &[entry, exit]);
     for _ in 0..random.below(4) {
         let step = match random_step(random, count, callable.len()) {
             Step::Event(p, q, event) => Step::Event(start + p, start + q, event),
             Step::Call(p, q, m) => Step::Call(start + p, start + q, callable[m]),
             Step::Pass(p, q) => Step::Pass(start + p, start + q),
+            step => step,
         };
         draft.steps.push(step);
     }
@@ -123,7 +144,7 @@ fn links(random: &mut Random, callable: &[usize]) -> Vec<Link> {
 }
 
 /// A small condition, now and then a large one.
-fn small(random: &mut Random) -> Tree {
+pub fn small(random: &mut Random) -> Tree {
     let depth = match random.below(24) {
         0 => return wide_star(random),
         1 => 3 + random.below(3),
@@ -145,7 +166,7 @@ fn wide_star(random: &mut Random) -> Tree {
 }
 
 /// A small condition that holds the empty word.
-fn small_with_empty(random: &mut Random) -> Tree {
+pub fn small_with_empty(random: &mut Random) -> Tree {
     let tree = small(random);
     match random.below(3) {
         0 => Tree::Empty,
@@ -155,7 +176,7 @@ fn small_with_empty(random: &mut Random) -> Tree {
 }
 
 /// A condition with at least the words of a tree.
-fn wide(random: &mut Random, tree: Tree) -> Tree {
+pub fn wide(random: &mut Random, tree: Tree) -> Tree {
     let wider = match random.below(12) {
         0 | 1 => tree.either(small(random)),
         2 => small(random).either(tree),
@@ -171,7 +192,7 @@ fn wide(random: &mut Random, tree: Tree) -> Tree {
     }
 }
 
-fn then(tree: &Tree, next: &Option<Tree>) -> Tree {
+pub fn then(tree: &Tree, next: &Option<Tree>) -> Tree {
     match next {
         Some(next) => tree.clone().join(next.clone()),
         None => tree.clone(),
@@ -219,7 +240,7 @@ fn chain(draft: &mut Draft, random: &mut Random, number: usize, links: &[Link]) 
     }
     let trace = wide(random, points.owns[links.len()].clone());
     let names = [&pre, &trace, &future].map(|tree| draft.condition(tree));
-    draft.methods[number] = [names.as_slice(), &[start, start + links.len()]].concat();
+    draft.methods[number] = Method::new(&names, &[start, start + links.len()]);
     for (i, link) in links.iter().enumerate() {
         let (from, to) = (start + i, start + i + 1);
         let step = match link {
@@ -230,7 +251,7 @@ fn chain(draft: &mut Draft, random: &mut Random, number: usize, links: &[Link]) 
                 let pre = wide(random, points.pasts[i].clone());
                 let future = wide(random, points.dues[i + 1].clone());
                 let names = [&pre, trace, &future].map(|tree| draft.condition(tree));
-                draft.methods.push(names.to_vec());
+                draft.methods.push(Method::new(&names, &[]));
                 Step::Call(from, to, draft.methods.len() - 1)
             }
         };
@@ -250,6 +271,12 @@ fn raises(link: &Link) -> Option<Tree> {
 
 /// Changes one thing of a draft.
 pub fn spoil(draft: &mut Draft, random: &mut Random) {
+    let failing = |step: &Step| matches!(step, Step::Failing(..));
+    if draft.steps.iter().any(failing) || draft.methods[0].fails() {
+        if random.once_in(3) {
+            return spoil_failing(draft, random);
+        }
+    }
     let tree = small(random);
     let fresh = draft.condition(&tree);
     let points = draft.points.len();
@@ -261,10 +288,12 @@ pub fn spoil(draft: &mut Draft, random: &mut Random) {
         1 | 2 => draft.points[random.below(points)][random.below(3)] = fresh,
         3 => {
             let which = random.below(draft.methods.len());
-            draft.methods[which][random.below(3)] = fresh;
+            let conditions = draft.methods[which].conditions.len();
+            draft.methods[which].conditions[random.below(conditions)] = fresh;
         }
         4 => {
             let step = random_step(random, points, draft.methods.len());
+            let step = fitted(step, &draft.methods, points, random);
             draft.steps.push(step);
         }
         _ => {
@@ -275,4 +304,47 @@ pub fn spoil(draft: &mut Draft, random: &mut Random) {
             }
         }
     }
+}
+
+/// Changes one thing about failing.
+fn spoil_failing(draft: &mut Draft, random: &mut Random) {
+    let fresh = match random.below(3) {
+        0 => Tree::Leaf(0),
+        _ => small(random),
+    };
+    let fresh = draft.condition(&fresh);
+    let points = draft.points.len();
+    let which = random.below(draft.methods.len());
+    match (random.below(6), &mut draft.methods[which]) {
+        (0, method) if method.fails() => method.conditions[3 + random.below(2)] = fresh,
+        (1, method) if method.points.len() == 3 => method.points[2] = random.below(points),
+        (2, _) if draft.methods[0].fails() => draft.methods[0].conditions[4] = fresh,
+        (3, _) => other_call(&mut draft.steps, random),
+        _ => {
+            for step in &mut draft.steps {
+                if let Step::Failing(_, to, failed, _) = step {
+                    match random.below(4) {
+                        0 => std::mem::swap(to, failed),
+                        1 => *failed = random.below(points),
+                        _ => {}
+                    }
+                }
+            }
+        }
+    }
+}
+
+/// A call that can fail for one that cannot, or the other way round.
+fn other_call(steps: &mut [Step], random: &mut Random) {
+    let calls = steps.iter_mut().filter(|step| matches!(step, Step::Call(..) | Step::Failing(..)));
+    let mut calls: Vec<&mut Step> = calls.collect();
+    if calls.is_empty() {
+        return;
+    }
+    let which = random.below(calls.len());
+    *calls[which] = match *calls[which] {
+        Step::Call(from, to, method) => Step::Failing(from, to, to, method),
+        Step::Failing(from, to, _, method) => Step::Call(from, to, method),
+        _ => return,
+    };
 }

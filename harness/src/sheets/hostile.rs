@@ -4,7 +4,7 @@
 //! A loader may remember the last search: a pair needs none if its place has no
 //! followers that the last one had not, and its set has all that the last one had.
 //! So the right side is `turning`, except where the followers change anyway.
-use super::draft::{certificate, Draft, Step};
+use super::draft::{certificate, Draft, Method, Step};
 use super::families::LONGEST;
 use super::stray::{least, row};
 use super::worst::WORST;
@@ -50,7 +50,7 @@ pub fn fitting(make: impl Fn(usize) -> Vec<u8>, bytes: usize) -> Vec<u8> {
 /// for the one in the other, by certificate 0.
 pub fn by_entry(left: Tree, right: Tree) -> Long {
     let mut draft = least();
-    draft.methods[0][0] = draft.condition(&left);
+    draft.methods[0].conditions[0] = draft.condition(&left);
     draft.points[0][0] = draft.condition(&right);
     (draft, 0)
 }
@@ -64,7 +64,7 @@ pub fn by_call(one: &Tree, two: &Tree, right: &Tree) -> Long {
     draft.point(one, &any, &any);
     draft.point(right, &any, &any);
     let trace = draft.condition(two);
-    draft.methods = vec![vec![0, 0, 0, 0, 0], vec![0, trace, 0]];
+    draft.methods = vec![Method::new(&[0; 3], &[0; 2]), Method::new(&[0, trace, 0], &[])];
     draft.steps.push(Step::Call(1, 2, 1));
     (draft, 4)
 }

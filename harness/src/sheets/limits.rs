@@ -1,6 +1,7 @@
 //! Sheets around the limits of the entry instrument, and limits around a sheet.
-use super::draft::{certificate, Draft, Step};
-use super::honest::honest;
+use super::draft::{certificate, Draft, Method, Step};
+use super::failing::either;
+use super::honest::{fitted, random_step};
 use super::mutate::mutate;
 use crate::answer::Refusal;
 use crate::instrument::{Instrument, ENTRY, LARGE};
@@ -15,7 +16,7 @@ pub fn around_entry(random: &mut Random) -> Vec<u8> {
     let points = near(ENTRY.points, random);
     let mut draft = match (many_points, random.below(3)) {
         (true, 0) => crowded(points, random),
-        _ => honest(random),
+        _ => either(random),
     };
     if many_points {
         more_points(&mut draft, points, random);
@@ -50,16 +51,16 @@ fn crowded(points: usize, random: &mut Random) -> Draft {
         draft.point(&any, &any, &any);
     }
     for _ in 0..1 + random.below(3) {
-        draft.methods.push(vec![0, 0, 0, random.below(points), random.below(points)]);
+        let (conditions, exits) = if random.once_in(2) { (3, 1) } else { (5, 2) };
+        let places: Vec<usize> = (0..1 + exits).map(|_| random.below(points)).collect();
+        draft.methods.push(Method::new(&vec![0; conditions], &places));
     }
     for _ in 0..random.below(60) {
-        let (from, to) = (random.below(points), random.below(points));
-        let called = random.below(draft.methods.len());
-        draft.steps.push(match random.below(3) {
-            0 => Step::Event(from, to, random.below(32) as u8),
-            1 => Step::Call(from, to, called),
-            _ => Step::Pass(from, to),
-        });
+        let step = match random_step(random, points, draft.methods.len()) {
+            Step::Event(from, to, _) => Step::Event(from, to, random.below(32) as u8),
+            step => fitted(step, &draft.methods, points, random),
+        };
+        draft.steps.push(step);
     }
     draft
 }
@@ -75,12 +76,18 @@ fn more_points(draft: &mut Draft, points: usize, random: &mut Random) {
     for (old, point) in draft.points.clone().into_iter().enumerate() {
         draft.points[number[old]] = point;
     }
-    for point in draft.methods.iter_mut().flat_map(|names| names.iter_mut().skip(3)) {
+    for point in draft.methods.iter_mut().flat_map(|method| method.points.iter_mut()) {
         *point = number[*point];
     }
     for step in &mut draft.steps {
-        let (Step::Event(p, q, _) | Step::Call(p, q, _) | Step::Pass(p, q)) = step;
-        (*p, *q) = (number[*p], number[*q]);
+        match step {
+            Step::Event(p, q, _) | Step::Call(p, q, _) | Step::Pass(p, q) => {
+                (*p, *q) = (number[*p], number[*q]);
+            }
+            Step::Failing(p, q, f, _) => {
+                (*p, *q, *f) = (number[*p], number[*q], number[*f]);
+            }
+        }
     }
 }
 

@@ -6,7 +6,7 @@ type Records = Vec<Vec<u8>>;
 
 pub fn mutate(sheet: &[u8], random: &mut Random) -> Vec<u8> {
     let mut records = split(sheet);
-    match random.below(15) {
+    match random.below(16) {
         0 => return change_bytes(sheet, random),
         1 => return sheet[..random.below(sheet.len())].to_vec(),
         2 => change_name(&mut records, random),
@@ -14,6 +14,7 @@ pub fn mutate(sheet: &[u8], random: &mut Random) -> Vec<u8> {
         4 => drop_or_repeat(&mut records, random),
         5 => certificates_more_or_fewer(&mut records, random),
         6 => events_at_the_bound(&mut records, random),
+        15 => other_outcomes(&mut records, random),
         kind => change_certificate(&mut records, random, kind),
     }
     records.concat()
@@ -25,7 +26,7 @@ fn split(sheet: &[u8]) -> Records {
     let mut at = 0;
     while at < sheet.len() {
         let length = match sheet[at] {
-            kind @ 1..=14 => 1 + BODY[kind as usize],
+            kind @ 1..=17 => 1 + BODY[kind as usize],
             _ => sheet.len(),
         };
         let next = (at + length).min(sheet.len());
@@ -44,17 +45,17 @@ fn change_bytes(sheet: &[u8], random: &mut Random) -> Vec<u8> {
         let at = random.below(out.len());
         out[at] = match random.below(3) {
             0 => random.byte(),
-            1 => random.below(16) as u8,
+            1 => random.below(19) as u8,
             _ => out[at] ^ 1 << random.below(8),
         };
     }
     out
 }
 
-/// Another name, event or leaf in a record of kinds 1 to 12.
+/// Another name, event or leaf in a record.
 fn change_name(records: &mut Records, random: &mut Random) {
-    let named: Vec<usize> =
-        (0..records.len()).filter(|&i| records[i][0] < 13 && records[i].len() > 1).collect();
+    let names = |record: &Vec<u8>| !matches!(record[0], 13 | 14) && record.len() > 1;
+    let named: Vec<usize> = (0..records.len()).filter(|&i| names(&records[i])).collect();
     if named.is_empty() {
         return;
     }
@@ -62,6 +63,45 @@ fn change_name(records: &mut Records, random: &mut Random) {
     let at = 1 + random.below(record.len() - 1);
     let top = if random.once_in(2) { 4 } else { 34 };
     record[at] = random.below(top) as u8;
+}
+
+/// A method or a call gets one outcome for two, or two for one.
+fn other_outcomes(records: &mut Records, random: &mut Random) {
+    let whole = |record: &Vec<u8>| BODY.get(record[0] as usize) == Some(&(record.len() - 1));
+    let changes = |record: &Vec<u8>| matches!(record[0], 8 | 9 | 11 | 15..=17) && whole(record);
+    let changing: Vec<usize> = (0..records.len()).filter(|&i| changes(&records[i])).collect();
+    if changing.is_empty() {
+        return;
+    }
+    let record = &mut records[changing[random.below(changing.len())]];
+    let mut name = || [random.below(3) as u8, 0];
+    record[0] = match record[0] {
+        8 | 9 => {
+            let more = if record[0] == 8 { 2 } else { 3 };
+            (0..more).for_each(|_| record.extend(name()));
+            if more == 2 {
+                15
+            } else {
+                16
+            }
+        }
+        11 => {
+            record.splice(5..5, name());
+            17
+        }
+        15 => {
+            record.truncate(7);
+            8
+        }
+        16 => {
+            record.truncate(11);
+            9
+        }
+        _ => {
+            record.drain(5..7);
+            11
+        }
+    };
 }
 
 /// Event steps get one of the last events, or the number after them.

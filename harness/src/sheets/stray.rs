@@ -1,16 +1,18 @@
 //! Bytes and records at random, and sheets at or over a limit.
-use super::draft::{Draft, Step};
+use super::draft::{Draft, Method, Step};
 use crate::answer::Refusal;
 use crate::instrument::LARGE;
 use crate::random::Random;
 use crate::reference;
 use crate::tree::Tree;
 
-pub const BODY: [usize; 15] = [0, 4, 0, 0, 0, 0, 0, 6, 6, 10, 5, 6, 4, 5, 0];
+/// The body lengths by kind; there is no kind 0.
+pub const BODY: [usize; 18] = [0, 4, 0, 0, 0, 0, 0, 6, 6, 10, 5, 6, 4, 5, 0, 10, 16, 8];
+const SECTION: [usize; 18] = [0, 0, 0, 0, 0, 0, 0, 1, 2, 2, 3, 3, 3, 4, 4, 2, 2, 3];
 
 pub fn bytes(random: &mut Random) -> Vec<u8> {
     let length = random.below(40);
-    let top = if random.once_in(2) { 256 } else { 16 };
+    let top = if random.once_in(2) { 256 } else { 19 };
     (0..length).map(|_| random.below(top) as u8).collect()
 }
 
@@ -20,8 +22,8 @@ pub fn records(random: &mut Random) -> Vec<u8> {
     for _ in 0..random.below(5) {
         tokens(random, &mut out);
     }
-    let mut kinds: Vec<u8> = (0..random.below(12)).map(|_| 7 + random.below(8) as u8).collect();
-    kinds.sort_by_key(|kind| [0, 0, 0, 0, 0, 0, 0, 1, 2, 2, 3, 3, 3, 4, 4][*kind as usize]);
+    let mut kinds: Vec<u8> = (0..random.below(12)).map(|_| 7 + random.below(11) as u8).collect();
+    kinds.sort_by_key(|kind| SECTION[*kind as usize]);
     if random.once_in(6) {
         random.shuffle(&mut kinds);
     }
@@ -44,7 +46,7 @@ fn tokens(random: &mut Random, out: &mut Vec<u8>) {
     let mut items = 0;
     for _ in 0..random.below(12) {
         let kind = match (items, random.below(40)) {
-            (_, 0) => 1 + random.below(14) as u8,
+            (_, 0) => 1 + random.below(17) as u8,
             (0 | 1, _) => 1 + random.below(2) as u8,
             _ => 1 + random.below(5) as u8,
         };
@@ -69,7 +71,7 @@ fn tokens(random: &mut Random, out: &mut Vec<u8>) {
 pub fn least() -> Draft {
     let mut draft = Draft::default();
     draft.point(&Tree::Empty, &Tree::Empty, &Tree::Empty);
-    draft.methods.push(vec![0; 5]);
+    draft.methods.push(Method::new(&[0; 3], &[0; 2]));
     draft
 }
 
@@ -89,18 +91,37 @@ pub fn at_a_limit(random: &mut Random) -> Vec<u8> {
 fn many(random: &mut Random) -> Vec<u8> {
     let over = random.below(2);
     let mut draft = least();
-    match random.below(9) {
+    match random.below(10) {
         0 => draft.conditions.resize(256 + over, Tree::Empty),
         1 => draft.conditions.push((0..95 + over).fold(Tree::Empty, |tree, _| tree.star())),
         2 => draft.conditions.push(row(31 + over)),
         3 => draft.points.resize(LARGE.points + over, [0; 3]),
-        4 => draft.methods.resize(64 + over, vec![0; 3 + 2 * random.below(2)]),
+        4 => {
+            let both = random.once_in(2);
+            for _ in 1..64 + over {
+                draft.methods.push(any_method(random, both));
+            }
+        }
         5 => draft.steps.resize(512 + over, Step::Pass(0, 0)),
         6 => draft.steps.resize(512 + over, Step::Call(0, 0, 0)),
         7 => return long(draft, LARGE.bytes + over),
+        8 => {
+            draft.methods.push(Method::new(&[0; 5], &[]));
+            draft.steps.resize(512 + over, Step::Failing(0, 0, 0, 1));
+        }
         _ => return vec![random.below(8) as u8; LARGE.bytes + over],
     }
     draft.certified()
+}
+
+/// A method with the names 0, of one outcome or, if both may be, of two.
+fn any_method(random: &mut Random, both: bool) -> Method {
+    match random.below(if both { 4 } else { 2 }) {
+        0 => Method::new(&[0; 3], &[]),
+        1 => Method::new(&[0; 3], &[0; 2]),
+        2 => Method::new(&[0; 5], &[]),
+        _ => Method::new(&[0; 5], &[0; 3]),
+    }
 }
 
 /// As many leaves, one or the other.

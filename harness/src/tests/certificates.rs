@@ -3,7 +3,7 @@ use super::{loads, tests, BOTH};
 use crate::answer::Verdict;
 use crate::instrument::LARGE;
 use crate::random::Random;
-use crate::sheets::{self, certificate, Draft, Step};
+use crate::sheets::{self, certificate, Draft, Method, Step};
 use crate::tree::Tree;
 
 type Pairs = [(usize, u32)];
@@ -11,7 +11,7 @@ type Pairs = [(usize, u32)];
 /// A sheet whose rule 3 asks left in right, with this certificate.
 fn asks(left: Tree, right: Tree, pairs: &Pairs) -> Vec<u8> {
     let mut draft = sheets::least();
-    draft.methods[0][0] = draft.condition(&left);
+    draft.methods[0].conditions[0] = draft.condition(&left);
     draft.points[0][0] = draft.condition(&right);
     let mut out = draft.bytes();
     for pairs in [pairs, &[(0, 1)], &[(0, 1)]] {
@@ -94,7 +94,7 @@ fn one_step(step: Step, p: [&Tree; 3], q: [&Tree; 3]) -> Draft {
     draft.point(&any, &any, &any);
     draft.point(p[0], p[1], p[2]);
     draft.point(q[0], q[1], q[2]);
-    draft.methods.push(vec![name, name, name, 0, 0]);
+    draft.methods.push(Method::new(&[name; 3], &[0, 0]));
     draft.steps.push(step);
     draft
 }
@@ -125,7 +125,7 @@ fn a_last_leaf_does_not_end_the_join() {
     let both = zero.clone().join(one.clone());
     let mut draft = one_step(Step::Call(1, 2, 1), [&any, &zero, &any], [&any, &both, &any]);
     let trace = draft.condition(&one);
-    draft.methods.push(vec![0, trace, 0]);
+    draft.methods.push(Method::new(&[0, trace, 0], &[]));
     loads(&draft.certified(), "accepted 11");
     draft.points[2][1] = draft.points[1][1];
     loads(&draft.certified(), "unproved rule 12 step 0 clause 3 pair 2 event 0 place 0");
@@ -139,7 +139,7 @@ fn a_close_that_is_followed_by_an_open() {
     let mut draft = one_step(Step::Event(0, 1, 0), [&any; 3], [&any; 3]);
     draft.steps.push(Step::Call(1, 0, 1));
     let names = [&any, &Tree::event(1), &future].map(|tree| draft.condition(tree));
-    draft.methods.push(names.to_vec());
+    draft.methods.push(Method::new(&names, &[]));
     let sheet = draft.certified();
     loads(&sheet, "unproved rule 13 step 1 clause 3 pair 1 event 0 place 0");
     tests(&sheet, names[2], &[2, 1, 0], "yes");
@@ -153,7 +153,7 @@ fn no_point_conditions_help_the_close() {
         draft.steps.push(Step::Call(1, 0, 1));
         let future = Tree::Empty.either(Tree::event(2).join(Tree::any()));
         let names = [&Tree::any(), &Tree::event(1), &future].map(|tree| draft.condition(tree));
-        draft.methods.push(names.to_vec());
+        draft.methods.push(Method::new(&names, &[]));
         for point in 0..2 {
             let tree = Tree::random(&mut random, 3);
             draft.points[point][2] = draft.condition(&tree);
@@ -170,6 +170,6 @@ fn both_sides_joined_have_62_leaves() {
     let heavy = sheets::row(31).star();
     let mut draft = one_step(Step::Call(1, 2, 1), [&heavy; 3], [&heavy; 3]);
     let name = draft.condition(&heavy);
-    draft.methods.push(vec![0, name, 0]);
+    draft.methods.push(Method::new(&[0, name, 0], &[]));
     loads(&draft.certified(), "accepted 11");
 }
