@@ -182,12 +182,15 @@ fn clause_four(
     pairs: &Pairs,
 ) -> Option<(usize, usize)> {
     for event in 0..32 {
+        let holders = left.follow(place).iter().filter(|&&l| left.leaf_holds(l, event));
+        let holders: Vec<usize> = holders.copied().collect();
+        if holders.is_empty() {
+            continue;
+        }
         let stepped = right.step(set, event);
-        for &follower in left.follow(place) {
-            if !left.leaf_holds(follower, event) {
-                continue;
-            }
-            let within = |listed: u32| numbers(listed).iter().all(|k| stepped.contains(k));
+        for follower in holders {
+            let within =
+                |listed: u32| (0..32).all(|k| listed >> k & 1 == 0 || stepped.contains(&k));
             if !pairs.iter().any(|&(l, listed)| l == follower && within(listed)) {
                 return Some((event, follower));
             }

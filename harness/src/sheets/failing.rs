@@ -76,7 +76,7 @@ fn loose(draft: &mut Draft, random: &mut Random, this: Open, callable: &[Open]) 
             0 => Step::Event(from, to, random.below(4) as u8),
             1 => Step::Pass(from, to),
             2 => {
-                let traces = [0; 2].map(|_| small(random));
+                let traces = [0; 2].map(|_| little(random));
                 let [trace, failed_trace] = traces.map(|tree| draft.condition(&tree));
                 let conditions = [name, trace, name, failed_trace, name];
                 draft.methods.push(Method::new(&conditions, &[]));
@@ -98,7 +98,7 @@ fn call(from: usize, to: usize, failed: usize, called: Open) -> Step {
 /// The steps of a method with some points: from each point but the last to a later
 /// one, and some more.
 fn arrows(random: &mut Random, count: usize, callable: &[Open]) -> Vec<Arrow> {
-    let more = if count > 1 { random.below(3) } else { 0 };
+    let more = if count > 1 { random.below(2) } else { 0 };
     let mut from: Vec<usize> = (0..count - 1).collect();
     from.extend((0..more).map(|_| random.below(count - 1)));
     let later = |from: usize, random: &mut Random| from + 1 + random.below(count - 1 - from);
@@ -109,11 +109,21 @@ fn arrows(random: &mut Random, count: usize, callable: &[Open]) -> Vec<Arrow> {
     from.into_iter().map(arrow).collect()
 }
 
+/// A small condition. Those of many leaves are rare, since each has part in many rules.
+fn little(random: &mut Random) -> Tree {
+    let tree = small(random);
+    if tree.leaves() < 6 || random.once_in(6) {
+        tree
+    } else {
+        Tree::event(0)
+    }
+}
+
 fn act(random: &mut Random, callable: &[Open]) -> Act {
     match random.below(8) {
         0 | 1 => Act::Event(if random.once_in(5) { 31 } else { random.below(3) as u8 }),
-        2 => Act::Primitive(small(random), None),
-        3..=5 => Act::Primitive(small(random), Some(small(random))),
+        2 => Act::Primitive(little(random), None),
+        3..=5 => Act::Primitive(little(random), Some(little(random))),
         6 if !callable.is_empty() => Act::Open(callable[random.below(callable.len())]),
         _ => Act::Pass,
     }
@@ -139,7 +149,7 @@ impl Arrow {
 /// The words of any of some trees, and more; some condition if there are none.
 fn union(random: &mut Random, trees: Vec<Tree>) -> Tree {
     let tree = trees.into_iter().reduce(Tree::either);
-    let tree = tree.unwrap_or_else(|| small(random));
+    let tree = tree.unwrap_or_else(|| little(random));
     wide(random, tree)
 }
 
@@ -186,11 +196,11 @@ fn branching(
     fails: bool,
     callable: &[Open],
 ) {
-    let count = 1 + random.below(5);
+    let count = 1 + random.below(4);
     let arrows = arrows(random, count, callable);
     let [pre, future, failed_future] = [0; 3].map(|_| match number {
         0 => small_with_empty(random),
-        _ => small(random),
+        _ => little(random),
     });
     let exit = if random.once_in(4) { random.below(count) } else { count - 1 };
     let mut exits = vec![(exit, future)];
