@@ -1,8 +1,10 @@
 //! Two loaders on the same random sheets and words, on a smaller and a larger
-//! instrument each, and what request 8 states of the two instruments.
+//! instrument each; what request 8 states of the two instruments, and what request 2
+//! leaves as it was.
 mod seen;
 
-use crate::answer::{Doors, Verdict};
+use crate::answer::{Answer, Counts, Doors, Refusal, Verdict};
+use crate::former::Former;
 use crate::instrument::{Instrument, ENTRY, LARGE};
 use crate::random::Random;
 use crate::sheets::{self, Test};
@@ -30,6 +32,10 @@ struct Comparison<'a> {
     /// instruments with random limits.
     models: Related,
     limits: Related,
+    /// The first loader's answers without kinds 15 to 17, and the second's with them.
+    former: Former,
+    /// Whether the second loader takes any limits.
+    any_limits: bool,
 }
 
 /// Compares two loaders on a number of sheets; returns the differences.
@@ -52,6 +58,8 @@ fn run(one: &Doors, two: &Doors, sheets: usize, seed: u64, any_limits: bool) -> 
         seen: Seen::default(),
         models: Related::default(),
         limits: Related::default(),
+        former: Former::default(),
+        any_limits,
     };
     let mut seeds = Random::new(seed);
     for _ in 0..sheets {
@@ -63,7 +71,7 @@ fn run(one: &Doors, two: &Doors, sheets: usize, seed: u64, any_limits: bool) -> 
             comparison.limits(&sheet, &words, sheets::limits(&sheet, &mut random));
         }
     }
-    comparison.report(seed, any_limits);
+    comparison.report(seed);
     comparison.differences
 }
 
@@ -115,6 +123,10 @@ impl Comparison<'_> {
         if one != two {
             self.unlike(sheet, "load", on, [&one, &two]);
         }
+        let former = (self.one.load)(&on.former(), sheet);
+        if !self.former.verdicts(sheet, &former, &two) {
+            self.changed(sheet, "load", on, [&former, &two]);
+        }
         two
     }
 
@@ -125,10 +137,35 @@ impl Comparison<'_> {
             if one != two {
                 self.unlike(sheet, "read", &on, [&vectors::line(&one), &vectors::line(&two)]);
             }
+            self.former_reading(sheet, &on, &two);
             two
         });
         if !ways.count(&pair[0], small.err(), small == large) {
             self.broken(sheet, "read", pair, [&vectors::line(&small), &vectors::line(&large)]);
+        }
+    }
+
+    /// Reading without kinds 15 to 17, by the first loader and, if it takes any limits,
+    /// by the second.
+    fn former_reading(&mut self, sheet: &[u8], on: &Instrument, now: &Result<Counts, Refusal>) {
+        let former = (self.one.read)(&on.former(), sheet);
+        if !self.former.readings.count(sheet, former.err(), former == *now) {
+            self.changed(sheet, "read", on, [&vectors::line(&former), &vectors::line(now)]);
+        }
+        if self.any_limits {
+            let two = (self.two.read)(&on.former(), sheet);
+            if former != two {
+                let lines = [vectors::line(&former), vectors::line(&two)];
+                self.unlike(sheet, "read", &on.former(), [&lines[0], &lines[1]]);
+            }
+        }
+    }
+
+    fn former_word(&mut self, sheet: &[u8], test: &Test, on: &Instrument, now: &Answer) {
+        let former = (self.one.word_test)(&on.former(), sheet, test.condition, &test.word);
+        if !self.former.words.count(sheet, former.refusal(), former == *now) {
+            let what = format!("condition {}, word {}", test.condition, hex(&test.word));
+            self.changed(sheet, &what, on, [&former, now]);
         }
     }
 
@@ -142,6 +179,7 @@ impl Comparison<'_> {
             if one != two {
                 self.unlike(sheet, &what(), &on, [&one, &two]);
             }
+            self.former_word(sheet, test, &on, &two);
             two
         });
         if !ways.count(&pair[0], small.refusal(), small == large) {
@@ -162,6 +200,15 @@ impl Comparison<'_> {
         self.differ(sheet, &what, [(&small, one), (&large, two)]);
     }
 
+    /// A sheet is not judged as before.
+    fn changed(&mut self, sheet: &[u8], what: &str, on: &Instrument, answers: [&dyn Display; 2]) {
+        let [one, two] = answers;
+        let (before, now) = (limits(&on.former()), limits(on));
+        let whose = [(self.one.name, before), (self.two.name, now)];
+        let [before, now] = whose.map(|(name, limits)| format!("{name}, {limits}"));
+        self.differ(sheet, what, [(&before, one), (&now, two)]);
+    }
+
     fn differ(&mut self, sheet: &[u8], what: &str, answers: [(&str, &dyn Display); 2]) {
         self.differences += 1;
         if self.differences <= SHOWN {
@@ -173,20 +220,22 @@ impl Comparison<'_> {
         }
     }
 
-    fn report(&self, seed: u64, any_limits: bool) {
+    fn report(&self, seed: u64) {
         println!("{} against {}, seed {seed}", self.one.name, self.two.name);
         println!("{} loads and readings, {} words tested", self.loads, self.words);
         println!("{} differences\n", self.differences);
         self.seen.print();
         self.models.print(ENTRY.name, LARGE.name);
-        if any_limits {
+        if self.any_limits {
             self.limits.print("the smaller", "the larger");
         }
+        self.former.print();
     }
 }
 
 fn limits(on: &Instrument) -> String {
-    format!("{} ({} bytes, {} points)", on.name, on.bytes, on.points)
+    let Instrument { name, bytes, points, kinds, .. } = on;
+    format!("{name} ({bytes} bytes, {points} points, kinds up to {kinds})")
 }
 
 fn hex(bytes: &[u8]) -> String {

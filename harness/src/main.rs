@@ -5,6 +5,7 @@ mod bench;
 mod clock;
 mod compare;
 mod derivatives;
+mod former;
 mod instrument;
 mod library;
 mod naive;
