@@ -80,6 +80,7 @@ impl Former {
         row("not so, and the answer with them", |ways| ways.same);
         row("neither", |ways| ways.broken);
         let [accepted, refused, unproved] = self.now;
-        println!("\nloads refused so, with these kinds: {accepted} accepted, {refused} refused, {unproved} unproved");
+        print!("\nloads of the first row, with these kinds: {accepted} accepted, ");
+        println!("{refused} refused, {unproved} unproved");
     }
 }

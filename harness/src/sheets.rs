@@ -15,7 +15,7 @@ use crate::instrument::{ENTRY, LARGE};
 use crate::naive;
 use crate::random::Random;
 #[cfg(test)]
-pub use draft::{certificate, Draft, Method, Step};
+pub use draft::{certificate, Draft, Method, Step, MOST_PAIRS};
 #[cfg(test)]
 pub use failing::failing;
 use families::entry_rules;
@@ -23,6 +23,8 @@ pub use families::{
     changing_word, large_certificate, many_records, many_rules, single_word, small_failing,
     small_honest, starred_rules, steady_word,
 };
+#[cfg(test)]
+pub use honest::spoil;
 pub use hostile::HOSTILE;
 pub use limits::limits;
 #[cfg(test)]

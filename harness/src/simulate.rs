@@ -3,7 +3,7 @@ use crate::answer::{Doors, Verdict};
 use crate::instrument::LARGE;
 use crate::naive::{self, Outcome};
 use crate::random::Random;
-use crate::runs::{random_move, Broken, Languages, Run};
+use crate::runs::{random_move, Broken, Call, Languages, Run};
 use crate::vectors;
 use std::collections::BTreeMap;
 use std::fs;
@@ -26,16 +26,22 @@ pub struct Totals {
     pub owed_failed: usize,
     pub past_maker: usize,
     pub broken: BTreeMap<Broken, usize>,
+    /// Of these, those of calls that failed.
+    pub broken_failed: BTreeMap<Broken, usize>,
+}
+
+/// Whether a call has failed.
+fn has_failed(call: &Call) -> bool {
+    call.returned.is_some_and(|(_, outcome)| outcome == Outcome::Failed)
 }
 
 impl Totals {
     fn state(&mut self, run: &Run) {
         self.states += 1;
         for (number, call) in run.calls.iter().enumerate() {
-            let Some((_, outcome)) = call.returned else { continue };
-            let failed = (outcome == Outcome::Failed) as usize;
+            let failed = has_failed(call) as usize;
             self.failed += failed;
-            if run.in_caller(number) {
+            if call.returned.is_some() && run.in_caller(number) {
                 self.owed += 1;
                 self.owed_failed += failed;
                 self.past_maker += (call.maker != run.open.last().copied()) as usize;
@@ -60,8 +66,11 @@ impl Totals {
     fn run(&mut self, mut run: Run, languages: &mut Languages, random: &mut Random) {
         for left in (0..=MOVES).rev() {
             self.state(&run);
-            if let Some((_, broken)) = languages.first_break(&run) {
+            if let Some((call, broken)) = languages.first_break(&run) {
                 *self.broken.entry(broken).or_default() += 1;
+                if has_failed(&run.calls[call]) {
+                    *self.broken_failed.entry(broken).or_default() += 1;
+                }
                 return;
             }
             if left == 0 || run.ended() || run.history.len() > LONGEST {
@@ -71,8 +80,7 @@ impl Totals {
             run.make(&next);
         }
         self.ended += run.ended() as usize;
-        let failed = run.calls[0].returned.is_some_and(|(_, outcome)| outcome == Outcome::Failed);
-        self.ended_failed += failed as usize;
+        self.ended_failed += has_failed(&run.calls[0]) as usize;
     }
 }
 
@@ -92,7 +100,8 @@ pub fn simulate(crates: &str, doors: &Doors, seed: u64) -> Result<usize, String>
     println!("{sheets} sheets that the {} accepts, {runs} runs", doors.name);
     println!("{ended} runs ended, {ended_failed} of them as method 0 failed");
     println!("{states} states, with {failed} calls that failed");
-    println!("{owed} futures owed, {owed_failed} of failed calls, {past_maker} after the caller's return");
+    println!("{owed} futures owed, {past_maker} after the caller's return");
+    println!("{owed_failed} futures owed of calls that failed");
     println!("{} breaks {broken:?}", broken.values().sum::<usize>());
     Ok(broken.values().sum())
 }

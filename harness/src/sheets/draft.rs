@@ -5,7 +5,7 @@ use crate::tree::Tree;
 use std::collections::HashSet;
 
 /// Pairs in one made certificate, so that a sheet stays short.
-const MOST_PAIRS: usize = 400;
+pub const MOST_PAIRS: usize = 400;
 
 #[derive(Clone)]
 pub enum Step {

@@ -52,6 +52,18 @@ fn unproved() -> Vec<u8> {
     hex(&format!("02 06 01 01000000 06 {POINT} {body} {certificate}"))
 }
 
+/// One condition, one point and a method with body, and a call of it that can fail.
+fn other_outcomes() -> Vec<u8> {
+    hex(&format!("02 06 {POINT} {BODY} 11 0000 0000 0000 0000"))
+}
+
+/// A first method that can fail, with a failed future that holds no word.
+fn failed_future() -> Vec<u8> {
+    let body = "10 0000 0000 0000 0000 0000 0000 0100 0000";
+    let certificate = format!("{PAIR} 0E").repeat(5);
+    hex(&format!("02 06 01 00000000 06 {POINT} {body} {certificate}"))
+}
+
 /// The document's condition with 0 open, 1 close, 2 advance, in a sheet.
 fn condition() -> Vec<u8> {
     hex(&format!("02 01 04000000 01 FFFFFFFF 05 03 04 06 {POINT} {BODY}"))
@@ -79,6 +91,8 @@ fn loading() {
     load(&[], REFUSED, 9, &[0]);
     load(&hex("02 06 FF"), REFUSED, 2, &[2]);
     load(&unproved(), UNPROVED, 11, &[5, 0, 3, 0, 0, 0]);
+    load(&other_outcomes(), REFUSED, 18, &[20]);
+    load(&failed_future(), UNPROVED, 11, &[24, 0, 5, 0, 0, 0]);
     gives(|out| raw::load(LARGE, &[0; 65_537], out), REFUSED, 1, &[65_536]);
     load_entry(&[0; 8_193], REFUSED, 1, &[8_192]);
     load_entry(&[0; 65_537], REFUSED, 1, &[8_192]);
@@ -170,6 +184,7 @@ fn testing_words() {
     for on in [LARGE, ENTRY] {
         gives(|out| raw::word_test(on, &[15], 0, &[], out), REFUSED, 3, &[0]);
         gives(|out| raw::word_test(on, &[18], 0, &[], out), REFUSED, 2, &[0]);
+        gives(|out| raw::word_test(on, &other_outcomes(), 0, &[], out), REFUSED, 18, &[20]);
     }
     let long = [0; 8_193];
     gives(|out| raw::word_test(LARGE, &long, 0, &[], out), REFUSED, 2, &[0]);
@@ -181,7 +196,9 @@ fn reading() {
     for on in [LARGE, ENTRY] {
         gives(|out| raw::read(on, &least(), out), READ_WHOLE, 0, &[1, 1, 1, 0, 3]);
         gives(|out| raw::read(on, &unproved(), out), READ_WHOLE, 0, &[2, 1, 1, 0, 3]);
+        gives(|out| raw::read(on, &failed_future(), out), READ_WHOLE, 0, &[2, 1, 1, 0, 5]);
         gives(|out| raw::read(on, &hex("02 06 03"), out), REFUSED, 5, &[2]);
+        gives(|out| raw::read(on, &other_outcomes(), out), REFUSED, 18, &[20]);
     }
     let points = hex(&format!("02 06 {} {BODY}", POINT.repeat(65)));
     gives(|out| raw::read(LARGE, &points, out), READ_WHOLE, 0, &[1, 65, 1, 0, 0]);
@@ -198,6 +215,7 @@ fn from_c() {
         from_c_prints(&program, &[15], ["refused 3 0 0 0 0 0 0"; 2]);
         from_c_prints(&program, &[18], ["refused 2 0 0 0 0 0 0"; 2]);
         from_c_prints(&program, &unproved(), ["unproved 11 5 0 3 0 0 0"; 2]);
+        from_c_prints(&program, &other_outcomes(), ["refused 18 20 0 0 0 0 0"; 2]);
         let lines = ["refused 2 0 0 0 0 0 0", "refused 1 8192 0 0 0 0 0"];
         from_c_prints(&program, &[0; 8_193], lines);
         std::fs::remove_file(program).unwrap();
