@@ -41,7 +41,8 @@ fn small(count: usize, make: fn(&mut Random) -> Draft) -> Vec<Vec<u8>> {
     sheets
 }
 
-/// All 2,818 rules, each on sides of 31 leaves, in a sheet of full length.
+/// 64 methods and 512 calls of one outcome, 2,818 rules, each on sides of 31 leaves, in
+/// a sheet of full length.
 pub fn many_rules() -> Vec<u8> {
     rules_on(&mostly_dead().star(), &LARGE, 64, 512)
 }
@@ -52,7 +53,8 @@ pub fn starred_rules() -> Vec<u8> {
 }
 
 /// As many calls as fit on the entry instrument: one method and 83 steps on its 64
-/// points, 421 rules. A call has more sides for its bytes than any other subject.
+/// points, 421 rules. With one outcome, a call has more sides for its bytes than any
+/// other subject.
 pub fn entry_rules() -> Vec<u8> {
     rules_on(&starred(mostly_dead(), 35), &ENTRY, 1, 83)
 }

@@ -1,7 +1,7 @@
 //! Rules 18 to 24, their order, their certificates and the count.
 use super::failing;
 use crate::answer::{Fault, Verdict};
-use crate::instrument::{ENTRY, LARGE};
+use crate::instrument::{Instrument, ENTRY, LARGE};
 use crate::naive::{self, Ask};
 use crate::random::Random;
 use crate::sheets::{self, certificate, Draft, Method, Step};
@@ -272,6 +272,33 @@ fn lines() {
         let who = if rule <= 6 || rule >= 22 { "method" } else { "step" };
         assert_eq!(line, format!("unproved rule {rule} {who} 3 clause 4 pair 5 event 6 place 7"));
     }
+}
+
+/// On an instrument that takes more bytes, steps may stand behind the first 65,536.
+#[test]
+fn steps_behind_65536_bytes() {
+    // 95 records with 31 leaves; its words have 31 events.
+    let every = || Tree::Leaf(u32::MAX);
+    let long = (0..17).fold(every(), |tree, _| tree.join(Tree::Empty));
+    let long = (1..31).fold(long, |tree, _| tree.join(every()));
+    let mut draft = Draft { conditions: vec![long; 256], ..Draft::default() };
+    draft.conditions[0] = Tree::Empty;
+    draft.points = vec![[0; 3]; 600];
+    draft.points[599] = [1; 3];
+    draft.methods = vec![Method::new(&[0; 5], &[0; 3]); 64];
+    draft.steps = vec![Step::Failing(0, 0, 0, 1); 512];
+    let on = Instrument::of(200_000, 600);
+    let load = |draft: &Draft, line: &str| {
+        let mut sheet = draft.bytes();
+        assert!(sheet.len() - 9 > 65_536);
+        (0..64 * 5 + 512 * 9).for_each(|_| certificate(&mut sheet, &[(0, 1)]));
+        for doors in BOTH {
+            assert_eq!((doors.load)(&on, &sheet).to_string(), line, "{}", doors.name);
+        }
+    };
+    load(&draft, "accepted 4995");
+    draft.steps[511] = Step::Failing(0, 0, 599, 1);
+    load(&draft, &format!("unproved rule 18 step 511 {THIRD}"));
 }
 
 /// Honest drafts are accepted, if their certificates are whole.
