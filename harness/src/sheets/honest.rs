@@ -272,10 +272,9 @@ fn raises(link: &Link) -> Option<Tree> {
 /// Changes one thing of a draft.
 pub fn spoil(draft: &mut Draft, random: &mut Random) {
     let failing = |step: &Step| matches!(step, Step::Failing(..));
-    if draft.steps.iter().any(failing) || draft.methods[0].fails() {
-        if random.once_in(3) {
-            return spoil_failing(draft, random);
-        }
+    let fails = draft.methods[0].fails() || draft.steps.iter().any(failing);
+    if fails && random.once_in(3) {
+        return spoil_failing(draft, random);
     }
     let tree = small(random);
     let fresh = draft.condition(&tree);
