@@ -61,6 +61,33 @@ fn each_rule_of_a_call() {
     changed(other_due(2, 4), &step(20));
 }
 
+/// The same of a method with body, whose own rules ask for its traces.
+#[test]
+fn each_rule_of_a_call_of_a_body() {
+    let changed = |change: &dyn Fn(&mut Draft, usize), line: &str| {
+        changed(
+            |draft, none| {
+                draft.methods[1].points = vec![0, 0, 4];
+                change(draft, none);
+            },
+            line,
+        )
+    };
+    let step = |rule: usize| format!("unproved rule {rule} step 0 {THIRD}");
+    changed(&|_, _| {}, "accepted 24");
+    changed(&|draft, none| draft.methods[1].conditions[0] = none, &step(10));
+    changed(&|draft, none| draft.points[2][0] = none, &step(11));
+    changed(&|draft, none| draft.points[2][1] = none, &step(12));
+    changed(&|draft, none| draft.methods[1].conditions[2] = none, &step(13));
+    changed(&|draft, none| draft.points[1][2] = none, &step(14));
+    changed(&|draft, none| draft.points[3][0] = none, &step(18));
+    changed(&|draft, none| draft.points[3][1] = none, &step(19));
+    changed(&|draft, none| draft.methods[1].conditions[4] = none, &step(20));
+    let method = |rule: usize| format!("unproved rule {rule} method 1 {THIRD}");
+    changed(&|draft, none| draft.methods[1].conditions[1] = none, &method(5));
+    changed(&|draft, none| draft.methods[1].conditions[3] = none, &method(22));
+}
+
 #[test]
 fn each_rule_of_a_method() {
     let method = |rule: usize| format!("unproved rule {rule} method 0 {THIRD}");
