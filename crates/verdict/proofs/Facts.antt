@@ -12,6 +12,7 @@ use Rattle.runs.proofs.Moves.{made-by-trace}
 use Rattle.runs.proofs.Grow.{histories-grow}
 use Rattle.verdict.specs.Facts.{FactsHold}
 use Rattle.verdict.proofs.Loads.{loads, promised-when-open}
+use Rattle.verdict.proofs.Former.{one-outcome}
 use Rattle.verdict.proofs.Witnesses.{exact-exist}
 
 pub facts : (M : Model) → FactsHold M
@@ -24,6 +25,7 @@ facts M wide s bytes =
       events-below = events-below M s;
       first-has-body = first-has-body M s;
       outcomes-fit = outcomes-fit M s;
+      one-outcome = λ former r read. one-outcome M s r read former;
       counted = counted (sheetOf M s);
       made-by-trace = λ u i t o q w going found at primitive to. made-by-trace (sheetOf M s) u i o w going t found at primitive to;
       histories-grow = histories-grow (sheetOf M s) 0;

@@ -21,12 +21,13 @@ use Rattle.sheet.proofs.Each.{each-map, each-append, each-mapped, each-get}
 use Rattle.sheet.proofs.Take.{or-false, Took}
 use Rattle.sheet.proofs.Own.{each-own}
 use Rattle.sheet.proofs.SheetOf.{sheet-is}
+use Rattle.verdict.specs.Facts.{OneOutcome}
 use Rattle.runs.specs.Runs.{Call, State, return, by-step, newCall, openCall, makeCall, tryStep, tryReturn, move}
 use Rattle.runs.proofs.Moves.{step-without-target, return-without-exit}
 use Rattle.runs.specs.Rules.{Rule, ifAny, firstsRules, methodRules, methodsRules, stepRules, stepsRules, rules, howMany, bodyCount, eventCount, callCount, passCount, failedExits, failedExitCount, failedCallCount, isAmong, failedExitRules, total, failingStarts, count}
 
 -- no method has a failed exit, and no call a failed target
-pub record OneOutcome (S : Sheet) : Type 0 where
+pub record NoFailing (S : Sheet) : Type 0 where
   pub exits : Each (λ (x : Method). failedExitCount x ≡ 0) (S .methods)
   pub targets : Each (λ (t : Step). failedCallCount t ≡ 0) (S .steps)
 
@@ -69,9 +70,9 @@ module _ (M : Model) (s : List ℕ) (r : Reading) (read : readSheet M s ≡ whol
       omega (arith, former, ltb-false (M .kinds) (byteAt s at) within))
       r read tt
 
-  pub one-outcome : OneOutcome (sheetOf M s)
-  one-outcome =
-      subst OneOutcome (sym (sheet-is M s r read))
+  pub no-failing : NoFailing (sheetOf M s)
+  no-failing =
+      subst NoFailing (sym (sheet-is M s r read))
       (record {
         exits = each-mapped (λ (x : Method). failedExitCount x ≡ 0) (λ (c : Counted). methodOf (c .last)) (each-map (λ (c : Counted). no-failed-exit (c .last)) (known 3));
         targets = each-mapped (λ (t : Step). failedCallCount t ≡ 0) (λ (c : Counted). stepOf (c .last)) (each-map (λ (c : Counted). no-failed-target (c .last)) (known 4));
@@ -99,7 +100,7 @@ no-starts starts k (cons {x = x} h t) = omega (arith, either-way (isAmong starts
     either-way false = refl
 
 -- "2 + 4b + 3e + 5c + 3p for b methods with body, e event, c call and p pass steps"
-pub former-count : (S : Sheet) → OneOutcome S
+pub former-count : (S : Sheet) → NoFailing S
     → count S ≡ 2 + 4 * total bodyCount (S .methods) + 3 * total eventCount (S .steps) + 5 * total callCount (S .steps) + 3 * total passCount (S .steps)
 unfolding count
 former-count S one =
@@ -141,11 +142,16 @@ module _ (S : Sheet) where
   of-steps k nil = nil
   of-steps k (cons {x = t} h r) = each-append (of-step k t h) (of-steps (suc k) r)
 
-  pub former-rules : OneOutcome S → Each (λ (x : Rule). x .number ≤ 17) (rules S)
+  pub former-rules : NoFailing S → Each (λ (x : Rule). x .number ≤ 17) (rules S)
   unfolding rules
   former-rules one =
       each-map (λ (x : Rule). leb-true (x .number) 17)
       (each-append (of-firsts (0 ∷ [])) (each-append (of-methods (0 ∷ []) 0 (one .exits)) (of-steps 0 (one .targets))))
+
+pub one-outcome : (M : Model) (s : List ℕ) (r : Reading) → readSheet M s ≡ whole r → M .kinds < 15 → OneOutcome (sheetOf M s)
+one-outcome M s r read former =
+    let one = no-failing M s r read former in
+    record { exits = one .exits; targets = one .targets; seventeen = former-rules (sheetOf M s) one; formula = former-count (sheetOf M s) one }
 
 -- Their runs: a failing move changes nothing, or its outcome is not read -----------------------------------------------------------
 
@@ -158,7 +164,7 @@ abbrev NoTarget : Option Step → Type 0
 NoTarget none = Unit {0}
 NoTarget (some t) = failedCallCount t ≡ 0
 
-module _ (S : Sheet) (one : OneOutcome S) (s : State) where
+module _ (S : Sheet) (one : NoFailing S) (s : State) where
   either-way : (b : Bool) → cond b s s ≡ s
   either-way true = refl
   either-way false = refl

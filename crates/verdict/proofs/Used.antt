@@ -3,20 +3,21 @@ use mathlib.Core.Path.{_≡_, refl, subst}
 use mathlib.Core.Bool.{false}
 use mathlib.Core.Option.{none, some}
 use mathlib.Core.List.{List, [], _∷_, List·Memᴰ}
-use Prim.Native.Nat.{ℕ, _<_}
+use Prim.Native.Nat.{ℕ, _≤_, _<_}
 use native.Mathlib.Omega.{arith}
 use lib.ListN.{length, getElem?}
 use Rattle.condition.specs.Condition.{Word, empty, event, Holds}
 use Rattle.condition.specs.Places.{nullable, accepts}
 use Rattle.certificate.specs.Certificate.{Certificate, Exact}
-use Rattle.sheet.specs.Model.{Model, large}
+use Rattle.sheet.specs.Model.{Model, large, withKinds}
 use Rattle.sheet.specs.Sheet.{Outcome, failed, Body, Method, CallStep, event-step, call-step, declaredIn, body, trace, targetFor}
+use Rattle.sheet.specs.Each.{Each}
 use Rattle.sheet.specs.Reading.{Reading, whole, readSheet}
 use Rattle.sheet.specs.Names.{HasBody, isSome, ExitsFit, TargetsFit, EventBelow}
 use Rattle.sheet.specs.Decode.{sheetOf}
 use Rattle.sheet.specs.AtOffset.{empty-symbol, symbolsAt, postfix}
 use Rattle.sheet.proofs.Each.{each-head, each-member}
-use Rattle.runs.specs.Rules.{rules, count}
+use Rattle.runs.specs.Rules.{Rule, rules, total, count}
 use Rattle.runs.specs.Runs.{State, Grown, Move, by-step, newCall, raise, returnedNow, move, run}
 use Rattle.runs.specs.Owing.{OwingWhenOpen}
 use Rattle.verdict.specs.Promise.{EachCertified, bare, certified, ExactFor}
@@ -65,6 +66,16 @@ module _ (f : Facts large M) where
   its-rules : length (rules (sheetOf large M)) ≡ 6
   unfolding sheetOf count
   its-rules = f .counted
+
+  -- where document 01's kinds alone are taken: its count by the formula, and that none of its rules has a number above 17
+  module _ (before : Facts (withKinds 14 large) M) where
+    its-formula : count (sheetOf (withKinds 14 large) M) ≡ 6
+    unfolding sheetOf total
+    its-formula = before .one-outcome (omega arith) _ refl .formula
+
+    its-numbers : Each (λ (x : Rule). x .number ≤ 17) (rules (sheetOf (withKinds 14 large) M))
+    unfolding sheetOf
+    its-numbers = before .one-outcome (omega arith) _ refl .seventeen
 
   its-histories : (ms : List Move) → Grown (run (sheetOf large M) 0 ms)
   its-histories = f .histories-grow

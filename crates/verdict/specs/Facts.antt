@@ -1,5 +1,5 @@
 -- Facts of the definitions. Each ties what is computed to what it stands for, so that a reader need not take it from the text of a definition alone.
-use Prim.Native.Nat.{ℕ, _≤_}
+use Prim.Native.Nat.{ℕ, _+_, _*_, _≤_, _<_}
 use mathlib.Core.Path.{_≡_}
 use mathlib.Core.Bool.{false}
 use mathlib.Core.Logic.{_↔_}
@@ -12,18 +12,26 @@ use Rattle.condition.specs.Places.{nullable, accepts}
 use Rattle.certificate.specs.Certificate.{Certificate}
 use Rattle.sheet.specs.Model.{Model}
 use Rattle.sheet.specs.Each.{Each}
-use Rattle.sheet.specs.Sheet.{Outcome, CallStep, call-step, body, targetFor}
+use Rattle.sheet.specs.Sheet.{Outcome, Method, CallStep, Step, call-step, Sheet, body, targetFor}
 use Rattle.sheet.specs.Kind.{conditions}
 use Rattle.sheet.specs.Record.{Bytes}
 use Rattle.sheet.specs.Reading.{Reading, whole, readSheet}
 use Rattle.sheet.specs.Decode.{sheetOf}
 use Rattle.sheet.specs.AtOffset.{InPostfix}
 use Rattle.sheet.specs.Names.{NamesExist, HasBody, OutcomesFit, EventBelow}
-use Rattle.runs.specs.Rules.{rules, count}
+use Rattle.runs.specs.Rules.{Rule, rules, bodyCount, eventCount, callCount, passCount, failedExitCount, failedCallCount, total, count}
 use Rattle.runs.specs.Runs.{State, Grown, Move, MadeByTrace, run}
 use Rattle.runs.specs.Owing.{OwingWhenOpen}
 use Rattle.verdict.specs.Verdict.{accepted, verdictOf}
 use Rattle.verdict.specs.Promise.{EachCertified, ExactFor}
+
+-- a sheet of document 01: no method has a failed exit and no call a failed target; its rules are among the "Seventeen rules", and its count is
+-- "2 + 4b + 3e + 5c + 3p for b methods with body, e event, c call and p pass steps"
+pub record OneOutcome (S : Sheet) : Type 0 where
+  pub exits : Each (λ (x : Method). failedExitCount x ≡ 0) (S .methods)
+  pub targets : Each (λ (t : Step). failedCallCount t ≡ 0) (S .steps)
+  pub seventeen : Each (λ (x : Rule). x .number ≤ 17) (rules S)
+  pub formula : count S ≡ 2 + 4 * total bodyCount (S .methods) + 3 * total eventCount (S .steps) + 5 * total callCount (S .steps) + 3 * total passCount (S .steps)
 
 pub record Facts (M : Model) (s : List ℕ) : Type 0 where
   -- the word test by places, and the test of the empty word, are the language: of every condition and every word, however long
@@ -37,6 +45,8 @@ pub record Facts (M : Model) (s : List ℕ) : Type 0 where
   pub events-below : (r : Reading) → readSheet M s ≡ whole r → Each (EventBelow (M .events)) (sheetOf M s .steps)
   pub first-has-body : (r : Reading) → readSheet M s ≡ whole r → HasBody (body (sheetOf M s) 0)
   pub outcomes-fit : (r : Reading) → readSheet M s ≡ whole r → OutcomesFit (sheetOf M s)
+  -- on an instrument that takes document 01's kinds alone it is a sheet of document 01: what `as-before` compares with is that document's
+  pub one-outcome : M .kinds < 15 → (r : Reading) → readSheet M s ≡ whole r → OneOutcome (sheetOf M s)
   -- the count of the formula is the number of rules
   pub counted : length (rules (sheetOf M s)) ≡ count (sheetOf M s)
   -- a call of a primitive is made with exactly the words of the trace of its outcome, where the step has a target for that outcome
