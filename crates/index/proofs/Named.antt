@@ -34,7 +34,8 @@ module _ {s conditions : List ℕ} where
       (x .past-named) (x .own-named) (x .due-named)
 
   module _ {S : Sheet} {methods : List ℕ} {m : ℕ} where
-    pub pre-named : MethodIn S s conditions methods m → (v : Declaration) → Declares v (methodAt s (getD methods m 0)) → ConditionIn s conditions (v .pre) (pre S m)
+    pub pre-named : MethodIn S s conditions methods m → (v : Declaration) → Declares v (methodAt s (getD methods m 0))
+        → ConditionIn s conditions (v .pre) (pre S m)
     pre-named x v e = in-table (e .pre-is) (x .pre-named)
 
     pub normal-named : MethodIn S s conditions methods m → (v : Declaration) → Declares v (methodAt s (getD methods m 0))

@@ -41,7 +41,7 @@ fn method_needs(method: Method, first: bool) -> Needs
         },
         Method::TwoOutcomeBody(_, _, _) => Needs {
             rules: if first { 7 } else { 6 },
-            certificates: 5,
+            certificates: 5, // of 3, 5, 6, 22 and 23
         },
     }
 }

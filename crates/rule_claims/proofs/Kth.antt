@@ -33,8 +33,8 @@ pub kth-says : {s : List ℕ} {xs : List Rule} {k n : ℕ} {a : Asked} {x : Rule
 kth-says {s} {xs} {a = a} known is h = subst (λ (k : ℕ). Kth s xs k a) (sym known) (rule _ h is)
 
 -- .. by the name r, which is that of rule number n about i
-pub kth-named : {s : List ℕ} {xs : List Rule} {k j : ℕ} {a : Asked} {r : answers.Rule} {n i : ℕ} {c : Claim} → k ≡ j → NthIs xs j (n of i says c) → RuleIs r n i
-    → Asks s a (r says c) → Kth s xs k a
+pub kth-named : {s : List ℕ} {xs : List Rule} {k j : ℕ} {a : Asked} {r : answers.Rule} {n i : ℕ} {c : Claim} → k ≡ j
+    → NthIs xs j (n of i says c) → RuleIs r n i → Asks s a (r says c) → Kth s xs k a
 kth-named {s} {a = a} {c = c} known is name h =
     kth-says known is (subst (Asks s a) (ap₂ (λ (n i : ℕ). n of i says c) (name .number-is) (name .subject-is)) h)
 

@@ -55,6 +55,7 @@ pub asks-24 : (first : Bool) {asked : Bool} (k : ℕ) → asked ≡ (first && eq
 asks-24 true k e t = (refl, eqb-true k 2 (sym e ∙ t))
 asks-24 false k e t = absurd (subst T (sym t ∙ e) tt)
 
-pub none-behind : (S : Sheet) (m p : ℕ) (first : Bool) {asked : Bool} (k : ℕ) → asked ≡ (first && eqb k 2) → asked ≡ false → 2 ≤ k → length (failedRules S first m p) ≤ k
+pub none-behind : (S : Sheet) (m p : ℕ) (first : Bool) {asked : Bool} (k : ℕ) → asked ≡ (first && eqb k 2) → asked ≡ false → 2 ≤ k
+    → length (failedRules S first m p) ≤ k
 none-behind S m p true k e f l = let other = eqb-false k 2 (sym e ∙ f) in omega arith
 none-behind S m p false k e f l = l

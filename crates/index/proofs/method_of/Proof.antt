@@ -16,10 +16,14 @@ declaration-at-requires : tie.Need-declaration-at-requires
 declaration-at-requires c κs = search needs
 
 outcome-of-requires : tie.Need-outcome-of-requires
-outcome-of-requires c κs = let (S, x) = c .before .before .before .pre in (S, _, _, _, normal-named x (c .declaration-at .result) (c .declaration-at .ensures))
+outcome-of-requires c κs =
+    let (S, x) = c .before .before .before .pre in
+    (S, _, _, _, normal-named x (c .declaration-at .result) (c .declaration-at .ensures))
 
 condition-at-requires : tie.Need-condition-at-requires
-condition-at-requires c κs = let (S, x) = c .before .before .before .before .pre in (_, _, pre-named x (c .before .declaration-at .result) (c .before .declaration-at .ensures))
+condition-at-requires c κs =
+    let (S, x) = c .before .before .before .before .pre in
+    (_, _, pre-named x (c .before .declaration-at .result) (c .before .declaration-at .ensures))
 
 returns : tie.Need-returns
 returns c = λ S x.

@@ -16,13 +16,19 @@ point-at-requires : tie.Need-point-at-requires
 point-at-requires c κs = search needs
 
 condition-at-requires : tie.Need-condition-at-requires
-condition-at-requires c κs = let (S, x) = c .before .before .before .before .pre in (_, _, point-named x (c .point-at .result) (c .point-at .ensures) .first)
+condition-at-requires c κs =
+    let (S, x) = c .before .before .before .before .pre in
+    (_, _, point-named x (c .point-at .result) (c .point-at .ensures) .first)
 
 condition-at-requires-2 : tie.Need-condition-at-requires-2
-condition-at-requires-2 c κs = let (S, x) = c .before .before .before .before .before .pre in (_, _, point-named x (c .before .point-at .result) (c .before .point-at .ensures) .second)
+condition-at-requires-2 c κs =
+    let (S, x) = c .before .before .before .before .before .pre in
+    (_, _, point-named x (c .before .point-at .result) (c .before .point-at .ensures) .second)
 
 condition-at-requires-3 : tie.Need-condition-at-requires-3
-condition-at-requires-3 c κs = let (S, x) = c .before .before .before .before .before .before .pre in (_, _, point-named x (c .before .before .point-at .result) (c .before .before .point-at .ensures) .third)
+condition-at-requires-3 c κs =
+    let (S, x) = c .before .before .before .before .before .before .pre in
+    (_, _, point-named x (c .before .before .point-at .result) (c .before .before .point-at .ensures) .third)
 
 returns : tie.Need-returns
 returns c = λ S x.

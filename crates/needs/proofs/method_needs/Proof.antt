@@ -23,21 +23,31 @@ enum-told-4 c = search needs
 
 returns : tie.Need-returns
 unfolding certificatesNeeded total
-returns c = λ S starts m first. needed-as (ap (λ (v : Method). methodRules S starts m (methodValue v .body)) (c .enum-told .given .1)) (record { rules-are = refl; certificates-are = refl })
+returns c = λ S starts m first.
+    needed-as (ap (λ (v : Method). methodRules S starts m (methodValue v .body)) (c .enum-told .given .1))
+    (record { rules-are = refl; certificates-are = refl })
 
 returns-2 : tie.Need-returns-2
 unfolding certificatesNeeded total
-returns-2 c = λ S starts m first. needed-as (ap (λ (v : Method). methodRules S starts m (methodValue v .body)) (c .enum-told2 .given .1)) (record { rules-are = refl; certificates-are = refl })
+returns-2 c = λ S starts m first.
+    needed-as (ap (λ (v : Method). methodRules S starts m (methodValue v .body)) (c .enum-told2 .given .1))
+    (record { rules-are = refl; certificates-are = refl })
 
 returns-3 : tie.Need-returns-3
 unfolding certificatesNeeded total
-returns-3 c = λ S starts m first. needed-as (ap (λ (v : Method). methodRules S starts m (methodValue v .body)) (c .enum-told3 .given .1)) (record { rules-are = refl; certificates-are = refl })
+returns-3 c = λ S starts m first.
+    needed-as (ap (λ (v : Method). methodRules S starts m (methodValue v .body)) (c .enum-told3 .given .1))
+    (record { rules-are = refl; certificates-are = refl })
 
 returns-4 : tie.Need-returns-4
-returns-4 c = λ S starts m first. needed-as (ap (λ (v : Method). methodRules S starts m (methodValue v .body)) (c .before .enum-told4 .given .1)) (two-outcomes S starts m _ _ true (sym first ∙ c .if1 .taken))
+returns-4 c = λ S starts m first.
+    needed-as (ap (λ (v : Method). methodRules S starts m (methodValue v .body)) (c .before .enum-told4 .given .1))
+    (two-outcomes S starts m _ _ true (sym first ∙ c .if1 .taken))
 
 returns-5 : tie.Need-returns-5
-returns-5 c = λ S starts m first. needed-as (ap (λ (v : Method). methodRules S starts m (methodValue v .body)) (c .before .enum-told4 .given .1)) (two-outcomes S starts m _ _ false (sym first ∙ c .if1 .left))
+returns-5 c = λ S starts m first.
+    needed-as (ap (λ (v : Method). methodRules S starts m (methodValue v .body)) (c .before .enum-told4 .given .1))
+    (two-outcomes S starts m _ _ false (sym first ∙ c .if1 .left))
 
 pub method-needs-spec : {M : Type 1} → statement M
 method-needs-spec =

@@ -22,19 +22,23 @@ enum-told-4 c = search needs
 
 returns : tie.Need-returns
 unfolding certificatesNeeded total
-returns c = λ S i. needed-as (ap (λ (v : Step). stepRules S i (stepValue v)) (c .enum-told .given .1)) (record { rules-are = refl; certificates-are = refl })
+returns c = λ S i.
+    needed-as (ap (λ (v : Step). stepRules S i (stepValue v)) (c .enum-told .given .1)) (record { rules-are = refl; certificates-are = refl })
 
 returns-2 : tie.Need-returns-2
 unfolding certificatesNeeded total
-returns-2 c = λ S i. needed-as (ap (λ (v : Step). stepRules S i (stepValue v)) (c .enum-told2 .given .1)) (record { rules-are = refl; certificates-are = refl })
+returns-2 c = λ S i.
+    needed-as (ap (λ (v : Step). stepRules S i (stepValue v)) (c .enum-told2 .given .1)) (record { rules-are = refl; certificates-are = refl })
 
 returns-3 : tie.Need-returns-3
 unfolding certificatesNeeded total
-returns-3 c = λ S i. needed-as (ap (λ (v : Step). stepRules S i (stepValue v)) (c .enum-told3 .given .1)) (record { rules-are = refl; certificates-are = refl })
+returns-3 c = λ S i.
+    needed-as (ap (λ (v : Step). stepRules S i (stepValue v)) (c .enum-told3 .given .1)) (record { rules-are = refl; certificates-are = refl })
 
 returns-4 : tie.Need-returns-4
 unfolding certificatesNeeded total
-returns-4 c = λ S i. needed-as (ap (λ (v : Step). stepRules S i (stepValue v)) (c .enum-told4 .given .1)) (record { rules-are = refl; certificates-are = refl })
+returns-4 c = λ S i.
+    needed-as (ap (λ (v : Step). stepRules S i (stepValue v)) (c .enum-told4 .given .1)) (record { rules-are = refl; certificates-are = refl })
 
 pub step-needs-spec : {M : Type 1} → statement M
 step-needs-spec =

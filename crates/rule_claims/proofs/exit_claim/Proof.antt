@@ -12,10 +12,12 @@ inclusion-requires-2 : tie.Need-inclusion-requires-2
 inclusion-requires-2 c κs = search needs
 
 returns : tie.Need-returns
-returns c = λ s S n m e o own due w. kth-named (c .before .match .keys1) refl own (c .inclusion .ensures s _ _ (w .point-is .own-stands) (w .declared-is .trace-stands))
+returns c = λ s S n m e o own due w.
+    kth-named (c .before .match .keys1) refl own (c .inclusion .ensures s _ _ (w .point-is .own-stands) (w .declared-is .trace-stands))
 
 returns-2 : tie.Need-returns-2
-returns-2 c = λ s S n m e o own due w. kth-named (c .before .match .keys2) refl due (c .inclusion2 .ensures s _ _ (w .declared-is .future-stands) (w .point-is .due-stands))
+returns-2 c = λ s S n m e o own due w.
+    kth-named (c .before .match .keys2) refl due (c .inclusion2 .ensures s _ _ (w .declared-is .future-stands) (w .point-is .due-stands))
 
 returns-3 : tie.Need-returns-3
 returns-3 c = λ s S n m e o own due w. kth-done (omega (arith, c .match .rest .1, c .match .rest .0 .1))

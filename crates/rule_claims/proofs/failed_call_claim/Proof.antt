@@ -21,7 +21,8 @@ return-claim-requires c κs = search needs
 
 returns : tie.Need-returns
 returns c = λ s S t p is.
-    kth-as (ap (λ (e : Option ℕ). ifAny e (returnRules S 18 (c .before .before .args .i) t failed)) (never s S _ (t .failed-to) (c .enum-told .given .1) is)) (kth-done (omega arith))
+    kth-as (ap (λ (e : Option ℕ). ifAny e (returnRules S 18 (c .before .before .args .i) t failed)) (never s S _ (t .failed-to) (c .enum-told .given .1) is))
+    (kth-done (omega arith))
 
 returns-2 : tie.Need-returns-2
 returns-2 c = λ s S t p is.

@@ -43,13 +43,15 @@ returns-2 c = λ s S starts e first is.
 
 returns-3 : tie.Need-returns-3
 returns-3 c = λ s S starts e first is.
-    kth-as (ap (λ (e : Option ℕ). ifAny e (failedExitRules S starts (c .before .before .args .m))) (never s S _ e (c .enum-told .given .1) is)) (kth-done (omega arith))
+    kth-as (ap (λ (e : Option ℕ). ifAny e (failedExitRules S starts (c .before .before .args .m))) (never s S _ e (c .enum-told .given .1) is))
+    (kth-done (omega arith))
 
 returns-4 : tie.Need-returns-4
 returns-4 c = λ s S starts e first is.
     let a = c .before .before .before .before .before .before .args in
     let x = fails-by s S _ e (c .before .before .before .before .failed .given .1) is in
-    kth-as (failed-rules S starts _ first (x .is)) (kth-done (none-behind S (a .m) (x .point) (a .first) (a .k) (c .before .both .ensures) (c .if2 .left) (c .before .before .if1 .left)))
+    kth-as (failed-rules S starts _ first (x .is))
+    (kth-done (none-behind S (a .m) (x .point) (a .first) (a .k) (c .before .both .ensures) (c .if2 .left) (c .before .before .if1 .left)))
 
 pub failed-exit-claim-spec : {M : Type 1} → statement M
 failed-exit-claim-spec =

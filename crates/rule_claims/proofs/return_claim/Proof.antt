@@ -32,7 +32,8 @@ returns-2 c = λ s S n i to t o names p q.
 
 returns-3 : tie.Need-returns-3
 returns-3 c = λ s S n i to t o names p q.
-    kth-named (c .before .match .keys3) refl (names .future-is) (c .inclusion .ensures s _ _ (q .point-is .due-stands) (q .declared-is .future-stands))
+    kth-named (c .before .match .keys3) refl (names .future-is)
+    (c .inclusion .ensures s _ _ (q .point-is .due-stands) (q .declared-is .future-stands))
 
 returns-4 : tie.Need-returns-4
 returns-4 c = λ s S n i to t o names p q.

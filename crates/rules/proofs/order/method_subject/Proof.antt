@@ -59,7 +59,8 @@ returns-3 c = λ S starts steps first x l.
     let is = c .before .before .method .given .1 in
     let read = c .before .before .before .before .method-at .ensures in
     let names = body-names x l is read in
-    told-rules _ S (c .body-subject .result) (body-rules x l is read starts) (c .body-subject .ensures S starts steps none first x l (names .0) (names .1) tt)
+    told-rules _ S (c .body-subject .result) (body-rules x l is read starts)
+    (c .body-subject .ensures S starts steps none first x l (names .0) (names .1) tt)
 
 returns-4 : tie.Need-returns-4
 returns-4 c = λ S starts steps first x l.
@@ -67,7 +68,8 @@ returns-4 c = λ S starts steps first x l.
     let read = c .before .before .before .before .before .method-at .ensures in
     let names = body-names x l is read in
     let failing = c .before .failed-way .ensures S (point-in x _ (names .2)) (fails x l is read _ refl) in
-    told-rules _ S (c .body-subject2 .result) (body-rules x l is read starts) (c .body-subject2 .ensures S starts steps (some _) first x l (names .0) (names .1) failing)
+    told-rules _ S (c .body-subject2 .result) (body-rules x l is read starts)
+    (c .body-subject2 .ensures S starts steps (some _) first x l (names .0) (names .1) failing)
 
 pub method-subject-spec : {M : Type 1} → statement M
 method-subject-spec =

@@ -23,10 +23,14 @@ enum-known-step : tie.Need-enum-known-step
 enum-known-step c = search needs
 
 point-of-requires : tie.Need-point-of-requires
-point-of-requires c κs = let (S, x, l) = c .before .before .before .before .before .before .before .pre in (S, point-in x _ (named x l (c .before .step .given .1) (c .before .before .before .step-at .ensures) .0))
+point-of-requires c κs =
+    let (S, x, l) = c .before .before .before .before .before .before .before .pre in
+    (S, point-in x _ (named x l (c .before .step .given .1) (c .before .before .before .step-at .ensures) .0))
 
 point-of-requires-2 : tie.Need-point-of-requires-2
-point-of-requires-2 c κs = let (S, x, l) = c .before .before .before .before .before .before .before .before .pre in (S, point-in x _ (named x l (c .before .before .step .given .1) (c .before .before .before .before .step-at .ensures) .1))
+point-of-requires-2 c κs =
+    let (S, x, l) = c .before .before .before .before .before .before .before .before .pre in
+    (S, point-in x _ (named x l (c .before .before .step .given .1) (c .before .before .before .before .step-at .ensures) .1))
 
 enum-known-step-2 : tie.Need-enum-known-step-2
 enum-known-step-2 c = search needs
@@ -55,10 +59,14 @@ enum-known-step-4 : tie.Need-enum-known-step-4
 enum-known-step-4 c = search needs
 
 point-of-requires-3 : tie.Need-point-of-requires-3
-point-of-requires-3 c κs = let (S, x, l) = c .before .before .before .before .before .before .before .pre in (S, point-in x _ (named x l (c .before .step4 .given .1) (c .before .before .before .step-at .ensures) .0))
+point-of-requires-3 c κs =
+    let (S, x, l) = c .before .before .before .before .before .before .before .pre in
+    (S, point-in x _ (named x l (c .before .step4 .given .1) (c .before .before .before .step-at .ensures) .0))
 
 point-of-requires-4 : tie.Need-point-of-requires-4
-point-of-requires-4 c κs = let (S, x, l) = c .before .before .before .before .before .before .before .before .pre in (S, point-in x _ (named x l (c .before .before .step4 .given .1) (c .before .before .before .before .step-at .ensures) .1))
+point-of-requires-4 c κs =
+    let (S, x, l) = c .before .before .before .before .before .before .before .before .pre in
+    (S, point-in x _ (named x l (c .before .before .step4 .given .1) (c .before .before .before .before .step-at .ensures) .1))
 
 returns : tie.Need-returns
 returns c = λ S x l.
@@ -86,7 +94,8 @@ returns-3 c = λ S x l.
     let read = c .before .before .before .before .before .step-at .ensures in
     let names = named x l is read in
     let failing = c .before .failed-way .ensures S (point-in x _ (names .2)) (fails-in x _ (names .3) (target x l is read)) in
-    told-rules _ S (c .call-subject2 .result) (step-rules x l is read) (c .call-subject2 .ensures S _ (some _) x (names .3) (names .0) (names .1) failing)
+    told-rules _ S (c .call-subject2 .result) (step-rules x l is read)
+    (c .call-subject2 .ensures S _ (some _) x (names .3) (names .0) (names .1) failing)
 
 returns-4 : tie.Need-returns-4
 returns-4 c = λ S x l.

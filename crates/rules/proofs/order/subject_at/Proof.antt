@@ -29,16 +29,22 @@ returns-2 : tie.Need-returns-2
 returns-2 c = λ S xs x is.
     let a = c .before .before .before .before .before .args in
     let l : a .number - 1 < length (S .methods) = omega (arith, x .methods-are) in
-    told-rules (a .s .now) S (c .method-subject .result) (method-group S (a .number) is (a .number - 1) (omega arith) _ (method-is (x .indexes) _ l) l) (c .method-subject .ensures S (0 ∷ []) _ (starts-first (a .number - 1)) (x .indexes) l)
+    told-rules (a .s .now) S (c .method-subject .result)
+    (method-group S (a .number) is (a .number - 1) (omega arith) _ (method-is (x .indexes) _ l) l)
+    (c .method-subject .ensures S (0 ∷ []) _ (starts-first (a .number - 1)) (x .indexes) l)
 
 step-subject-requires : tie.Need-step-subject-requires
-step-subject-requires c κs = let (S, x) = c .before .before .before .before .pre .0 in (S, x .indexes, omega (arith, x .methods-are, x .steps-are, c .before .before .before .before .pre .1))
+step-subject-requires c κs =
+    let (S, x) = c .before .before .before .before .pre .0 in
+    (S, x .indexes, omega (arith, x .methods-are, x .steps-are, c .before .before .before .before .pre .1))
 
 returns-3 : tie.Need-returns-3
 returns-3 c = λ S xs x is.
     let a = c .before .before .before .before .before .args in
     let l : a .number - 1 - a .counts .methods < length (S .steps) = omega (arith, x .methods-are, x .steps-are, c .before .before .before .before .before .pre .1) in
-    told-rules (a .s .now) S (c .step-subject .result) (step-group S (a .number) is (a .number - 1 - a .counts .methods) (omega (arith, x .methods-are)) _ (step-is (x .indexes) _ l)) (c .step-subject .ensures S (x .indexes) l)
+    told-rules (a .s .now) S (c .step-subject .result)
+    (step-group S (a .number) is (a .number - 1 - a .counts .methods) (omega (arith, x .methods-are)) _ (step-is (x .indexes) _ l))
+    (c .step-subject .ensures S (x .indexes) l)
 
 pub subject-at-spec : {M : Type 1} → statement M
 subject-at-spec =

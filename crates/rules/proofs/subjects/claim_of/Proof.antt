@@ -39,19 +39,29 @@ enum-told : tie.Need-enum-told
 enum-told c = search needs
 
 returns : tie.Need-returns
-returns c = λ s S xs is. let h = told s S xs (c .before .before .subject .given .1) is in kth-as (h .rules-are) (c .first-claim .ensures s S (h .declared-is))
+returns c = λ s S xs is.
+    let h = told s S xs (c .before .before .subject .given .1) is in
+    kth-as (h .rules-are) (c .first-claim .ensures s S (h .declared-is))
 
 returns-2 : tie.Need-returns-2
-returns-2 c = λ s S xs is. let h = told s S xs (c .before .before .subject2 .given .1) is in kth-as (h .rules-are) (c .body-claim .ensures s S (h .starts) (h .inner) (h .first-is) (h .pre-is) (h .entry-is) (h .exit-is) (h .failing-is))
+returns-2 c = λ s S xs is.
+    let h = told s S xs (c .before .before .subject2 .given .1) is in
+    kth-as (h .rules-are) (c .body-claim .ensures s S (h .starts) (h .inner) (h .first-is) (h .pre-is) (h .entry-is) (h .exit-is) (h .failing-is))
 
 returns-3 : tie.Need-returns-3
-returns-3 c = λ s S xs is. let h = told s S xs (c .before .before .subject3 .given .1) is in kth-as (h .rules-are) (c .event-claim .ensures s S (h .from) (h .to) (h .from-is) (h .to-is) (h .fits))
+returns-3 c = λ s S xs is.
+    let h = told s S xs (c .before .before .subject3 .given .1) is in
+    kth-as (h .rules-are) (c .event-claim .ensures s S (h .from) (h .to) (h .from-is) (h .to-is) (h .fits))
 
 returns-4 : tie.Need-returns-4
-returns-4 c = λ s S xs is. let h = told s S xs (c .before .before .subject4 .given .1) is in kth-as (h .rules-are) (c .call-claim .ensures s S (h .call) (h .pre-is) (h .from-is) (h .to-is) (h .failing-is))
+returns-4 c = λ s S xs is.
+    let h = told s S xs (c .before .before .subject4 .given .1) is in
+    kth-as (h .rules-are) (c .call-claim .ensures s S (h .call) (h .pre-is) (h .from-is) (h .to-is) (h .failing-is))
 
 returns-5 : tie.Need-returns-5
-returns-5 c = λ s S xs is. let h = told s S xs (c .before .before .subject5 .given .1) is in kth-as (h .rules-are) (c .pass-claim .ensures s S (h .from) (h .to) (h .from-is) (h .to-is))
+returns-5 c = λ s S xs is.
+    let h = told s S xs (c .before .before .subject5 .given .1) is in
+    kth-as (h .rules-are) (c .pass-claim .ensures s S (h .from) (h .to) (h .from-is) (h .to-is))
 
 returns-6 : tie.Need-returns-6
 returns-6 c = λ s S xs is. kth-as (told s S xs (c .enum-told .given .1) is) (kth-done (omega arith))
