@@ -99,7 +99,8 @@ module _ (M : Model) (s : List ℕ) where
       omega (arith, left, length-append (r .before 3) (r .own 3), length-append (r .own 3) (counted s at r ∷ [])))
 
   -- reading of the sheet, which stands alone, ends in o, and has come to the state r
-  module _ (o : ReadResult) (k : ℕ) (a : Section) (r : Reading) (begins : Comes M s o 0 fresh) (told : Told M s o k a r) (none-before : r .before ≡ fresh .before) where
+  module _ (o : ReadResult) (k : ℕ) (a : Section) (r : Reading) (begins : Comes M s o 0 fresh) (told : Told M s o k a r)
+      (none-before : r .before ≡ fresh .before) where
     ended : Somewhere (Reached M s) (stateOf o)
     ended = comes-keeps M s (Reached M s) (λ at r w h. past h w) begins at-start
 

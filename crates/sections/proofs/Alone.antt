@@ -99,10 +99,12 @@ abbrev Lead : List ℕ → List ℕ → List Counted → Type 0
 Lead s table cs = (m : ℕ) → m < length cs → twoOutcomesIn (getElem? (map (λ (c : Counted). c .last) cs) m) ≡ twoOutcomeKind (kindListed s table m)
 
 -- .. which steps do not change
-still-listed : (s table : List ℕ) {k : ℕ} {r u : Reading} {before after : List ℕ} → Extended k r u before after → MethodsListed s table k r → k ≡ steps → Lead s table (methodsIn u)
+still-listed : (s table : List ℕ) {k : ℕ} {r u : Reading} {before after : List ℕ} → Extended k r u before after → MethodsListed s table k r → k ≡ steps
+    → Lead s table (methodsIn u)
 still-listed s table {k} {r} {u} g listed e =
-    subst (Lead s table)
-    (sym (ap (λ (before : ℕ → List Counted). before 3 ++ u .own 3) (g .same) ∙ ap (λ (own : List Counted). r .before 3 ++ own) (g .others 3 (λ f. omega arith)))) (listed e)
+    let before = ap (λ (before : ℕ → List Counted). before 3 ++ u .own 3) (g .same) in
+    let own = ap (λ (own : List Counted). r .before 3 ++ own) (g .others 3 (λ f. omega arith)) in
+    subst (Lead s table) (sym (before ∙ own)) (listed e)
 
 module _ {l : Limits} {s : List ℕ} {o : ReadResult} {k at limit : ℕ} {t : Tally} {r : Reading} {table₀ table room : List ℕ} (a : Alone l k limit room)
     (h : Filled (modelWith l) s o k (Done at t) k r table₀ table) where

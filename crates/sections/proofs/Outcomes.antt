@@ -34,7 +34,8 @@ module _ (events : ℕ) (s : List ℕ) (at : ℕ) (u : Reading) (names : T (allE
   name-is k i ks e is = ap (λ (k : ℕ). getD (valuesAt s (at + 1) (kindOf k .fields)) i 0) e ∙ ap (λ (vs : List ℕ). getD vs i 0) is
 
   -- whether the method m, which the record of a step names, has two outcomes
-  two-outcomes : sectionOf (byteAt s at) ≡ steps → (m n : ℕ) → T (ltb m (tally u methods)) → m ≡ n → twoOutcomesIn (methodRecord u m) ≡ twoOutcomeKind (kindListed s table n)
+  two-outcomes : sectionOf (byteAt s at) ≡ steps → (m n : ℕ) → T (ltb m (tally u methods)) → m ≡ n
+      → twoOutcomesIn (methodRecord u m) ≡ twoOutcomeKind (kindListed s table n)
   two-outcomes e m n named is = listed e m (ltb→lt _ _ named) ∙ ap (λ (m : ℕ). twoOutcomeKind (kindListed s table m)) is
 
   -- the definition's test, by the kind
@@ -46,14 +47,16 @@ module _ (events : ℕ) (s : List ℕ) (at : ℕ) (u : Reading) (names : T (allE
   wrong-11 e =
       ap wrong e
       ∙ ap (λ (b : Bool). b || false)
-      (two-outcomes (ap sectionOf e) (value x 2) (shortAt s (at + 5)) (exist 11 e 2 (omega arith)) (name-is 11 2 (2 ∷ 2 ∷ 3 ∷ []) e (names-alone s at (2 ∷ 2 ∷ 3 ∷ []))))
+      (two-outcomes (ap sectionOf e) (value x 2) (shortAt s (at + 5)) (exist 11 e 2 (omega arith))
+      (name-is 11 2 (2 ∷ 2 ∷ 3 ∷ []) e (names-alone s at (2 ∷ 2 ∷ 3 ∷ []))))
 
   wrong-17 : byteAt s at ≡ 17 → wrongOutcomes u x ≡ wrongOutcomesAt s at 17 table
   unfolding recordAt
   wrong-17 e =
       ap wrong e
       ∙ ap not
-      (two-outcomes (ap sectionOf e) (value x 3) (shortAt s (at + 7)) (exist 17 e 3 (omega arith)) (name-is 17 3 (2 ∷ 2 ∷ 2 ∷ 3 ∷ []) e (names-alone s at (2 ∷ 2 ∷ 2 ∷ 3 ∷ []))))
+      (two-outcomes (ap sectionOf e) (value x 3) (shortAt s (at + 7)) (exist 17 e 3 (omega arith))
+      (name-is 17 3 (2 ∷ 2 ∷ 2 ∷ 3 ∷ []) e (names-alone s at (2 ∷ 2 ∷ 2 ∷ 3 ∷ []))))
 
   here : wrongOutcomes u x ≡ wrongOutcomesAt s at (byteAt s at) table
   here = go (eqb (byteAt s at) 11) (eqb (byteAt s at) 17) refl refl

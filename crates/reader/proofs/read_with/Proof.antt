@@ -1,4 +1,4 @@
--- Section after section: each hands on where reading stands, and what its table holds.
+-- Section after section: each hands on where reading stands, and what its table holds. Points and methods are no steps, and name no methods.
 use Rattle.instrument.specs.Model.{modelWith}
 use Rattle.reader.proofs.Whole.{refused-length, stops, certificates-le, concludes}
 use native.Mathlib.Omega.{arith}
@@ -19,16 +19,22 @@ slice-aggregate-read-alone : tie.Need-slice-aggregate-read-alone
 slice-aggregate-read-alone c = search needs
 
 read-alone-requires : tie.Need-read-alone-requires
-read-alone-requires c κs = let short = c .before .before .before .before .before in (search needs, omega (arith, short .if1 .left, short .before .before .before .before .pre .0))
+read-alone-requires c κs =
+    let short = c .before .before .before .before .before in
+    (search needs, omega (arith, short .if1 .left, short .before .before .before .before .pre .0))
 
 slice-aggregate-read-alone-2 : tie.Need-slice-aggregate-read-alone-2
 slice-aggregate-read-alone-2 c = search needs
 
 read-alone-requires-2 : tie.Need-read-alone-requires-2
-read-alone-requires-2 c κs = let short = c .before .before .before .before .before .before .before .before .before .before in (search needs, omega (arith, short .if1 .left, short .before .before .before .before .pre .0))
+read-alone-requires-2 c κs =
+    let short = c .before .before .before .before .before .before .before .before .before .before in
+    (search needs, omega (arith, short .if1 .left, short .before .before .before .before .pre .0))
 
 read-alone-requires-3 : tie.Need-read-alone-requires-3
-read-alone-requires-3 c κs = let short = c .before .before .before .before .before .before .before .before .before .before .before .before .before .before in (search needs, omega (arith, short .if1 .left, short .before .before .before .before .pre .0))
+read-alone-requires-3 c κs =
+    let short = c .before .before .before .before .before .before .before .before .before .before .before .before .before .before in
+    (search needs, omega (arith, short .if1 .left, short .before .before .before .before .pre .0))
 
 enum-known-fourth : tie.Need-enum-known-fourth
 enum-known-fourth c = search needs
@@ -44,8 +50,10 @@ read-certificates-requires c κs =
     let conditions = points .before .before .before in
     let start = conditions .before .before in (
       start .before .before .before .before .before .pre .2,
-      certificates-le (start .before .if1 .left) (start .nothing-counted .ensures) (search needs)
-          (conditions .read-conditions .ensures) (λ o u told none. points .read-alone .ensures o u told none (λ e. absurd (omega arith))) (λ o u told none. methods .read-alone2 .ensures o u told none (λ e. absurd (omega arith))) (steps .read-alone3 .ensures) (c .before .fourth2 .given .1),
+      certificates-le (start .before .if1 .left) (start .nothing-counted .ensures) (search needs) (conditions .read-conditions .ensures)
+          (λ o u told none. points .read-alone .ensures o u told none (λ e. absurd (omega arith)))
+          (λ o u told none. methods .read-alone2 .ensures o u told none (λ e. absurd (omega arith)))
+          (steps .read-alone3 .ensures) (c .before .fourth2 .given .1),
     )
 
 same-length : tie.Need-same-length
@@ -58,8 +66,10 @@ returns-2 c =
     let points = methods .before .before .before .before .before in
     let conditions = points .before .before .before in
     let start = conditions .before .before in
-    stops (start .before .if1 .left) (start .nothing-counted .ensures) (search needs) (conditions .read-conditions .ensures) (λ o u told none. points .read-alone .ensures o u told none (λ e. absurd (omega arith)))
-    (λ o u told none. methods .read-alone2 .ensures o u told none (λ e. absurd (omega arith))) (steps .read-alone3 .ensures) (c .before .fourth .given .1)
+    stops (start .before .if1 .left) (start .nothing-counted .ensures) (search needs) (conditions .read-conditions .ensures)
+    (λ o u told none. points .read-alone .ensures o u told none (λ e. absurd (omega arith)))
+    (λ o u told none. methods .read-alone2 .ensures o u told none (λ e. absurd (omega arith)))
+    (steps .read-alone3 .ensures) (c .before .fourth .given .1)
 
 same-length-2 : tie.Need-same-length-2
 same-length-2 c = search needs
@@ -71,8 +81,10 @@ returns-3 c =
     let points = methods .before .before .before .before .before in
     let conditions = points .before .before .before in
     let start = conditions .before .before in
-    concludes (start .before .if1 .left) (start .nothing-counted .ensures) (search needs) (conditions .read-conditions .ensures) (λ o u told none. points .read-alone .ensures o u told none (λ e. absurd (omega arith)))
-    (λ o u told none. methods .read-alone2 .ensures o u told none (λ e. absurd (omega arith))) (steps .read-alone3 .ensures) (c .before .before .fourth2 .given .1) (c .read-certificates .ensures)
+    concludes (start .before .if1 .left) (start .nothing-counted .ensures) (search needs) (conditions .read-conditions .ensures)
+    (λ o u told none. points .read-alone .ensures o u told none (λ e. absurd (omega arith)))
+    (λ o u told none. methods .read-alone2 .ensures o u told none (λ e. absurd (omega arith)))
+    (steps .read-alone3 .ensures) (c .before .before .fourth2 .given .1) (c .read-certificates .ensures)
 
 pub read-with-spec : {M : Type 1} → statement M
 read-with-spec =

@@ -1,6 +1,6 @@
 -- The loop keeps `Filled`, with section k still to come. Each answer is the law of the test that led to it.
 use mathlib.Core.Path.{_≡_, refl, sym, _∙_, subst}
-use mathlib.Core.Bool.{false, _&&_}
+use mathlib.Core.Bool.{true, false, _&&_}
 use mathlib.Core.List.{[]}
 use Prim.Native.Nat.{_-_}
 use native.Mathlib.Omega.{arith}
@@ -8,8 +8,9 @@ use lib.ListN.{length, length-set}
 use lib.Dec.{eqb, leb}
 use borrow.Author.Tests.{le-leb, lt-leb, not-true, not-false}
 use borrow.Author.Needs.{needs}
-use Rattle.sheet.specs.Kind.{sectionOf}
-use Rattle.sheet.specs.Reading.{Reading, ReadResult}
+use Rattle.sheet.specs.Kind.{kindOf, sectionOf}
+use Rattle.sheet.specs.Record.{recordAt}
+use Rattle.sheet.specs.Reading.{Reading, allExist, ReadResult}
 use Rattle.sheet.proofs.Take.{next-lt}
 use Rattle.format.specs.declared.Refusal.{Refusal}
 use Rattle.format.specs.Kinds.{primitiveKind}
@@ -42,15 +43,18 @@ of-turn c = entry (c .before .before)
 abbrev turn : tie.After-known-told2 Inv-loop μ-loop → tie.In-loop Inv-loop μ-loop
 turn c = c .before .before .before .before
 
--- past the count, the test of the limit, and the test for a first primitive
+-- past the count, the test of the limit, the test of names, and the test for a first primitive
 abbrev read : tie.After-count2 Inv-loop μ-loop → tie.After-known-told2 Inv-loop μ-loop
 read c = c .before .before .before .before
 
 abbrev roomy : tie.Else3 Inv-loop μ-loop → tie.After-count2 Inv-loop μ-loop
 roomy c = c .before
 
+abbrev existing : tie.After-both Inv-loop μ-loop → tie.Else4 Inv-loop μ-loop
+existing c = c .before .before
+
 abbrev tested : tie.After-both Inv-loop μ-loop → tie.Else3 Inv-loop μ-loop
-tested c = c .before .before .before .before
+tested c = existing c .before .before
 
 enum-known-reached : tie.Need-enum-known-reached Inv-loop μ-loop
 enum-known-reached c = search needs
@@ -116,7 +120,7 @@ section-of-requires : tie.Need-section-of-requires Inv-loop μ-loop
 section-of-requires c κs = (standing c .low, omega (arith, standing c .high, of-turn (turn c) .pre .0 .kinds))
 
 same-length-2 : tie.Need-same-length-2 Inv-loop μ-loop
-same-length-2 c = c .before .before .before .before .before .before .before .loop .inv .0
+same-length-2 c = turn (c .before .before) .before .loop .inv .0
 
 returns-3 : tie.Need-returns-3 Inv-loop μ-loop
 returns-3 c = λ o u told none listed.
@@ -124,7 +128,7 @@ returns-3 c = λ o u told none listed.
     too-early (of-turn t .pre .0) (kept t o u told none listed) (t .loop-test .taken) (standing (c .before .before)) (omega (arith, c .if1 .taken, c .before .section-of .ensures))
 
 same-length-3 : tie.Need-same-length-3 Inv-loop μ-loop
-same-length-3 c = c .before .before .before .before .before .before .before .before .loop .inv .0
+same-length-3 c = turn (c .before .before .before) .before .loop .inv .0
 
 returns-4 : tie.Need-returns-4 Inv-loop μ-loop
 returns-4 c = λ o u told none listed.
@@ -139,7 +143,7 @@ same : (c : tie.After-count2 Inv-loop μ-loop) → sectionOf (read c .before .go
 same c = omega (arith, c .before .if2 .left, c .before .before .if1 .left, c .before .before .before .section-of .ensures)
 
 same-length-4 : tie.Need-same-length-4 Inv-loop μ-loop
-same-length-4 c = c .before .before .before .before .before .before .before .before .before .before .loop .inv .0
+same-length-4 c = turn (read (c .before)) .before .loop .inv .0
 
 returns-5 : tie.Need-returns-5 Inv-loop μ-loop
 returns-5 c = λ o u told none listed.
@@ -163,7 +167,7 @@ within c =
     (omega (arith, c .if3 .left, c .before .count2 .ensures))
 
 same-length-5 : tie.Need-same-length-5 Inv-loop μ-loop
-same-length-5 c = c .before .before .before .before .before .before .before .before .before .before .before .before .loop .inv .0
+same-length-5 c = turn (read (roomy (c .before .before))) .before .loop .inv .0
 
 returns-6 : tie.Need-returns-6 Inv-loop μ-loop
 returns-6 c = λ o u told none listed.
@@ -171,6 +175,13 @@ returns-6 c = λ o u told none listed.
     let t = turn (read counted) in
     unnamed (of-turn t .pre .0) (kept t o u told none listed) (t .loop-test .taken) (standing (read counted)) (same counted) (within (c .before .before))
     (sym (c .before .names-exist .ensures) ∙ not-true (c .before .names-exist .result) (c .if4 .taken))
+
+-- what the record names exists
+named : (c : tie.Else4 Inv-loop μ-loop)
+    → allExist (of-turn (turn (read (roomy (c .before .before)))) .args .limits .events) (countOf (turn (read (roomy (c .before .before))) .before .loop .tally))
+    (kindOf (read (roomy (c .before .before)) .before .got .given .0 .0) .fields)
+    (recordAt (of-turn (turn (read (roomy (c .before .before)))) .args .s .now) (turn (read (roomy (c .before .before))) .before .loop .at) .values) ≡ true
+named c = sym (c .before .names-exist .ensures) ∙ not-false (c .before .names-exist .result) (c .if4 .left)
 
 is-primitive-requires : tie.Need-is-primitive-requires Inv-loop μ-loop
 is-primitive-requires c κs = search needs
@@ -187,7 +198,7 @@ first-primitive c =
     first-test (c .both .ensures) (c .before .is-primitive .ensures) (roomy (tested c) .count2 .ensures) (turn (read (roomy (tested c))) .before .before .count .ensures)
 
 same-length-6 : tie.Need-same-length-6 Inv-loop μ-loop
-same-length-6 c = c .before .before .before .before .before .before .before .before .before .before .before .before .before .before .before .loop .inv .0
+same-length-6 c = turn (read (roomy (tested (c .before)))) .before .loop .inv .0
 
 returns-7 : tie.Need-returns-7 Inv-loop μ-loop
 returns-7 c = λ o u told none listed.
@@ -195,13 +206,13 @@ returns-7 c = λ o u told none listed.
     let counted = roomy room in
     let t = turn (read counted) in
     primitive-first (of-turn t .pre .0) (kept t o u told none listed) (t .loop-test .taken) (standing (read counted)) (same counted) (within room)
-    (sym (c .before .before .before .before .names-exist .ensures) ∙ not-false (c .before .before .before .before .names-exist .result) (c .before .before .before .if4 .left)) (given (t .before .before) o u told .1) none (first-primitive (c .before) ∙ c .if5 .taken)
+    (named (existing (c .before))) (given (t .before .before) o u told .1) none (first-primitive (c .before) ∙ c .if5 .taken)
 
 outcomes-fit-requires : tie.Need-outcomes-fit-requires Inv-loop μ-loop
 outcomes-fit-requires c κs = turn (read (roomy (tested (c .before)))) .loop-test .taken
 
 same-length-7 : tie.Need-same-length-7 Inv-loop μ-loop
-same-length-7 c = c .before .before .before .before .before .before .before .before .before .before .before .before .before .before .before .before .before .loop .inv .0
+same-length-7 c = turn (read (roomy (tested (c .before .before .before)))) .before .loop .inv .0
 
 returns-8 : tie.Need-returns-8 Inv-loop μ-loop
 returns-8 c = λ o u told none listed.
@@ -209,8 +220,8 @@ returns-8 c = λ o u told none listed.
     let counted = roomy room in
     let t = turn (read counted) in
     wrong-outcomes (of-turn t .pre .0) (kept t o u told none listed) (t .loop-test .taken) (standing (read counted)) (same counted) (within room)
-    (sym (c .before .before .before .before .before .before .names-exist .ensures) ∙ not-false (c .before .before .before .before .before .before .names-exist .result) (c .before .before .before .before .before .if4 .left)) (given (t .before .before) o u told .1) none
-    (first-primitive (c .before .before .before) ∙ c .before .before .if5 .left) (of-turn t .args .methods .now) listed (wrong-if (c .before .outcomes-fit .ensures) (c .if6 .taken))
+    (named (existing (c .before .before .before))) (given (t .before .before) o u told .1) none (first-primitive (c .before .before .before) ∙ c .before .before .if5 .left) (of-turn t .args .methods .now)
+    listed (wrong-if (c .before .outcomes-fit .ensures) (c .if6 .taken))
 
 cast-table : tie.Need-cast-table Inv-loop μ-loop
 cast-table c = let t = turn (read (roomy (tested (c .before .before .before)))) in omega (arith, t .loop-test .taken, of-turn t .pre .1)
@@ -247,8 +258,9 @@ loop-again c =
       length-set (t .before .loop .table) (counted .count2 .result) (t .before .loop .at) ∙ t .before .loop .inv .0,
       λ o u told none listed.
           again (of-turn t .pre .0) (t .before .loop .inv .1 o u told none listed) (t .loop-test .taken) (standing (read counted)) (same counted) (within room)
-          (sym (c .before .before .before .before .before .before .before .names-exist .ensures) ∙ not-false (c .before .before .before .before .before .before .before .names-exist .result) (c .before .before .before .before .before .before .if4 .left)) (told .1) none
-          (first-primitive (c .before .before .before .before) ∙ c .before .before .before .if5 .left) (of-turn t .args .methods .now) listed (fit-if (c .before .before .outcomes-fit .ensures) (c .before .if6 .left))
+          (named (existing (c .before .before .before .before))) (told .1) none
+          (first-primitive (c .before .before .before .before) ∙ c .before .before .before .if5 .left) (of-turn t .args .methods .now)
+          listed (fit-if (c .before .before .outcomes-fit .ensures) (c .before .if6 .left))
           (counted .count2 .ensures) (c .past .ensures),
     )
 

@@ -14,8 +14,7 @@ returns : tie.Need-returns
 returns c =
     let a = c .before .before .before .before .args in
     let e = sym (c .before .byte-at .ensures) ∙ c .if1 .taken in
-    built (c .before .before .declaration-at .ensures)
-    (not-failing-8 (a .s .now) (a .at) e) (no-body-8 (a .s .now) (a .at) e)
+    built (c .before .before .declaration-at .ensures) (not-failing-8 (a .s .now) (a .at) e) (no-body-8 (a .s .now) (a .at) e)
 
 failed-at-requires : tie.Need-failed-at-requires
 failed-at-requires c κs = search needs
@@ -24,7 +23,8 @@ returns-2 : tie.Need-returns-2
 returns-2 c =
     let a = c .before .before .before .before .before .before .args in
     let e = sym (c .before .before .before .byte-at .ensures) ∙ c .before .if2 .taken in
-    built (c .before .before .before .before .declaration-at .ensures) (failing-is (a .s .now) (a .at) (c .failed-at .ensures) (failed-primitive (a .s .now) (a .at) e)) (no-body-15 (a .s .now) (a .at) e)
+    let failing = failing-is (a .s .now) (a .at) (c .failed-at .ensures) (failed-primitive (a .s .now) (a .at) e) in
+    built (c .before .before .before .before .declaration-at .ensures) failing (no-body-15 (a .s .now) (a .at) e)
 
 body-at-requires : tie.Need-body-at-requires
 body-at-requires c κs = search needs
@@ -40,19 +40,24 @@ short-at-requires c κs = search needs
 
 returns-3 : tie.Need-returns-3
 returns-3 c =
-    let a = c .before .before .before .before .before .before .before .before .before .args in
-    let body = c .before .before .before .body-at .ensures in
-    let e = sym (c .before .before .before .before .before .before .byte-at .ensures) ∙ c .before .before .if3 .taken in
-    built (c .before .before .before .before .before .before .before .declaration-at .ensures) (failing-is (a .s .now) (a .at) (c .before .failed-at2 .ensures) (failed-body (a .s .now) (a .at) e))
-    (body-16 (a .s .now) (a .at) (body .0) (body .1) e (c .short-at .ensures))
+    let with-body = c .before .before .before in
+    let read = with-body .before .before .before in
+    let a = read .before .before .before .args in
+    let e = sym (read .byte-at .ensures) ∙ c .before .before .if3 .taken in
+    let failing = failing-is (a .s .now) (a .at) (c .before .failed-at2 .ensures) (failed-body (a .s .now) (a .at) e) in
+    built (read .before .declaration-at .ensures) failing
+    (body-16 (a .s .now) (a .at) (with-body .body-at .ensures .0) (with-body .body-at .ensures .1) e (c .short-at .ensures))
 
 returns-4 : tie.Need-returns-4
 returns-4 c =
-    let a = c .before .before .before .before .before .before .before .args in
+    let read = c .before .before .before .before in
+    let a = read .before .before .before .args in
+    let is = read .byte-at .ensures in
     let body = c .before .body-at .ensures in
-    let is = c .before .before .before .before .byte-at .ensures in
-    built (c .before .before .before .before .before .declaration-at .ensures) (not-failing (a .s .now) (a .at) (λ e. c .before .before .if2 .left (is ∙ e)) (λ e. c .if3 .left (is ∙ e)))
-    (body-other (a .s .now) (a .at) (body .0) (body .1) (λ e. c .before .before .before .if1 .left (is ∙ e)) (λ e. c .before .before .if2 .left (is ∙ e)) (λ e. c .if3 .left (is ∙ e)))
+    built (read .before .declaration-at .ensures)
+    (not-failing (a .s .now) (a .at) (λ e. c .before .before .if2 .left (is ∙ e)) (λ e. c .if3 .left (is ∙ e)))
+    (body-other (a .s .now) (a .at) (body .0) (body .1)
+    (λ e. c .before .before .before .if1 .left (is ∙ e)) (λ e. c .before .before .if2 .left (is ∙ e)) (λ e. c .if3 .left (is ∙ e)))
 
 pub method-at-spec : {M : Type 1} → statement M
 method-at-spec =

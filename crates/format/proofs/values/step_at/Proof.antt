@@ -31,7 +31,15 @@ index-requires c κs = search needs
 
 returns : tie.Need-returns
 unfolding stepAt
-returns c = simp (c .before .before .before .before .short-at .ensures, c .before .before .before .short-at2 .ensures, c .index .ensures, c .before .byte-at2 .ensures, sym (c .before .before .before .before .before .byte-at .ensures) ∙ c .before .before .if1 .taken)
+returns c =
+    let read = c .before .before .before in
+    simp (
+      read .before .short-at .ensures,
+      read .short-at2 .ensures,
+      c .index .ensures,
+      c .before .byte-at2 .ensures,
+      sym (read .before .before .byte-at .ensures) ∙ c .before .before .if1 .taken,
+    )
 
 add-short-at-3 : tie.Need-add-short-at-3
 add-short-at-3 c = search needs
@@ -41,7 +49,9 @@ short-at-requires-3 c κs = search needs
 
 returns-2 : tie.Need-returns-2
 unfolding stepAt
-returns-2 c = simp (c .before .before .before .before .short-at .ensures, c .before .before .before .short-at2 .ensures, c .short-at3 .ensures, sym (c .before .before .before .before .before .byte-at .ensures) ∙ c .before .if2 .taken)
+returns-2 c =
+    let read = c .before .before .before in
+    simp (read .before .short-at .ensures, read .short-at2 .ensures, c .short-at3 .ensures, sym (read .before .before .byte-at .ensures) ∙ c .before .if2 .taken)
 
 add-short-at-4 : tie.Need-add-short-at-4
 add-short-at-4 c = search needs
@@ -57,13 +67,28 @@ short-at-requires-5 c κs = search needs
 
 returns-3 : tie.Need-returns-3
 unfolding stepAt
-returns-3 c = simp (c .before .before .before .before .before .before .short-at .ensures, c .before .before .before .before .before .short-at2 .ensures, c .before .short-at4 .ensures, c .short-at5 .ensures, sym (c .before .before .before .before .before .before .before .byte-at .ensures) ∙ c .before .before .if3 .taken)
+returns-3 c =
+    let read = c .before .before .before .before .before in
+    simp (
+      read .before .short-at .ensures,
+      read .short-at2 .ensures,
+      c .before .short-at4 .ensures,
+      c .short-at5 .ensures,
+      sym (read .before .before .byte-at .ensures) ∙ c .before .before .if3 .taken,
+    )
 
 returns-4 : tie.Need-returns-4
 unfolding stepAt
 returns-4 c =
-    let is = c .before .before .before .before .before .byte-at .ensures in
-    simp (c .before .before .before .before .short-at .ensures, c .before .before .before .short-at2 .ensures, ne-eqb _ _ (λ e. c .before .before .if1 .left (is ∙ e)), ne-eqb _ _ (λ e. c .before .if2 .left (is ∙ e)), ne-eqb _ _ (λ e. c .if3 .left (is ∙ e)))
+    let read = c .before .before .before in
+    let is = read .before .before .byte-at .ensures in
+    simp (
+      read .before .short-at .ensures,
+      read .short-at2 .ensures,
+      ne-eqb _ _ (λ e. c .before .before .if1 .left (is ∙ e)),
+      ne-eqb _ _ (λ e. c .before .if2 .left (is ∙ e)),
+      ne-eqb _ _ (λ e. c .if3 .left (is ∙ e)),
+    )
 
 pub step-at-spec : {M : Type 1} → statement M
 step-at-spec =

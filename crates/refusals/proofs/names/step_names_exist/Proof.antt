@@ -12,10 +12,10 @@ two-below-requires : tie.Need-two-below-requires
 two-below-requires c κs = omega (arith, two-inside (c .before .pre .0) (c .before .pre .1))
 
 add-index : tie.Need-add-index
-add-index c = omega (arith, step-inside (c .before .before .before .pre .0) (c .before .before .before .pre .1) 10 (c .match .keys1))
+add-index c = let start = c .before .before .before in omega (arith, step-inside (start .pre .0) (start .pre .1) 10 (c .match .keys1))
 
 shared-slice-read-index : tie.Need-shared-slice-read-index
-shared-slice-read-index c = omega (arith, step-inside (c .before .before .before .before .pre .0) (c .before .before .before .before .pre .1) 10 (c .before .match .keys1))
+shared-slice-read-index c = let start = c .before .before .before .before in omega (arith, step-inside (start .pre .0) (start .pre .1) 10 (c .before .match .keys1))
 
 index-requires : tie.Need-index-requires
 index-requires c κs = search needs
@@ -24,52 +24,58 @@ both-requires : tie.Need-both-requires
 both-requires c κs = search needs
 
 add-below : tie.Need-add-below
-add-below c = omega (arith, step-inside (c .before .before .before .pre .0) (c .before .before .before .pre .1) 11 (c .match .keys2))
+add-below c = let start = c .before .before .before in omega (arith, step-inside (start .pre .0) (start .pre .1) 11 (c .match .keys2))
 
 below-requires : tie.Need-below-requires
-below-requires c κs = omega (arith, step-inside (c .before .before .before .pre .0) (c .before .before .before .pre .1) 11 (c .match .keys2))
+below-requires c κs = let start = c .before .before .before in omega (arith, step-inside (start .pre .0) (start .pre .1) 11 (c .match .keys2))
 
 both-requires-2 : tie.Need-both-requires-2
 both-requires-2 c κs = search needs
 
 add-below-2 : tie.Need-add-below-2
-add-below-2 c = omega (arith, step-inside (c .before .before .before .pre .0) (c .before .before .before .pre .1) 17 (c .match .keys3))
+add-below-2 c = let start = c .before .before .before in omega (arith, step-inside (start .pre .0) (start .pre .1) 17 (c .match .keys3))
 
 below-requires-2 : tie.Need-below-requires-2
-below-requires-2 c κs = omega (arith, step-inside (c .before .before .before .pre .0) (c .before .before .before .pre .1) 17 (c .match .keys3))
+below-requires-2 c κs = let start = c .before .before .before in omega (arith, step-inside (start .pre .0) (start .pre .1) 17 (c .match .keys3))
 
 both-requires-3 : tie.Need-both-requires-3
 both-requires-3 c κs = search needs
 
 add-below-3 : tie.Need-add-below-3
-add-below-3 c = omega (arith, step-inside (c .before .before .before .before .before .pre .0) (c .before .before .before .before .before .pre .1) 17 (c .before .before .match .keys3))
+add-below-3 c = let start = c .before .before .before .before .before in omega (arith, step-inside (start .pre .0) (start .pre .1) 17 (c .before .before .match .keys3))
 
 below-requires-3 : tie.Need-below-requires-3
-below-requires-3 c κs = omega (arith, step-inside (c .before .before .before .before .before .pre .0) (c .before .before .before .before .before .pre .1) 17 (c .before .before .match .keys3))
+below-requires-3 c κs = let start = c .before .before .before .before .before in omega (arith, step-inside (start .pre .0) (start .pre .1) 17 (c .before .before .match .keys3))
 
 both-requires-4 : tie.Need-both-requires-4
 both-requires-4 c κs = search needs
 
 returns : tie.Need-returns
 returns c =
-    let a = c .before .before .before .before .before .before .args in
-    exist-10 (c .before .before .before .before .before .before .pre .0) (c .before .before .before .before .before .before .pre .1) (a .events) (a .tally) (c .before .before .before .before .two-below .ensures) (c .before .before .before .match .keys1) (c .before .index .ensures) (c .both .ensures)
+    let kind = c .before .before .before in
+    let start = kind .before .before .before in
+    exist-10 (start .pre .0) (start .pre .1) (start .args .events) (start .args .tally) (kind .before .two-below .ensures) (kind .match .keys1)
+    (c .before .index .ensures) (c .both .ensures)
 
 returns-2 : tie.Need-returns-2
 returns-2 c =
-    let a = c .before .before .before .before .before .args in
-    exist-11 (c .before .before .before .before .before .pre .0) (c .before .before .before .before .before .pre .1) (a .events) (a .tally) (c .before .before .before .two-below .ensures) (c .before .before .match .keys2) (c .before .below .ensures) (c .both2 .ensures)
+    let kind = c .before .before in
+    let start = kind .before .before .before in
+    exist-11 (start .pre .0) (start .pre .1) (start .args .events) (start .args .tally) (kind .before .two-below .ensures) (kind .match .keys2)
+    (c .before .below .ensures) (c .both2 .ensures)
 
 returns-3 : tie.Need-returns-3
 returns-3 c =
-    let a = c .before .before .before .before .before .before .before .args in
-    exist-17 (c .before .before .before .before .before .before .before .pre .0) (c .before .before .before .before .before .before .before .pre .1) (a .events) (a .tally) (c .before .before .before .before .before .two-below .ensures) (c .before .before .before .before .match .keys3)
+    let kind = c .before .before .before .before in
+    let start = kind .before .before .before in
+    exist-17 (start .pre .0) (start .pre .1) (start .args .events) (start .args .tally) (kind .before .two-below .ensures) (kind .match .keys3)
     (c .before .before .before .below2 .ensures) (c .before .before .both3 .ensures) (c .before .below3 .ensures) (c .both4 .ensures)
 
 returns-4 : tie.Need-returns-4
 returns-4 c =
-    let a = c .before .before .before .args in
-    exist-two (c .before .before .before .pre .0) (c .before .before .before .pre .1) (a .events) (a .tally) (c .before .two-below .ensures) (c .match .rest .0 .0 .1) (c .match .rest .0 .1) (c .match .rest .1)
+    let start = c .before .before .before in
+    exist-two (start .pre .0) (start .pre .1) (start .args .events) (start .args .tally) (c .before .two-below .ensures)
+    (c .match .rest .0 .0 .1) (c .match .rest .0 .1) (c .match .rest .1)
 
 pub step-names-exist-spec : {M : Type 1} → statement M
 step-names-exist-spec =

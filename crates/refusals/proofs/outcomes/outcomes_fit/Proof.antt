@@ -18,7 +18,8 @@ has-two-outcomes-requires c κs = search needs
 returns : tie.Need-returns
 returns c =
     let a = c .before .before .before .before .before .before .args in
-    fits-11 (a .s .now) (a .at) (a .methods .now) (c .before .before .before .if1 .taken) (c .before .before .short-at .ensures) (c .before .kind-listed .ensures) (c .has-two-outcomes .ensures)
+    fits-11 (a .s .now) (a .at) (a .methods .now) (c .before .before .before .if1 .taken) (c .before .before .short-at .ensures)
+    (c .before .kind-listed .ensures) (c .has-two-outcomes .ensures)
 
 add-short-at-2 : tie.Need-add-short-at-2
 add-short-at-2 c = search needs
@@ -35,7 +36,8 @@ has-two-outcomes-requires-2 c κs = search needs
 returns-2 : tie.Need-returns-2
 returns-2 c =
     let a = c .before .before .before .before .before .before .before .args in
-    fits-17 (a .s .now) (a .at) (a .methods .now) (c .before .before .before .if2 .taken) (c .before .before .short-at2 .ensures) (c .before .kind-listed2 .ensures) (c .has-two-outcomes2 .ensures)
+    fits-17 (a .s .now) (a .at) (a .methods .now) (c .before .before .before .if2 .taken) (c .before .before .short-at2 .ensures)
+    (c .before .kind-listed2 .ensures) (c .has-two-outcomes2 .ensures)
 
 returns-3 : tie.Need-returns-3
 returns-3 c =
