@@ -752,6 +752,20 @@ class Documents(unittest.TestCase):
             lines.append(load_line(assemble(changed)))
         self.assertEqual(lines, shown)
 
+    def test_gate_may_fail(self):
+        """The statements are the example's; the line is that of the other."""
+        *shown, line = re.findall(
+            r"^ {4}(\w.*)$", self.section("A gate that may fail to open"), re.M)
+        source = (EXAMPLES / "gate_may_fail.txt").read_text(encoding="utf-8")
+        self.assertEqual(len(shown), 6)
+        for statement in shown:
+            self.assertIn(statement, source.splitlines())
+        owed = source.replace("failed future all", "failed future closes")
+        self.assertEqual(load_line(assemble(owed)), line)
+        self.assertEqual(
+            assemble(owed),
+            (EXAMPLES / "gate_may_fail_owed.sheet").read_bytes())
+
     def test_sheets_to_try(self):
         rows = re.findall(r"^\| (?!bytes|--)(.*) \| `(.*)` \|$",
                           self.section("Sheets to try"), re.M)
