@@ -17,10 +17,9 @@ use Rattle.verdict.specs.WordTest.{Answer, tested, untested, wordTest}
 use Rattle.verdict.specs.Reply.{Reply, _giving_, replyOf, answerReply}
 use Rattle.verdict.specs.Promise.{RefusedFor, while-reading, wrong-count, AsBefore, of-new-kind, the-same-answer, Loads, TestsWord}
 use Rattle.verdict.specs.Cases.{M, M′, W}
-use Rattle.verdict.proofs.Parts.{ones}
+use Rattle.verdict.proofs.Parts.{ones, allEmpty, withPrimitive, method16}
 use Rattle.verdict.proofs.Reply.{orZero, same-number, same-value}
 use Rattle.verdict.proofs.Models.{fewer-kinds}
-use Rattle.verdict.proofs.Outcomes.{allEmpty, withPrimitive, method16}
 
 -- By evaluation -------------------------------------------------------------------------------------------------------------
 

@@ -9,7 +9,7 @@ use Prim.Native.String.{String}
 use lib.ListN.{take, replicate}
 use Rattle.condition.specs.Condition.{Word}
 use Rattle.sheet.specs.Model.{large}
-use Rattle.verdict.specs.Verdict.{refused, verdictOf}
+use Rattle.verdict.specs.Verdict.{refused, unproved, verdictOf}
 use Rattle.verdict.specs.WordTest.{Answer, tested, untested, wordTest}
 use Rattle.verdict.specs.Reply.{Reply, _giving_, replyOf, answerReply}
 use Rattle.verdict.specs.Line.{ascii, line, answerLine}
@@ -72,6 +72,20 @@ sheets =
 sheets-print : map (λ x. line (verdictOf large (x .bytes))) sheets ≡ map (λ x. ascii (x .prints)) sheets
 unfolding sheets verdictOf line
 sheets-print = refl
+
+-- the subject of a rule, at each change from methods to steps and back
+nouns : List String
+nouns =
+    "unproved rule 6 method 3 clause 1 pair 0 event 0 place 0"
+    ∷ "unproved rule 7 step 3 clause 1 pair 0 event 0 place 0"
+    ∷ "unproved rule 21 step 3 clause 1 pair 0 event 0 place 0"
+    ∷ "unproved rule 22 method 3 clause 1 pair 0 event 0 place 0"
+    ∷ "unproved rule 24 method 3 clause 1 pair 0 event 0 place 0"
+    ∷ []
+
+nouns-print : map (λ (rule : ℕ). line (unproved rule 3 (record { clause = 1; pair = 0; event = 0; place = 0 }))) (6 ∷ 7 ∷ 21 ∷ 22 ∷ 24 ∷ []) ≡ map ascii nouns
+unfolding nouns line
+nouns-print = refl
 
 -- the same as number and values, of an answer of each kind
 abbrev none-giving : List ℕ → Reply

@@ -12,8 +12,6 @@ pub mod Cases
 pub mod Examples
 pub mod Witnesses
 pub mod Parts
-pub mod Outcomes
-mod Failing
 mod Before
 mod Former
 mod Unqualified

@@ -2,7 +2,7 @@
 use mathlib.Core.List.{List, [], _∷_, _++_}
 use Prim.Native.Nat.{ℕ, zero, suc}
 use Rattle.certificate.specs.Certificate.{pair, Certificate}
-use Rattle.verdict.specs.Cases.{startOnly}
+use Rattle.verdict.specs.Cases.{point0, method0, startOnly}
 
 -- the bytes of fields that are below 256
 abbrev pub fields : List ℕ → List ℕ
@@ -32,3 +32,17 @@ three = certified (pair 0 1 ∷ pair 1 2 ∷ pair 2 4 ∷ [])
 abbrev pub ones : ℕ → List ℕ
 ones zero = []
 ones (suc n) = one ++ ones n
+
+-- Sheets whose one condition is EMPTY -------------------------------------------------------------------------------------
+
+-- with one point, methods and steps, and certificates
+abbrev pub allEmpty : List ℕ → List ℕ → List ℕ
+allEmpty records certificates = (0x02 ∷ 0x06 ∷ []) ++ (point0 ++ (records ++ certificates))
+
+-- a method with body and a primitive with two outcomes, and a call of the primitive
+abbrev pub withPrimitive : List ℕ
+withPrimitive = method0 0 ++ (recordOf 15 (0 ∷ 0 ∷ 0 ∷ 0 ∷ 0 ∷ []) ++ recordOf 17 (0 ∷ 0 ∷ 0 ∷ 1 ∷ []))
+
+-- a method with body and two outcomes
+abbrev pub method16 : List ℕ
+method16 = recordOf 16 (0 ∷ 0 ∷ 0 ∷ 0 ∷ 0 ∷ 0 ∷ 0 ∷ 0 ∷ [])

@@ -17,13 +17,13 @@ use Rattle.sheet.specs.Decode.{sheetOf}
 use Rattle.sheet.proofs.Each.{each-head, each-tail}
 use Rattle.runs.specs.Rules.{rules, count}
 use Rattle.runs.specs.Runs.{Move, return, by-step, run, Safe}
 use Rattle.verdict.specs.Verdict.{Report, accepted, certificatesNeeded, verdictOf}
 use Rattle.verdict.specs.Promise.{done, bare, certified, Loads}
-use Rattle.verdict.proofs.Parts.{recordOf, one, two, three, ones}
+use Rattle.verdict.proofs.Parts.{recordOf, one, two, three, ones, allEmpty, withPrimitive, method16}
 use Rattle.verdict.proofs.Bytes.{small, are-bytes}
 use Rattle.verdict.proofs.Loads.{loads}
 use Rattle.verdict.proofs.Witnesses.{Premises, in-itself, start-is-exact, empty-is-exact}
-use Rattle.verdict.proofs.Outcomes.{allEmpty, withPrimitive, method16, wrongTrace, wrongFuture}
+use Rattle.failing_sheets.proofs.Judged.{wrongTrace, wrongFuture}
 
 -- The gate ------------------------------------------------------------------------------------------------------------------
 

@@ -7,12 +7,12 @@ use Prim.Native.Nat.{ℕ, zero, suc}
 use Prim.Native.String.{String}
 use lib.ListN.{take}
 use Rattle.sheet.specs.Model.{large, entry}
 use Rattle.verdict.specs.Verdict.{verdictOf}
 use Rattle.verdict.specs.WordTest.{untested, wordTest}
 use Rattle.verdict.specs.Reply.{replyOf}
 use Rattle.verdict.specs.Line.{ascii, line}
 use Rattle.verdict.specs.Cases.{point0, method0}
-use Rattle.verdict.proofs.Parts.{recordOf, one, two, ones}
+use Rattle.verdict.proofs.Parts.{recordOf, one, two, ones, allEmpty, withPrimitive, method16}
 
 -- a sheet's bytes, and the line that the loading program prints
 record Printed : Type 0 where
@@ -24,19 +24,7 @@ printed s t = record { bytes = s; prints = t }
 
 -- Sheets whose one condition is EMPTY -------------------------------------------------------------------------------------
 
--- with one point, methods and steps, and certificates
-abbrev pub allEmpty : List ℕ → List ℕ → List ℕ
-allEmpty records certificates = (0x02 ∷ 0x06 ∷ []) ++ (point0 ++ (records ++ certificates))
-
--- a method with body and a primitive with two outcomes, and a call of the primitive
-abbrev pub withPrimitive : List ℕ
-withPrimitive = method0 0 ++ (recordOf 15 (0 ∷ 0 ∷ 0 ∷ 0 ∷ 0 ∷ []) ++ recordOf 17 (0 ∷ 0 ∷ 0 ∷ 1 ∷ []))
-
--- a method with body and two outcomes
-abbrev pub method16 : List ℕ
-method16 = recordOf 16 (0 ∷ 0 ∷ 0 ∷ 0 ∷ 0 ∷ 0 ∷ 0 ∷ 0 ∷ [])
-
--- two of them, and a call of the first
+-- two methods with body and two outcomes, and a call of the first
 abbrev withMethods : List ℕ
 withMethods = method16 ++ (method16 ++ recordOf 17 (0 ∷ 0 ∷ 0 ∷ 0 ∷ []))
 

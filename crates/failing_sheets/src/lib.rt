@@ -1,0 +1,1 @@
+// Theorems stand in proofs/.
