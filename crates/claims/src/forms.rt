@@ -20,11 +20,12 @@ pub enum Raised {
 }
 
 // A word of a condition, then what is raised, is a word of another: rules 7 and 8, 11 and 12, 15 and 16.
-pub fn forward(rule: Rule, before: usize, raised: Raised, after: usize) -> Asked
+pub fn forward(rule: Rule, before: u32, raised: Raised, after: u32) -> Asked
     ensures { λ r. ⌜ ((s : List ℕ) (a b : Condition) (t : Option Condition) → StandsAt s before a → RaisedIs s raised t → StandsAt s after b →
         Asks s r (rule says thenRaised a t isIn b)) ⌝ }
 {
-    let first = Part::Condition(before);
+    let first = Part::Condition(before as usize);
+    let right = Part::Condition(after as usize);
     let left = match raised {
         Raised::Nothing => Left::One(first),
         Raised::Word(second) => Left::Two(first, second),
@@ -32,16 +33,17 @@ pub fn forward(rule: Rule, before: usize, raised: Raised, after: usize) -> Asked
     Asked::Claim(Claim::Inclusion {
         rule,
         left,
-        right: Part::Condition(after),
+        right,
     })
 }
 
 // What is raised, then a word of a condition, is a word of another: rules 9, 14 and 17.
-pub fn backward(rule: Rule, raised: Raised, after: usize, before: usize) -> Asked
+pub fn backward(rule: Rule, raised: Raised, after: u32, before: u32) -> Asked
     ensures { λ r. ⌜ ((s : List ℕ) (a b : Condition) (t : Option Condition) → RaisedIs s raised t → StandsAt s after b → StandsAt s before a →
         Asks s r (rule says raisedThen t b isIn a)) ⌝ }
 {
-    let second = Part::Condition(after);
+    let second = Part::Condition(after as usize);
+    let right = Part::Condition(before as usize);
     let left = match raised {
         Raised::Nothing => Left::One(second),
         Raised::Word(first) => Left::Two(first, second),
@@ -49,23 +51,23 @@ pub fn backward(rule: Rule, raised: Raised, after: usize, before: usize) -> Aske
     Asked::Claim(Claim::Inclusion {
         rule,
         left,
-        right: Part::Condition(before),
+        right,
     })
 }
 
 // The words of a condition are in another.
-pub fn inclusion(rule: Rule, left: usize, right: usize) -> Asked
+pub fn inclusion(rule: Rule, left: u32, right: u32) -> Asked
     ensures { λ r. ⌜ ((s : List ℕ) (a b : Condition) → StandsAt s left a → StandsAt s right b → Asks s r (rule says a isIn b)) ⌝ }
 {
     forward(rule, left, Raised::Nothing, right)
 }
 
 // A condition holds the empty word.
-pub fn holds_empty(rule: Rule, condition: usize) -> Asked
+pub fn holds_empty(rule: Rule, condition: u32) -> Asked
     ensures { λ r. ⌜ ((s : List ℕ) (a : Condition) → StandsAt s condition a → Asks s r (rule says runs.holdsEmpty a)) ⌝ }
 {
     Asked::Claim(Claim::HoldsEmpty {
         rule,
-        part: Part::Condition(condition),
+        part: Part::Condition(condition as usize),
     })
 }

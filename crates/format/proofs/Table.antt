@@ -52,11 +52,8 @@ no-body =
 abbrev pub sectionByTests : ℕ → ℕ
 sectionByTests k =
     cond (ltb k 7) conditions
-    (cond (ltb k 8) points
-    (cond (ltb k 10) methods
-    (cond (ltb k 13) steps
-    (cond (ltb k 15) certificates
-    (cond (ltb k 17) methods steps)))))
+    (cond (ltb k 13) (cond (ltb k 8) points (cond (ltb k 10) methods steps))
+    (cond (ltb k 15) certificates (cond (ltb k 17) methods steps)))
 
 pub section-is : (k : ℕ) → 1 ≤ k → k ≤ lastKind → sectionByTests k ≡ sectionOf k
 section-is =

@@ -52,12 +52,14 @@ pub fn section_of(kind: u8) -> u8
 {
     if kind < 7 {
         CONDITIONS
-    } else if kind < 8 {
-        POINTS
-    } else if kind < 10 {
-        METHODS
     } else if kind < 13 {
-        STEPS
+        if kind < 8 {
+            POINTS
+        } else if kind < 10 {
+            METHODS
+        } else {
+            STEPS
+        }
     } else if kind < 15 {
         CERTIFICATES
     } else if kind < 17 {

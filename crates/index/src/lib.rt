@@ -1,5 +1,4 @@
 // The conditions of a sheet's points and methods, by the tables of offsets that lead to them.
-ghost use mathlib.Core.Path.{_≡_};
 ghost use mathlib.Core.List.{List};
 ghost use Prim.Native.Nat.{ℕ};
 ghost use Rattle.sheet.specs.Sheet.{Outcome, failed, Sheet};
@@ -12,38 +11,32 @@ use format::values::declaration_at;
 use format::values::failed_at;
 use format::values::point_at;
 
-// The conditions of a point, by the offsets where they stand.
+// The conditions of a point, by the offsets where they stand. An offset has four bytes, as in the tables: a subject's conditions are copied from claim to
+// claim.
 pub struct PointConditions {
-    pub past: usize,
-    pub own: usize,
-    pub due: usize,
+    pub past: u32,
+    pub own: u32,
+    pub due: u32,
 }
 
 // The conditions that a method declares of one outcome, by the offsets where they stand.
 pub struct OutcomeConditions {
-    pub trace: usize,
-    pub future: usize,
+    pub trace: u32,
+    pub future: u32,
 }
 
 // The conditions that a method declares of its beginning and of the normal outcome.
 pub struct MethodConditions {
-    pub pre: usize,
+    pub pre: u32,
     pub normal: OutcomeConditions,
 }
 
-// An offset of a table, as an index.
-fn wide(offset: u32) -> usize
-    ensures { λ r. ⌜ r ≡ offset ⌝ }
-{
-    offset as usize
-}
-
 // The offset where the condition number c stands.
-fn condition_at(conditions: &[u32; 256], c: usize) -> usize
+fn condition_at(conditions: &[u32; 256], c: usize) -> u32
     requires { ⌜ ((s : List ℕ) × (r : Condition) × ConditionIn s (now conditions) c r) ⌝ }
     ensures { λ at. ⌜ ((s : List ℕ) (r : Condition) → ConditionIn s (now (conditions .entry)) c r → StandsAt s at r) ⌝ }
 {
-    wide(conditions[c])
+    conditions[c]
 }
 
 // The conditions of the point p.

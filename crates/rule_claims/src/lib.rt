@@ -89,7 +89,7 @@ fn failed_exit_claim(m: usize, failed: Failing, first: bool, k: usize) -> Asked
 // 3 pre in past(entry); 4 own(entry) holds the empty word; then the rules of its exits.
 pub fn body_claim(
     m: usize,
-    pre: usize,
+    pre: u32,
     entry: PointConditions,
     exit: Way,
     failed: Failing,
@@ -135,7 +135,8 @@ fn return_claim(rules: ReturnRules, p: PointConditions, q: Way, k: usize) -> Ask
     let own = rules.own;
     let future = rules.future;
     let due = rules.due;
-    let raised = Raised::Word(Part::Condition(q.declared.trace));
+    let trace = q.declared.trace;
+    let raised = Raised::Word(Part::Condition(trace as usize));
     match k {
         0 => forward(past, p.past, raised, q.point.past),
         1 => forward(own, p.own, raised, q.point.own),
@@ -165,7 +166,7 @@ fn failed_call_claim(i: usize, p: PointConditions, failed: Failing, k: usize) ->
 // 10 past(p) in pre; then the rules of its returns.
 pub fn call_claim(
     i: usize,
-    pre: usize,
+    pre: u32,
     p: PointConditions,
     q: Way,
     failed: Failing,

@@ -24,7 +24,7 @@ pub enum Subject {
     },
     Body {
         method: usize,
-        pre: usize,
+        pre: u32,
         entry: PointConditions,
         exit: Way,
         failed: Failing,
@@ -38,7 +38,7 @@ pub enum Subject {
     },
     Call {
         step: usize,
-        pre: usize,
+        pre: u32,
         from: PointConditions,
         to: Way,
         failed: Failing,

@@ -8,6 +8,9 @@ use borrow.Author.Needs.{needs}
 use Rattle.rule_claims.proofs.return_claim.Statement.{statement}
 use Rattle.rule_claims.proofs.return_claim.Tie as tie
 
+cast-t11 : tie.Need-cast-t11
+cast-t11 c = search needs
+
 forward-requires : tie.Need-forward-requires
 forward-requires c κs = search needs
 
@@ -48,6 +51,7 @@ pub return-claim-spec : {M : Type 1} → statement M
 return-claim-spec =
     tie.close
     (tie.spec
+    cast-t11
     forward-requires
     forward-requires-2
     inclusion-requires

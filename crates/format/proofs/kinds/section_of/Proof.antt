@@ -13,58 +13,38 @@ returns c =
 
 returns-2 : tie.Need-returns-2
 returns-2 c =
-    let k = c .before .before .args .kind in
-    simp (le-ltb k 7 (omega arith), lt-ltb k 8 (omega arith))
+    let k = c .before .before .before .args .kind in
+    simp (le-ltb k 7 (omega arith), lt-ltb k 13 (omega arith), lt-ltb k 8 (omega arith))
     at (section-is k (omega arith) (omega arith))
 
 returns-3 : tie.Need-returns-3
 returns-3 c =
-    let k = c .before .before .before .args .kind in
-    simp (le-ltb k 7 (omega arith), le-ltb k 8 (omega arith), lt-ltb k 10 (omega arith))
+    let k = c .before .before .before .before .args .kind in
+    simp (le-ltb k 7 (omega arith), lt-ltb k 13 (omega arith), le-ltb k 8 (omega arith), lt-ltb k 10 (omega arith))
     at (section-is k (omega arith) (omega arith))
 
 returns-4 : tie.Need-returns-4
 returns-4 c =
     let k = c .before .before .before .before .args .kind in
-    simp (le-ltb k 7 (omega arith), le-ltb k 8 (omega arith), le-ltb k 10 (omega arith), lt-ltb k 13 (omega arith))
+    simp (le-ltb k 7 (omega arith), lt-ltb k 13 (omega arith), le-ltb k 8 (omega arith), le-ltb k 10 (omega arith))
     at (section-is k (omega arith) (omega arith))
 
 returns-5 : tie.Need-returns-5
 returns-5 c =
-    let k = c .before .before .before .before .before .args .kind in
-    simp (
-      le-ltb k 7 (omega arith),
-      le-ltb k 8 (omega arith),
-      le-ltb k 10 (omega arith),
-      le-ltb k 13 (omega arith),
-      lt-ltb k 15 (omega arith),
-    )
+    let k = c .before .before .before .args .kind in
+    simp (le-ltb k 7 (omega arith), le-ltb k 13 (omega arith), lt-ltb k 15 (omega arith))
     at (section-is k (omega arith) (omega arith))
 
 returns-6 : tie.Need-returns-6
 returns-6 c =
-    let k = c .before .before .before .before .before .before .args .kind in
-    simp (
-      le-ltb k 7 (omega arith),
-      le-ltb k 8 (omega arith),
-      le-ltb k 10 (omega arith),
-      le-ltb k 13 (omega arith),
-      le-ltb k 15 (omega arith),
-      lt-ltb k 17 (omega arith),
-    )
+    let k = c .before .before .before .before .args .kind in
+    simp (le-ltb k 7 (omega arith), le-ltb k 13 (omega arith), le-ltb k 15 (omega arith), lt-ltb k 17 (omega arith))
     at (section-is k (omega arith) (omega arith))
 
 returns-7 : tie.Need-returns-7
 returns-7 c =
-    let k = c .before .before .before .before .before .before .args .kind in
-    simp (
-      le-ltb k 7 (omega arith),
-      le-ltb k 8 (omega arith),
-      le-ltb k 10 (omega arith),
-      le-ltb k 13 (omega arith),
-      le-ltb k 15 (omega arith),
-      le-ltb k 17 (omega arith),
-    )
+    let k = c .before .before .before .before .args .kind in
+    simp (le-ltb k 7 (omega arith), le-ltb k 13 (omega arith), le-ltb k 15 (omega arith), le-ltb k 17 (omega arith))
     at (section-is k (omega arith) (omega arith))
 
 pub section-of-spec : {M : Type 1} → statement M
