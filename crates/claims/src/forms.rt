@@ -30,11 +30,7 @@ pub fn forward(rule: Rule, before: u32, raised: Raised, after: u32) -> Asked
         Raised::Nothing => Left::One(first),
         Raised::Word(second) => Left::Two(first, second),
     };
-    Asked::Claim(Claim::Inclusion {
-        rule,
-        left,
-        right,
-    })
+    Asked::Claim(Claim::Inclusion { rule, left, right })
 }
 
 // What is raised, then a word of a condition, is a word of another: rules 9, 14 and 17.
@@ -48,11 +44,7 @@ pub fn backward(rule: Rule, raised: Raised, after: u32, before: u32) -> Asked
         Raised::Nothing => Left::One(second),
         Raised::Word(first) => Left::Two(first, second),
     };
-    Asked::Claim(Claim::Inclusion {
-        rule,
-        left,
-        right,
-    })
+    Asked::Claim(Claim::Inclusion { rule, left, right })
 }
 
 // The words of a condition are in another.
