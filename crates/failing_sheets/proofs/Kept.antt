@@ -2,7 +2,6 @@
 -- with failing calls that meet the premises of the second half of demand 3; and sheets whose runs forbid to accept them without 22 or without 24.
 use mathlib.Core.Path.{_≡_, refl, ap, _∙_}
 use mathlib.Core.Bool.{true}
-use mathlib.Core.Option.{none, some}
 use mathlib.Core.List.{List, [], _∷_, _++_, map}
 use Prim.Native.Nat.{ℕ}
 use native.Mathlib.Omega.{arith}
@@ -12,7 +11,7 @@ use Rattle.condition.proofs.Words.{words}
 use Rattle.certificate.specs.Certificate.{pair, Exact}
 use Rattle.sheet.specs.Model.{large}
 use Rattle.sheet.specs.Each.{nil, cons}
-use Rattle.sheet.specs.Sheet.{Outcome, normal, failed, condition}
+use Rattle.sheet.specs.Sheet.{Outcome, normal, failed}
 use Rattle.sheet.specs.Decode.{sheetOf}
 use Rattle.sheet.proofs.Each.{each-head, each-tail}
 use Rattle.runs.specs.Rules.{rules, count}

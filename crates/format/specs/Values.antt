@@ -8,7 +8,6 @@ use Rattle.format.specs.declared.values.Point.{Point}
 use Rattle.format.specs.declared.values.Declared.{Declared}
 use Rattle.format.specs.declared.values.Declaration.{Declaration}
 use Rattle.format.specs.declared.values.Body.{Body}
-use Rattle.format.specs.declared.values.FailedBody.{FailedBody}
 use Rattle.format.specs.declared.values.Method.{Method}
 use Rattle.format.specs.declared.values.Method.the-variants.{Primitive, WithBody, TwoOutcomePrimitive, TwoOutcomeBody}
 use Rattle.format.specs.declared.values.CallStep.{CallStep}

@@ -1,7 +1,7 @@
 -- Outcomes fit in a sheet that is read whole: a method with body has a failed exit exactly if it has two outcomes, and a call has a failed target exactly
 -- if the method that it names has two outcomes, which is what 18 leaves. And the kinds of methods, by the offsets where they start.
 use mathlib.Core.Path.{_≡_, refl, sym, ap, _∙_, subst}
-use mathlib.Core.Bool.{Bool, true, false, not, cond, _&&_, _||_}
+use mathlib.Core.Bool.{Bool, true, false, cond, _&&_, _||_}
 use mathlib.Core.Option.{none, some}
 use mathlib.Core.List.{List, [], _∷_, _++_, map, append-assoc}
 use Prim.Native.Nat.{ℕ, zero, suc, _+_, _<_}
@@ -12,15 +12,13 @@ use lib.Dec.{T, eqb, ltb, ltb→lt}
 use borrow.Author.Tests.{eqb-true, not-false}
 use Rattle.sheet.specs.Model.{Model}
 use Rattle.sheet.specs.Each.{Each, nil, cons}
-use Rattle.sheet.specs.Sheet.{failed, Declared, Body, Method, event-step, callFrom, failingCallFrom, pass-step, Sheet, declaredIn}
+use Rattle.sheet.specs.Sheet.{failed, Declared, Body, Method, event-step, callFrom, failingCallFrom, pass-step, declaredIn}
 use Rattle.sheet.specs.Kind.{methods, kindOf, sectionOf}
-use Rattle.sheet.specs.Record.{Record, byteAt, valuesAt, recordAt, nextAt, value}
+use Rattle.sheet.specs.Record.{Record, byteAt, recordAt, nextAt, value}
 use Rattle.sheet.specs.Reading.{Counted, Reading, fresh, tally, startOf, startsOf, isPrimitive, hasTwoOutcomes, allExist, methodRecord, twoOutcomesIn, wrongOutcomes, pastAt, whole, readSheet}
 use Rattle.sheet.specs.Decode.{methodOf, stepOf, sheetRead, sheetOf}
-use Rattle.sheet.specs.AtOffset.{shortAt}
 use Rattle.sheet.specs.Names.{isSome, ExitsFit, TargetsFit, OutcomesFit}
 use Rattle.sheet.proofs.Each.{each-map, each-all, each-append, each-mapped}
-use Rattle.sheet.proofs.Fields.{shortsThen, names-alone}
 use Rattle.sheet.proofs.Take.{or-false, Took}
 use Rattle.sheet.proofs.ReadOn.{read-keeps}
 use Rattle.sheet.proofs.Own.{counted, own-cases}
@@ -187,46 +185,7 @@ method-outcomes s r h m l =
     ap (λ (before : List Counted). twoOutcomesIn (getElem? (map (λ (c : Counted). c .last) (before ++ r .own 3)) m)) (h .none-before)
     ∙ two-outcomes-at s (h .kinds) m (subst (λ (before : List Counted). m < length (before ++ r .own 3)) (h .none-before) l)
 
--- 18 by offsets: whether it applies to the record at an offset, where 7 does not
-module _ (events : ℕ) (s : List ℕ) (at : ℕ) (r : Reading) (h : MethodsStand s r)
-    (names : T (allExist events (tally r) (kindOf (byteAt s at) .fields) (recordAt s at .values))) where
-  -- the name in a field of a record whose fields are all names
-  named-in : (k i : ℕ) (ks : List ℕ) → byteAt s at ≡ k → valuesAt s (at + 1) (kindOf k .fields) ≡ shortsThen s at 1 ks []
-      → value (recordAt s at) i ≡ getD (shortsThen s at 1 ks []) i 0
-  unfolding recordAt
-  named-in k i ks e is = ap (λ (k : ℕ). getD (valuesAt s (at + 1) (kindOf k .fields)) i 0) e ∙ ap (λ (vs : List ℕ). getD vs i 0) is
-
-  outcomes-of : (m n : ℕ) → m < tally r methods → m ≡ n → twoOutcomesIn (methodRecord r m) ≡ (eqb (methodKind s r n) 15 || eqb (methodKind s r n) 16)
-  outcomes-of m n l e = method-outcomes s r h m l ∙ ap (λ (n : ℕ). eqb (methodKind s r n) 15 || eqb (methodKind s r n) 16) e
-
-  pub wrong-11 : byteAt s at ≡ 11
-      → wrongOutcomes r (recordAt s at) ≡ (eqb (methodKind s r (shortAt s (at + 5))) 15 || eqb (methodKind s r (shortAt s (at + 5))) 16)
-  unfolding recordAt
-  wrong-11 e =
-      ap (λ (k : ℕ). (eqb k 11 && twoOutcomesIn (methodRecord r (value x 2))) || (eqb k 17 && not (twoOutcomesIn (methodRecord r (value x 3))))) e
-      ∙ or-false-right (twoOutcomesIn (methodRecord r (value x 2)))
-      ∙ outcomes-of (value x 2) (shortAt s (at + 5)) (ltb→lt _ _ (fields-exist events s at r 11 e names 2 (omega arith)))
-      (named-in 11 2 (2 ∷ 2 ∷ 3 ∷ []) e (names-alone s at (2 ∷ 2 ∷ 3 ∷ [])))
-    where
-      x : Record
-      x = recordAt s at
-
-      or-false-right : (b : Bool) → (b || false) ≡ b
-      or-false-right true = refl
-      or-false-right false = refl
-
-  pub wrong-17 : byteAt s at ≡ 17
-      → wrongOutcomes r (recordAt s at) ≡ not (eqb (methodKind s r (shortAt s (at + 7))) 15 || eqb (methodKind s r (shortAt s (at + 7))) 16)
-  unfolding recordAt
-  wrong-17 e =
-      ap (λ (k : ℕ). (eqb k 11 && twoOutcomesIn (methodRecord r (value x 2))) || (eqb k 17 && not (twoOutcomesIn (methodRecord r (value x 3))))) e
-      ∙ ap not (outcomes-of (value x 3) (shortAt s (at + 7)) (ltb→lt _ _ (fields-exist events s at r 17 e names 3 (omega arith)))
-      (named-in 17 3 (2 ∷ 2 ∷ 2 ∷ 3 ∷ []) e (names-alone s at (2 ∷ 2 ∷ 2 ∷ 3 ∷ []))))
-    where
-      x : Record
-      x = recordAt s at
-
--- no record of another kind has it
+-- 18 applies to no record but a call
 pub never-wrong : (s : List ℕ) (at : ℕ) (r : Reading) → eqb (byteAt s at) 11 ≡ false → eqb (byteAt s at) 17 ≡ false → wrongOutcomes r (recordAt s at) ≡ false
 unfolding recordAt
 never-wrong s at r e f = rw (e, f)

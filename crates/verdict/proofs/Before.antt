@@ -1,13 +1,12 @@
 -- "judged as before": document 01's kinds, 1 to 14, and those of Ask 2, 15 to 17. Sheets and words by evaluation, with each of the two cases; what the
 -- promise alone says of a sheet; and answers that break it.
-use mathlib.Core.Path.{_≡_, refl, sym, ap, _∙_, subst}
-use mathlib.Core.Bool.{Bool, true, false}
+use mathlib.Core.Path.{_≡_, refl, sym, ap}
+use mathlib.Core.Bool.{true, false}
 use mathlib.Core.Option.{some}
-use mathlib.Core.List.{List, [], _∷_, _++_, map}
-use Prim.Native.Nat.{ℕ, _≤_, _<_}
+use mathlib.Core.List.{List, [], _∷_, map}
+use Prim.Native.Nat.{ℕ, _≤_}
 use native.Mathlib.Omega.{arith}
 use lib.ListN.{take}
-use Rattle.condition.specs.Condition.{Word}
 use Rattle.certificate.specs.Certificate.{Fault}
 use Rattle.sheet.specs.Model.{Model, large, entry, NoLarger, withKinds}
 use Rattle.sheet.specs.Record.{byteAt}

@@ -18,7 +18,7 @@ use Rattle.sheet.specs.Record.{Record, byteAt, recordAt, value}
 use Rattle.sheet.specs.Reading.{Counted, Reading, isPrimitive, hasTwoOutcomes, whole, readSheet}
 use Rattle.sheet.specs.Decode.{methodOf, stepOf, sheetOf}
 use Rattle.sheet.proofs.Each.{each-map, each-append, each-mapped, each-get}
-use Rattle.sheet.proofs.Take.{or-false, Took}
+use Rattle.sheet.proofs.Take.{or-false}
 use Rattle.sheet.proofs.Own.{each-own}
 use Rattle.sheet.proofs.SheetOf.{sheet-is}
 use Rattle.verdict.specs.Facts.{OneOutcome}
