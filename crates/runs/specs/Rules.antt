@@ -1,4 +1,4 @@
--- The rules of a sheet: document 01, "Seventeen rules", and 18 to 24 of document 02, Ask 2. Each rule is a claim about the languages of the sheet's
+-- The rules of a sheet: document 01, "Seventeen rules", and 18 to 26 of document 02, Asks 2 and 4. Each rule is a claim about the languages of the sheet's
 -- conditions; the list has them in the order of testing, and `Met` says what a claim says.
 use Prim.Native.Nat.{ℕ, suc, _+_, _*_}
 use mathlib.Core.Bool.{Bool, false, cond, _||_}
@@ -8,7 +8,7 @@ use lib.Dec.{eqb}
 use lib.ListN.{length}
 use Rattle.condition.specs.Condition.{Condition, join, Holds, _⊆_, event}
 use Rattle.sheet.specs.Each.{Each}
-use Rattle.sheet.specs.Sheet.{Outcome, normal, failed, Body, Method, CallStep, Step, event-step, call-step, pass-step, Sheet, past, own, due, pre, trace, future}
+use Rattle.sheet.specs.Sheet.{Outcome, normal, failed, Body, Method, CallStep, Step, event-step, call-step, pass-step, stop-step, Sheet, past, own, due, pre, trace, future, body, entryIn}
 
 -- ""A in B" says that every word of A is in B"; or A holds the empty word
 infix 30 _isIn_
@@ -86,6 +86,14 @@ module _ (S : Sheet) where
       ∷ (n + 3 of i says join T (due S q) isIn due S p)
       ∷ []
 
+  -- the entry that rule 26 asks about where the method m is called: "new edition only", and "of a called method with body"
+  abbrev pub entryAsked : (m : ℕ) → Option ℕ
+  entryAsked m = cond (S .new) (entryIn (body S m)) none
+
+  -- "26 ..: the due of the entry of a called method with body is in the due of the calling point"
+  abbrev pub entryRules : (i : ℕ) → CallStep → (entry : ℕ) → List Rule
+  entryRules i t e = (26 of i says due S e isIn due S (t .from)) ∷ []
+
   abbrev pub stepRules : ℕ → Step → List Rule
   -- "Event step: 7 past(p)a in past(q); 8 own(p)a in own(q); 9 a due(q) in due(p)."
   stepRules i (event-step p q a) =
@@ -93,16 +101,19 @@ module _ (S : Sheet) where
       ∷ (8 of i says join (own S p) (event a) isIn own S q)
       ∷ (9 of i says join (event a) (due S q) isIn due S p)
       ∷ []
-  -- "Call: 10 past(p) in pre", then those of its returns
+  -- "Call: 10 past(p) in pre", then those of its returns, and 26 "after a call's other rules"
   stepRules i (call-step t) =
       (10 of i says past S (t .from) isIn pre S (t .method))
-      ∷ (returnRules 11 i t normal (t .to) ++ ifAny (t .failed-to) (returnRules 18 i t failed))
+      ∷ (returnRules 11 i t normal (t .to)
+      ++ (ifAny (t .failed-to) (returnRules 18 i t failed) ++ ifAny (entryAsked (t .method)) (entryRules i t)))
   -- "Pass: 15 past(p) in past(q); 16 own(p) in own(q); 17 due(q) in due(p)."
   stepRules i (pass-step p q) =
       (15 of i says past S p isIn past S q)
       ∷ (16 of i says own S p isIn own S q)
       ∷ (17 of i says due S q isIn due S p)
       ∷ []
+  -- "Rule 25: due at that point holds the empty word."
+  stepRules i (stop-step p) = (25 of i says holdsEmpty (due S p)) ∷ []
 
   -- "1, 2" of each method that runs start at, one method after the other
   unfoldable pub firstsRules : List ℕ → List Rule
@@ -132,7 +143,7 @@ rules S = rulesFrom (0 ∷ []) S
 abbrev pub AllMet : List Rule → Type 0
 AllMet = Each (λ x. Met (x .claim))
 
--- The count: "2 + 4b + 3e + 5c + 3p for b methods with body, e event, c call and p pass steps", and 18 to 24, of which "each adds one" -----
+-- The count: "2 + 4b + 3e + 5c + 3p for b methods with body, e event, c call and p pass steps", and 18 to 26, of which "each adds one" -----
 
 -- whether something is there, as a number
 abbrev pub howMany : {A : Type 0} → Option A → ℕ
@@ -148,16 +159,19 @@ abbrev pub eventCount : Step → ℕ
 eventCount (event-step p q a) = 1
 eventCount (call-step t) = 0
 eventCount (pass-step p q) = 0
+eventCount (stop-step p) = 0
 
 abbrev pub callCount : Step → ℕ
 callCount (event-step p q a) = 0
 callCount (call-step t) = 1
 callCount (pass-step p q) = 0
+callCount (stop-step p) = 0
 
 abbrev pub passCount : Step → ℕ
 passCount (event-step p q a) = 0
 passCount (call-step t) = 0
 passCount (pass-step p q) = 1
+passCount (stop-step p) = 0
 
 -- whether a method has a failed exit, and with it 22 and 23, and 24 where runs start at it
 abbrev pub failedExits : Option Body → ℕ
@@ -172,6 +186,20 @@ abbrev pub failedCallCount : Step → ℕ
 failedCallCount (event-step p q a) = 0
 failedCallCount (call-step t) = howMany (t .failed-to)
 failedCallCount (pass-step p q) = 0
+failedCallCount (stop-step p) = 0
+
+-- whether a step is a stop, and with it 25; and whether it is a call with 26
+abbrev pub stopCount : Step → ℕ
+stopCount (event-step p q a) = 0
+stopCount (call-step t) = 0
+stopCount (pass-step p q) = 0
+stopCount (stop-step p) = 1
+
+abbrev pub entryCount : Sheet → Step → ℕ
+entryCount S (event-step p q a) = 0
+entryCount S (call-step t) = howMany (entryAsked S (t .method))
+entryCount S (pass-step p q) = 0
+entryCount S (stop-step p) = 0
 
 -- the sum over a list
 unfoldable pub total : {A : Type 0} → (A → ℕ) → List A → ℕ
@@ -192,10 +220,12 @@ countFrom starts S =
     + 3 * total eventCount (S .steps)
     + 5 * total callCount (S .steps)
     + 3 * total passCount (S .steps)
-    -- 22 and 23, 24, and 18 to 21
+    -- 22 and 23, 24, 18 to 21, 25, and 26
     + 2 * total failedExitCount (S .methods)
     + failingStarts starts 0 (S .methods)
     + 4 * total failedCallCount (S .steps)
+    + total stopCount (S .steps)
+    + total (entryCount S) (S .steps)
 
 -- where they start at method 0
 unfoldable pub count : Sheet → ℕ

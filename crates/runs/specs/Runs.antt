@@ -1,4 +1,5 @@
--- Runs of a sheet, and what demand 3 asks of them: document 01, "Runs", and document 02, Ask 2, by which a call may fail.
+-- Runs of a sheet, and what demand 3 asks of them: document 01, "Runs", and document 02: Ask 2, by which a call may fail, and Ask 4,
+-- by which a run may stop.
 use mathlib.Core.Path.{_≡_}
 use Prim.Native.Nat.{ℕ, _+_}
 use mathlib.Core.Bool.{Bool, true, false, cond}
@@ -9,7 +10,7 @@ use lib.Dec.{eqb}
 use Rattle.condition.specs.Condition.{Word, Condition, Holds}
 use Rattle.condition.specs.Places.{accepts}
 use Rattle.sheet.specs.Each.{Each}
-use Rattle.sheet.specs.Sheet.{Outcome, Body, CallStep, Step, event-step, call-step, pass-step, Sheet, pre, trace, future, body, exitIn, targetFor}
+use Rattle.sheet.specs.Sheet.{Outcome, Body, CallStep, Step, event-step, call-step, pass-step, stop-step, Sheet, pre, trace, future, body, exitIn, targetFor}
 
 -- The state of a run ----------------------------------------------------------------------------------------------------
 
@@ -41,7 +42,7 @@ pub record State : Type 0 where
   -- the last to return first
   pub returned-calls : List Returned
   pub point : ℕ
-  -- whether the outermost call has returned
+  -- whether the outermost call has returned, or a stop was made
   pub ended : Bool
 
 -- "every call so far"
@@ -150,22 +151,29 @@ abbrev pub makeCall : Sheet → State → Call → Outcome → Word → Option �
 makeCall S s c o w target none = makeReturn s c o w (traceOf S c o) target
 makeCall S s c o w target (some b) = openCall c (b .entry) s
 
--- "An event step raises its event; a pass raises none; both lead to their target."
+-- kind 19 "ends the whole run"; what is open stays open: "calls still open owe their pre-condition only"
+abbrev pub stop : State → State
+stop s = record { history = s .history; open-calls = s .open-calls; returned-calls = s .returned-calls; point = s .point; ended = true }
+
+-- "An event step raises its event; a pass raises none; both lead to their target." "For new sheets a stop is a move".
 abbrev pub makeStep : Sheet → State → ℕ → Outcome → Word → Step → State
 makeStep S s i o w (event-step p q a) = raise (a ∷ []) q s
 makeStep S s i o w (call-step t) = makeCall S s (newCall s i t) o w (targetFor o t) (body S (t .method))
 makeStep S s i o w (pass-step p q) = raise [] q s
+makeStep S s i o w (stop-step p) = cond (S .new) (stop s) s
 
--- the points that a step leads from and, with an outcome, to
+-- the points that a step leads from and, with an outcome, to; a stop leads nowhere
 abbrev pub fromOf : Step → ℕ
 fromOf (event-step p q a) = p
 fromOf (call-step t) = t .from
 fromOf (pass-step p q) = p
+fromOf (stop-step p) = p
 
 abbrev pub toOf : Outcome → Step → Option ℕ
 toOf o (event-step p q a) = some q
 toOf o (call-step t) = targetFor o t
 toOf o (pass-step p q) = some q
+toOf o (stop-step p) = none
 
 -- "A step needs control at its from."
 abbrev pub tryStep : Sheet → State → ℕ → Outcome → Word → Option Step → State
@@ -248,6 +256,6 @@ pub record Safe (S : Sheet) (s : State) : Type 0 where
   pub began-well : Each (λ c. Holds (preOf S c) (c .began)) (calls s)
   -- "every returned call raised a word of its trace"
   pub raised-well : Each (λ r. Holds (traceOf S (r .call) (r .outcome)) (raised r)) (s .returned-calls)
-  -- "if the run ends, what followed each return is in its future"
+  -- "if the run ends, what followed each return is in its future"; "'the run ends' includes" a stop, also while the call that made it is open
   pub ended-well : s .ended ≡ true
       → Each (λ r. Holds (futureOf S (r .call) (r .outcome)) (since (r .at) (s .history))) (s .returned-calls)

@@ -9,7 +9,7 @@ use lib.ListN.{length, getD}
 use lib.Dec.{eqb, ltb}
 use Rattle.condition.specs.Condition.{Condition, leaf, empty, join, either, star}
 use Rattle.certificate.specs.Certificate.{Pair, pair, Certificate}
-use Rattle.sheet.specs.Sheet.{Declared, Point, Method, Step, event-step, callFrom, failingCallFrom, pass-step}
+use Rattle.sheet.specs.Sheet.{Declared, Point, Method, Step, event-step, callFrom, failingCallFrom, pass-step, stop-step}
 use Rattle.sheet.specs.Record.{byteAt, nextAt}
 use Rattle.sheet.specs.Reading.{Counted, startOf, item}
 
@@ -24,7 +24,7 @@ unfoldable pub setAt : List ℕ → ℕ → ℕ
 unfolding shortAt
 setAt s i = shortAt s i + 65536 * shortAt s (i + 2)
 
--- what a record of kind 7, of kinds 8, 9, 15 and 16, of kinds 10 to 12 and 17, and of kind 13 stands for
+-- what a record of kind 7, of kinds 8, 9, 15 and 16, of kinds 10 to 12, 17 and 19, and of kind 13 stands for
 unfoldable pub pointAt : List ℕ → ℕ → Point
 unfolding shortAt
 pointAt s at = record { past = shortAt s (at + 1); own = shortAt s (at + 3); due = shortAt s (at + 5) }
@@ -59,7 +59,8 @@ stepAs kind s at =
     cond (eqb kind 10) (event-step (shortAt s (at + 1)) (shortAt s (at + 3)) (byteAt s (at + 5)))
     (cond (eqb kind 11) (callFrom (shortAt s (at + 1)) (shortAt s (at + 3)) (shortAt s (at + 5)))
     (cond (eqb kind 17) (failingCallFrom (shortAt s (at + 1)) (shortAt s (at + 3)) (shortAt s (at + 5)) (shortAt s (at + 7)))
-    (pass-step (shortAt s (at + 1)) (shortAt s (at + 3)))))
+    (cond (eqb kind 19) (stop-step (shortAt s (at + 1)))
+    (pass-step (shortAt s (at + 1)) (shortAt s (at + 3))))))
 
 unfoldable pub stepAt : List ℕ → ℕ → Step
 unfolding stepAs

@@ -1,13 +1,14 @@
--- The sheet that was read: document 01, "Records", and document 02, Ask 2.
+-- The sheet that was read: document 01, "Records", and document 02, Asks 2 and 4.
 use Prim.Native.Nat.{ℕ, _+_}
+use mathlib.Core.Bool.{Bool, false}
 use mathlib.Core.Option.{none, some}
 use mathlib.Core.List.{List, [], map}
 use lib.Dec.{eqb}
 use Rattle.sheet.specs.Model.{Model}
-use Rattle.sheet.specs.Sheet.{Declared, Point, Method, Step, event-step, callFrom, failingCallFrom, pass-step, Sheet}
+use Rattle.sheet.specs.Sheet.{Declared, Point, Method, Step, event-step, callFrom, failingCallFrom, pass-step, stop-step, Sheet}
 use Rattle.sheet.specs.Kind.{conditions, points, methods, steps, certificates}
 use Rattle.sheet.specs.Record.{Record, value}
-use Rattle.sheet.specs.Reading.{Counted, isPrimitive, hasTwoOutcomes, _when_else_, item, ReadResult, whole, refusal, readSheet}
+use Rattle.sheet.specs.Reading.{Counted, isPrimitive, hasTwoOutcomes, _when_else_, isNew, item, ReadResult, whole, refusal, readSheet}
 
 -- kind 7: "conditions past, own, due"
 abbrev pub pointOf : Record → Point
@@ -30,31 +31,34 @@ methodOf x =
           else some (record { entry = value x 3; exit = value x 4; failed-exit = some (value x 7) when hasTwoOutcomes x else none });
     }
 
--- kind 10: "from, to (2 each), event (1)"; kind 11: "from, to, method"; kind 17: "from, to, failed target, method"; kind 12: "from, to"
+-- kind 10: "from, to (2 each), event (1)"; kind 11: "from, to, method"; kind 17: "from, to, failed target, method"; kind 19: "from"; kind 12:
+-- "from, to"
 abbrev pub stepOf : Record → Step
 stepOf x =
     event-step (value x 0) (value x 1) (value x 2) when eqb (x .kind) 10
     else callFrom (value x 0) (value x 1) (value x 2) when eqb (x .kind) 11
     else failingCallFrom (value x 0) (value x 1) (value x 2) (value x 3) when eqb (x .kind) 17
+    else stop-step (value x 0) when eqb (x .kind) 19
     else pass-step (value x 0) (value x 1)
 
--- what was counted in each section; a condition is the one item that is left at its end
-abbrev pub sheetRead : (ℕ → List Counted) → Sheet
-sheetRead read =
+-- a sheet's edition, and what was counted in each section; a condition is the one item that is left at its end
+abbrev pub sheetRead : (new : Bool) → (ℕ → List Counted) → Sheet
+sheetRead new read =
     record {
       conditions = map (λ (c : Counted). item (c .opened) 0) (read conditions);
       points = map (λ (c : Counted). pointOf (c .last)) (read points);
       methods = map (λ (c : Counted). methodOf (c .last)) (read methods);
       steps = map (λ (c : Counted). stepOf (c .last)) (read steps);
       certificates = map (λ (c : Counted). c .opened .pairs) (read certificates);
+      new = new;
     }
 
--- The sheet that the bytes stand for; bytes that reading refuses stand for a sheet with nothing in it.
-abbrev pub sheetIn : ReadResult → Sheet
-sheetIn (whole r) = sheetRead (r .own)
-sheetIn (refusal n at r) = sheetRead (λ k. [])
+-- The sheet that the bytes stand for; bytes that reading refuses stand for an old sheet with nothing in it.
+abbrev pub sheetIn : List ℕ → ReadResult → Sheet
+sheetIn s (whole r) = sheetRead (isNew s) (r .own)
+sheetIn s (refusal n at r) = sheetRead false (λ k. [])
 
 -- on an instrument, from the bytes
 unfoldable pub sheetOf : Model → List ℕ → Sheet
 unfolding readSheet
-sheetOf M s = sheetIn (readSheet M s)
+sheetOf M s = sheetIn s (readSheet M s)

@@ -1,4 +1,4 @@
--- The kinds of records: document 01, "Records", and document 02, Ask 2. One table says of each kind its section, what it is to what is open, and its fields.
+-- The kinds of records: document 01, "Records", and document 02, Asks 2 and 4. One table says of each kind its section, what it is to what is open, and its fields.
 use Prim.Native.Nat.{ℕ, _+_}
 use mathlib.Core.List.{List, [], _∷_}
 use lib.ListN.{getD}
@@ -38,6 +38,8 @@ pub data Role : Type 0 where
   symbol : (takes : ℕ) → (ℕ → Condition → Condition → Condition) → Role
   -- a pair of a certificate; and one of its section, whole or at its end: "A condition counts at its end record"
   a-pair counts : Role
+  -- the mark of the new edition, which counts as nothing
+  edition : Role
 
 -- a kind of record: its section, what it is to what is open, and the fields of its body in order
 pub record Kind : Type 0 where
@@ -78,13 +80,16 @@ kinds =
     ∷ a-kind methods counts
     (a-name conditions ∷ a-name conditions ∷ a-name conditions ∷ a-name points ∷ a-name points ∷ a-name conditions ∷ a-name conditions ∷ a-name points ∷ [])
     ∷ a-kind steps counts (a-name points ∷ a-name points ∷ a-name points ∷ a-name methods ∷ [])
+    -- Ask 4. 18: "a record of kind 18, no body, which belongs to the first section"; 19: "body from (2 bytes), among the steps"
+    ∷ a-kind conditions edition []
+    ∷ a-kind steps counts (a-name points ∷ [])
     ∷ []
 
 -- the row of a kind; a kind that the table lacks has that of kind 0
 abbrev pub kindOf : ℕ → Kind
 kindOf k = getD kinds k (a-kind 0 counts [])
 
--- the section of a kind: "kinds 1-6, 7, 8-9, 10-12, 13-14", and 15 to 17 in those of 8, 9 and 11
+-- the section of a kind: "kinds 1-6, 7, 8-9, 10-12, 13-14", 15 to 17 in those of 8, 9 and 11, 18 in the first and 19 in that of the steps
 abbrev pub sectionOf : ℕ → ℕ
 sectionOf k = kindOf k .section
 
@@ -93,6 +98,6 @@ abbrev pub widths : List Field → ℕ
 widths [] = 0
 widths (f ∷ fs) = width f + widths fs
 
--- "Body lengths by kind, 1 to 14", and of 15 to 17
+-- "Body lengths by kind, 1 to 14", and of 15 to 19
 abbrev pub bodyLength : ℕ → ℕ
 bodyLength k = widths (kindOf k .fields)

@@ -1,12 +1,13 @@
 -- What holds of each sheet that is read whole: every name exists (document 01, "Names point only backward"; proofs/Named), the event of each step is
--- one of the instrument's (proofs/Named), the first method has a body (proofs/First), and outcomes fit (proofs/Outcomes).
+-- one of the instrument's (proofs/Named), the first method has a body (proofs/First), outcomes fit (proofs/Outcomes), and stops stand in new sheets alone
+-- (proofs/Editions).
 use Prim.Native.Nat.{ℕ, _<_}
 use mathlib.Core.Path.{_≡_}
 use mathlib.Core.Bool.{Bool, true, false}
 use mathlib.Core.Option.{Option, none, some}
 use lib.ListN.{length, getElem?}
 use Rattle.sheet.specs.Each.{Each}
-use Rattle.sheet.specs.Sheet.{Outcome, failed, Point, Declared, Body, Method, Step, event-step, call-step, pass-step, Sheet, declaredFor, declaredIn}
+use Rattle.sheet.specs.Sheet.{Outcome, failed, Point, Declared, Body, Method, Step, event-step, call-step, pass-step, stop-step, Sheet, declaredFor, declaredIn}
 
 -- the names of a point, of a body, of what a method declares, of a method and of a step are below the numbers of conditions, points and methods
 pub record PointNamed (conditions : ℕ) (x : Point) : Type 0 where
@@ -37,6 +38,7 @@ abbrev pub StepNamed : ℕ → ℕ → Step → Type 0
 StepNamed points methods (event-step p q a) = (p < points) × (q < points)
 StepNamed points methods (call-step t) = (t .from < points) × (t .to < points) × NamedIfAny points (t .failed-to) × (t .method < methods)
 StepNamed points methods (pass-step p q) = (p < points) × (q < points)
+StepNamed points methods (stop-step p) = p < points
 
 pub record NamesExist (S : Sheet) : Type 0 where
   pub points-named : Each (PointNamed (length (S .conditions))) (S .points)
@@ -63,6 +65,7 @@ abbrev pub TargetsFit : Sheet → Step → Type 0
 TargetsFit S (event-step p q a) = Unit {0}
 TargetsFit S (call-step t) = isSome (t .failed-to) ≡ isSome (declaredIn failed (getElem? (S .methods) (t .method)))
 TargetsFit S (pass-step p q) = Unit {0}
+TargetsFit S (stop-step p) = Unit {0}
 
 pub record OutcomesFit (S : Sheet) : Type 0 where
   pub exits-fit : Each (λ (x : Method). ExitsFit (x .failing) (x .body)) (S .methods)
@@ -73,3 +76,11 @@ abbrev pub EventBelow : ℕ → Step → Type 0
 EventBelow n (event-step p q a) = a < n
 EventBelow n (call-step c) = Unit {0}
 EventBelow n (pass-step p q) = Unit {0}
+EventBelow n (stop-step p) = Unit {0}
+
+-- a stop stands in a sheet of the new edition: what 20 leaves
+abbrev pub StopFits : (new : Bool) → Step → Type 0
+StopFits new (event-step p q a) = Unit {0}
+StopFits new (call-step c) = Unit {0}
+StopFits new (pass-step p q) = Unit {0}
+StopFits new (stop-step p) = new ≡ true

@@ -1,5 +1,5 @@
--- Reading a sheet, record by record: document 01, "Records" and "What the loader returns", refusals 1 to 9, and document 02's 18, which is met
--- while reading.
+-- Reading a sheet, record by record: document 01, "Records" and "What the loader returns", refusals 1 to 9, and document 02's 18 to 20, which are
+-- met while reading.
 use Prim.Native.Nat.{ℕ, zero, suc, _+_}
 use mathlib.Core.Bool.{Bool, true, false, not, cond, _&&_, _||_}
 use mathlib.Core.Option.{Option, none, some}
@@ -9,7 +9,7 @@ use lib.Dec.{eqb, ltb, leb}
 use Rattle.condition.specs.Condition.{Condition, noWord}
 use Rattle.certificate.specs.Certificate.{Certificate, pair}
 use Rattle.sheet.specs.Model.{Model, conditionLimit, symbolLimit, leafLimit, methodLimit, stepLimit}
-use Rattle.sheet.specs.Kind.{conditions, methods, Field, a-set, an-event, a-place, a-name, Role, symbol, a-pair, counts, kindOf}
+use Rattle.sheet.specs.Kind.{conditions, methods, Field, a-set, an-event, a-place, a-name, Role, symbol, a-pair, counts, edition, kindOf}
 use Rattle.sheet.specs.Record.{Record, byteAt, recordAt, nextAt, value}
 
 -- The state between two records ---------------------------------------------------------------------------------------
@@ -61,6 +61,17 @@ startsOf = map (λ (c : Counted). startOf (c .opened) (c .last .at))
 
 -- The refusals of a record --------------------------------------------------------------------------------------------
 
+-- not 4, where a condition is open: "kinds 1-6", its symbols and its end; "a condition is open and the kind is above 6" is 4
+abbrev pub inCondition : ℕ → Role → Bool
+inCondition section (symbol takes make) = true
+inCondition section a-pair = false
+inCondition section counts = eqb section conditions
+inCondition section edition = false
+
+-- "A sheet of the new edition begins with a record of kind 18"
+abbrev pub isNew : List ℕ → Bool
+isNew s = eqb (byteAt s 0) 18
+
 -- kind 1; kinds 8 and 15; kinds 15 and 16
 abbrev pub isLeaf : Record → Bool
 isLeaf x = eqb (x .kind) 1
@@ -76,6 +87,7 @@ abbrev pub wrongItems : ℕ → Role → ℕ → Bool
 wrongItems section (symbol takes make) items = ltb items takes
 wrongItems section a-pair items = false
 wrongItems section counts items = eqb section conditions && not (eqb items 1)
+wrongItems section edition items = false
 
 -- "256 conditions; .. 512 points; 64 methods; 512 steps": as many are there already
 abbrev pub full : Model → ℕ → ℕ → Bool
@@ -86,6 +98,7 @@ abbrev pub overLimit : Model → Reading → Record → ℕ → Role → Bool
 overLimit M r x section (symbol takes make) = leb symbolLimit (r .opened .symbols) || (isLeaf x && leb leafLimit (r .opened .leaves))
 overLimit M r x section a-pair = false
 overLimit M r x section counts = full M section (tally r section)
+overLimit M r x section edition = false
 
 -- not 7, "a name that does not exist yet, or an event above 31": "Names point only backward"
 abbrev pub exists : ℕ → (ℕ → ℕ) → Field → ℕ → Bool
@@ -118,15 +131,17 @@ infixr 10 _when_else_
 abbrev pub _when_else_ : {A : Type 0} → A → Bool → A → A
 x when b else y = cond b x y
 
--- "at one record the table's order holds", and 18 comes "at that record after 7": the number of the first refusal that applies to the record at an
--- offset, 0 if none does
+-- "at one record the table's order holds"; 19, "when kind 18 is not first", comes "at its record after 4", 20, "when kind 19 stands in an old sheet", "at
+-- its record after 19", and 18 "at that record after 7": the number of the first refusal that applies to the record at an offset, 0 if none does
 abbrev pub refusalOf : Model → List ℕ → ℕ → Reading → ℕ
 refusalOf M s at r =
     let x = recordAt s at in
     let k = kindOf (byteAt s at) in
     2 when eqb (byteAt s at) 0 || ltb (M .kinds) (byteAt s at)
     else 3 when ltb (length s) (nextAt s at)
-    else 4 when ltb (k .section) (r .section) || (eqb (r .opened .section) conditions && ltb conditions (k .section))
+    else 4 when ltb (k .section) (r .section) || (eqb (r .opened .section) conditions && not (inCondition (k .section) (k .role)))
+    else 19 when eqb (byteAt s at) 18 && ltb 0 at
+    else 20 when eqb (byteAt s at) 19 && not (isNew s)
     else 5 when wrongItems (k .section) (k .role) (length (r .opened .items))
     else 6 when overLimit M r x (k .section) (k .role)
     else 7 when not (allExist (M .events) (tally r) (k .fields) (x .values))
@@ -154,12 +169,14 @@ openedPast o x section (symbol takes make) =
 openedPast o x section a-pair =
     record { section = section; start = startOf o (x .at); items = []; symbols = 0; leaves = 0; pairs = o .pairs ++ (pair (value x 0) (value x 1) ∷ []) }
 openedPast o x section counts = nothing
+openedPast o x section edition = nothing
 
 -- one more of its section, where the record counts
 abbrev pub ownPast : (ℕ → List Counted) → Counted → ℕ → Role → ℕ → List Counted
 ownPast own x section (symbol takes make) k = own k
 ownPast own x section a-pair k = own k
 ownPast own x section counts k = cond (eqb k section) (own k ++ (x ∷ [])) (own k)
+ownPast own x section edition k = own k
 
 -- the state past the record at an offset
 abbrev pub pastAt : List ℕ → ℕ → Reading → Reading

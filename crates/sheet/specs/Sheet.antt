@@ -1,5 +1,6 @@
 -- What a sheet is: conditions, points, methods, steps and certificates, "each counted from 0", which name each other by number.
 use Prim.Native.Nat.{ℕ}
+use mathlib.Core.Bool.{Bool}
 use mathlib.Core.Option.{Option, none, some}
 use mathlib.Core.List.{List}
 use lib.ListN.{getD, getElem?}
@@ -42,11 +43,12 @@ pub record CallStep : Type 0 where
   pub failed-to : Option ℕ
   pub method : ℕ
 
--- an event step: "from, to (2 each), event (1)"; a pass step: "from, to"
+-- an event step: "from, to (2 each), event (1)"; a pass step: "from, to"; a stop step, kind 19: "from"
 pub data Step : Type 0 where
   event-step : (from to event : ℕ) → Step
   call-step : CallStep → Step
   pass-step : (from to : ℕ) → Step
+  stop-step : (from : ℕ) → Step
 
 -- the steps of kinds 11 and 17
 abbrev pub callFrom : (from to method : ℕ) → Step
@@ -55,13 +57,14 @@ callFrom p q m = call-step (record { from = p; to = q; failed-to = none; method 
 abbrev pub failingCallFrom : (from to failed-to method : ℕ) → Step
 failingCallFrom p q f m = call-step (record { from = p; to = q; failed-to = some f; method = m })
 
--- a sheet: what its records stand for, by section
+-- a sheet: what its records stand for, by section, and whether it is "a sheet of the new edition" (document 02, Ask 4)
 pub record Sheet : Type 0 where
   pub conditions : List Condition
   pub points : List Point
   pub methods : List Method
   pub steps : List Step
   pub certificates : List Certificate
+  pub new : Bool
 
 -- Conditions by the numbers that name them. A number that names nothing stands for a condition without words; no name of a well formed
 -- sheet is such a number.
@@ -109,6 +112,11 @@ bodyIn (some x) = x .body
 
 abbrev pub body : Sheet → ℕ → Option Body
 body S m = bodyIn (getElem? (S .methods) m)
+
+-- the entry point of a method with body
+abbrev pub entryIn : Option Body → Option ℕ
+entryIn none = none
+entryIn (some b) = some (b .entry)
 
 -- the exit point of a method for an outcome, and the target of a call step for one, if they have one
 abbrev pub exitFor : Outcome → Body → Option ℕ

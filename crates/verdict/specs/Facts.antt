@@ -1,7 +1,7 @@
 -- Facts of the definitions. Each ties what is computed to what it stands for, so that a reader need not take it from the text of a definition alone.
 use Prim.Native.Nat.{ℕ, _+_, _*_, _≤_, _<_}
 use mathlib.Core.Path.{_≡_}
-use mathlib.Core.Bool.{false}
+use mathlib.Core.Bool.{true, false}
 use mathlib.Core.Logic.{_↔_}
 use mathlib.Core.Option.{none, some}
 use mathlib.Core.List.{List, []}
@@ -14,16 +14,22 @@ use Rattle.sheet.specs.Model.{Model}
 use Rattle.sheet.specs.Each.{Each}
 use Rattle.sheet.specs.Sheet.{Outcome, Method, CallStep, Step, call-step, Sheet, body, targetFor}
 use Rattle.sheet.specs.Kind.{conditions}
-use Rattle.sheet.specs.Record.{Bytes}
+use Rattle.sheet.specs.Record.{Bytes, byteAt}
 use Rattle.sheet.specs.Reading.{Reading, whole, readSheet}
 use Rattle.sheet.specs.Decode.{sheetOf}
 use Rattle.sheet.specs.AtOffset.{InPostfix}
-use Rattle.sheet.specs.Names.{NamesExist, HasBody, OutcomesFit, EventBelow}
-use Rattle.runs.specs.Rules.{Rule, rules, bodyCount, eventCount, callCount, passCount, failedExitCount, failedCallCount, total, count}
+use Rattle.sheet.specs.Names.{NamesExist, HasBody, OutcomesFit, EventBelow, StopFits}
+use Rattle.runs.specs.Rules.{Rule, rules, bodyCount, eventCount, callCount, passCount, failedExitCount, failedCallCount, stopCount, total, count}
 use Rattle.runs.specs.Runs.{State, Grown, Move, MadeByTrace, run}
 use Rattle.runs.specs.Owing.{OwingWhenOpen}
 use Rattle.verdict.specs.Verdict.{accepted, verdictOf}
 use Rattle.verdict.specs.Promise.{EachCertified, ExactFor}
+
+-- a sheet of the old edition: it is not marked as new and has no stop, and none of its rules is 25 or 26
+pub record OldEdition (S : Sheet) : Type 0 where
+  pub unmarked : S .new ≡ false
+  pub no-stops : Each (λ (t : Step). stopCount t ≡ 0) (S .steps)
+  pub twenty-four : Each (λ (x : Rule). x .number ≤ 24) (rules S)
 
 -- a sheet of document 01: no method has a failed exit and no call a failed target; its rules are among the "Seventeen rules", and its count is
 -- "2 + 4b + 3e + 5c + 3p for b methods with body, e event, c call and p pass steps"
@@ -45,7 +51,12 @@ pub record Facts (M : Model) (s : List ℕ) : Type 0 where
   pub events-below : (r : Reading) → readSheet M s ≡ whole r → Each (EventBelow (M .events)) (sheetOf M s .steps)
   pub first-has-body : (r : Reading) → readSheet M s ≡ whole r → HasBody (body (sheetOf M s) 0)
   pub outcomes-fit : (r : Reading) → readSheet M s ≡ whole r → OutcomesFit (sheetOf M s)
-  -- on an instrument that takes document 01's kinds alone it is a sheet of document 01: what `as-before` compares with is that document's
+  -- and it is of the new edition exactly if its first byte is 18, and else has no stop
+  pub edition : (r : Reading) → readSheet M s ≡ whole r → (sheetOf M s .new ≡ true) ↔ (byteAt s 0 ≡ 18)
+  pub stops-fit : (r : Reading) → readSheet M s ≡ whole r → Each (StopFits (sheetOf M s .new)) (sheetOf M s .steps)
+  -- on an instrument that takes no kind above 17 it is a sheet of the old edition,
+  pub old-edition : M .kinds < 18 → (r : Reading) → readSheet M s ≡ whole r → OldEdition (sheetOf M s)
+  -- and on one that takes document 01's kinds alone a sheet of document 01: what `as-before` compares with is that document's
   pub one-outcome : M .kinds < 15 → (r : Reading) → readSheet M s ≡ whole r → OneOutcome (sheetOf M s)
   -- the count of the formula is the number of rules
   pub counted : length (rules (sheetOf M s)) ≡ count (sheetOf M s)

@@ -9,7 +9,7 @@ use Rattle.condition.specs.Places.{nullable}
 use Rattle.certificate.specs.Certificate.{Certificate, Fault, Finding, fine, found, fault, unless, check}
 use Rattle.sheet.specs.Model.{Model}
 use Rattle.sheet.specs.Sheet.{Sheet}
-use Rattle.sheet.specs.Reading.{ReadResult, whole, refusal, readSheet}
+use Rattle.sheet.specs.Reading.{isNew, ReadResult, whole, refusal, readSheet}
 use Rattle.sheet.specs.Decode.{sheetRead}
 use Rattle.runs.specs.Rules.{Claim, _isIn_, holdsEmpty, Rule, rules, total, count}
 
@@ -73,11 +73,11 @@ judged M s S =
     let first = firstFault (M .events) (rules S) (S .certificates) (accepted (count S)) in
     cond (eqb (length (S .certificates)) (certificatesNeeded (rules S))) first (refused 10 (some (length s)))
 
--- 1 to 9 and 18 end reading; a sheet that is read whole is judged
+-- 1 to 9 and 18 to 20 end reading; a sheet that is read whole is judged
 unfoldable pub verdictAfter : Model → List ℕ → ReadResult → Report
 unfolding judged
 verdictAfter M s (refusal n at r) = refused n (some at)
-verdictAfter M s (whole r) = judged M s (sheetRead (r .own))
+verdictAfter M s (whole r) = judged M s (sheetRead (isNew s) (r .own))
 
 -- what the loader returns for the bytes s
 unfoldable pub verdictOf : Model → List ℕ → Report

@@ -9,7 +9,7 @@ use Rattle.condition.specs.Condition.{Word}
 use Rattle.condition.specs.Places.{accepts}
 use Rattle.sheet.specs.Model.{Model, wordLimit}
 use Rattle.sheet.specs.Sheet.{condition}
-use Rattle.sheet.specs.Reading.{ReadResult, whole, refusal, readSheet}
+use Rattle.sheet.specs.Reading.{isNew, ReadResult, whole, refusal, readSheet}
 use Rattle.sheet.specs.Decode.{sheetRead}
 
 -- what the word test returns
@@ -32,7 +32,7 @@ unfoldable pub testedAfter : Model → List ℕ → ℕ → Word → ReadResult 
 unfolding unlessStray accepts
 testedAfter M s c w (refusal n at r) = untested n (some at)
 testedAfter M s c w (whole r) =
-    let S = sheetRead (r .own) in
+    let S = sheetRead (isNew s) (r .own) in
     let answer = unlessStray (M .events) 0 w (tested (accepts (condition S c) w)) in
     cond (leb (length (S .conditions)) c) (untested 14 none) (cond (ltb wordLimit (length w)) (untested 12 none) answer)
 
