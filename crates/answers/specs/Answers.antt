@@ -1,4 +1,4 @@
--- The documents' numbers and values of each answer: "What the loader returns", "Seventeen rules", and document 02, Ask 2.
+-- The documents' numbers and values of each answer: "What the loader returns", "Seventeen rules", and document 02, Asks 2 and 4.
 use Prim.Native.Nat.{ℕ}
 use mathlib.Core.Bool.{true, false}
 use mathlib.Core.Option.{Option, none, some}
@@ -7,7 +7,7 @@ use Rattle.verdict.specs.WordTest.{Answer, tested, untested}
 use Rattle.format.specs.Refusal.{numberOf, placeOf}
 use Rattle.faults.specs.Fault.{faultOf}
 use Rattle.answers.specs.declared.Rule.{Rule}
-use Rattle.answers.specs.declared.Rule.the-variants.{FirstPre, FirstFuture, EntryPast, EntryOwn, ExitOwn, ExitDue, EventPast, EventOwn, EventDue, CallPre, CallPast, CallOwn, CallFuture, CallDue, PassPast, PassOwn, PassDue, FailedPast, FailedOwn, FailedFuture, FailedDue, FailedExitOwn, FailedExitDue, FirstFailedFuture}
+use Rattle.answers.specs.declared.Rule.the-variants.{FirstPre, FirstFuture, EntryPast, EntryOwn, ExitOwn, ExitDue, EventPast, EventOwn, EventDue, CallPre, CallPast, CallOwn, CallFuture, CallDue, PassPast, PassOwn, PassDue, FailedPast, FailedOwn, FailedFuture, FailedDue, FailedExitOwn, FailedExitDue, FirstFailedFuture, StopDue, CallEntry}
 use Rattle.answers.specs.declared.Place.{Place}
 use Rattle.answers.specs.declared.Place.the-variants.{At, Nowhere}
 use Rattle.answers.specs.declared.Verdict.{Verdict}
@@ -15,7 +15,7 @@ use Rattle.answers.specs.declared.Verdict.the-variants.{Accepted, Refuse
 use Rattle.answers.specs.declared.WordAnswer.{WordAnswer}
 use Rattle.answers.specs.declared.WordAnswer.the-variants.{Yes, No, Refused as RefusedWord}
 
--- the number of a rule, 1 to 24
+-- the number of a rule, 1 to 26
 abbrev pub ruleNumber : Rule → ℕ
 ruleNumber (FirstPre k) = 1
 ruleNumber (FirstFuture k) = 2
@@ -41,6 +41,8 @@ ruleNumber (FailedDue k) = 21
 ruleNumber (FailedExitOwn k) = 22
 ruleNumber (FailedExitDue k) = 23
 ruleNumber (FirstFailedFuture k) = 24
+ruleNumber (StopDue k) = 25
+ruleNumber (CallEntry k) = 26
 
 -- the number of a rule's method or step
 abbrev pub ruleSubject : Rule → ℕ
@@ -68,6 +70,8 @@ ruleSubject (FailedDue k) = k
 ruleSubject (FailedExitOwn k) = k
 ruleSubject (FailedExitDue k) = k
 ruleSubject (FirstFailedFuture k) = k
+ruleSubject (StopDue k) = k
+ruleSubject (CallEntry k) = k
 
 -- a place, if there is one
 abbrev pub placeIn : Place → Option ℕ

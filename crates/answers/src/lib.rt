@@ -7,7 +7,7 @@ ghost use Rattle.answers.specs.Answers.{ruleNumber, ruleSubject, placeIn
 use faults::Fault;
 use format::Refusal;
 
-// The rules 1 to 24, each with its method or its step.
+// The rules 1 to 26, each with its method or its step.
 pub enum Rule {
     FirstPre(usize),
     FirstFuture(usize),
@@ -33,6 +33,8 @@ pub enum Rule {
     FailedExitOwn(usize),
     FailedExitDue(usize),
     FirstFailedFuture(usize),
+    StopDue(usize),
+    CallEntry(usize),
 }
 
 // A rule by two numbers, its own and that of its method or step.
@@ -91,6 +93,8 @@ pub fn rule_numbers(r: Rule) -> RuleNumbers
         Rule::FailedExitOwn(k) => RuleNumbers(22, k),
         Rule::FailedExitDue(k) => RuleNumbers(23, k),
         Rule::FirstFailedFuture(k) => RuleNumbers(24, k),
+        Rule::StopDue(k) => RuleNumbers(25, k),
+        Rule::CallEntry(k) => RuleNumbers(26, k),
     }
 }
 
@@ -126,6 +130,8 @@ pub fn refusal_number(x: Refusal) -> usize
         Refusal::StrayEvent(_) => 13,
         Refusal::NoSuchCondition => 14,
         Refusal::WrongOutcomes(_) => 18,
+        Refusal::EditionNotFirst(_) => 19,
+        Refusal::StopInOldSheet(_) => 20,
     }
 }
 
@@ -147,5 +153,7 @@ pub fn refusal_place(x: Refusal) -> Place
         Refusal::StrayEvent(at) => Place::At(at),
         Refusal::NoSuchCondition => Place::Nowhere,
         Refusal::WrongOutcomes(at) => Place::At(at),
+        Refusal::EditionNotFirst(at) => Place::At(at),
+        Refusal::StopInOldSheet(at) => Place::At(at),
     }
 }

@@ -2,22 +2,24 @@
 use Prim.Native.Nat.{ℕ}
 use mathlib.Core.Bool.{Bool, true, false, _||_}
 use lib.Dec.{eqb}
-use Rattle.sheet.specs.Kind.{Role, symbol, a-pair, counts}
+use Rattle.sheet.specs.Kind.{Role, symbol, a-pair, counts, edition}
 
 -- the last kind of the table
 abbrev pub lastKind : ℕ
-lastKind = 17
+lastKind = 19
 
 -- whether a record of a role counts, and how many items it takes
 abbrev pub countsOne : Role → Bool
 countsOne (symbol takes make) = false
 countsOne a-pair = false
 countsOne counts = true
+countsOne edition = false
 
 abbrev pub takesItems : Role → ℕ
 takesItems (symbol takes make) = takes
 takesItems a-pair = 0
 takesItems counts = 0
+takesItems edition = 0
 
 -- kind 1; kinds 8 and 15; kinds 15 and 16
 abbrev pub leafKind : ℕ → Bool

@@ -1,10 +1,10 @@
--- Document 01's number and place of each refusal: "What the loader returns"; and those of document 02's 18.
+-- Document 01's number and place of each refusal: "What the loader returns"; and those of document 02's 18 to 20.
 use Prim.Native.Nat.{ℕ}
 use mathlib.Core.Option.{Option, none, some}
 use Rattle.format.specs.declared.Refusal.{Refusal}
-use Rattle.format.specs.declared.Refusal.the-variants.{TooLong, UnknownKind, BodyPastEnd, WrongSection, WrongItems, OverLimit, UnknownName, Unfinished, NoFirstBody, CertificateCount, WordTooLong, StrayEvent, NoSuchCondition, WrongOutcomes}
+use Rattle.format.specs.declared.Refusal.the-variants.{TooLong, UnknownKind, BodyPastEnd, WrongSection, WrongItems, OverLimit, UnknownName, Unfinished, NoFirstBody, CertificateCount, WordTooLong, StrayEvent, NoSuchCondition, WrongOutcomes, EditionNotFirst, StopInOldSheet}
 
--- the number, 1 to 10, 12 to 14 and 18
+-- the number, 1 to 10, 12 to 14 and 18 to 20
 abbrev pub numberOf : Refusal → ℕ
 numberOf (TooLong at) = 1
 numberOf (UnknownKind at) = 2
@@ -20,6 +20,8 @@ numberOf WordTooLong = 12
 numberOf (StrayEvent at) = 13
 numberOf NoSuchCondition = 14
 numberOf (WrongOutcomes at) = 18
+numberOf (EditionNotFirst at) = 19
+numberOf (StopInOldSheet at) = 20
 
 -- "place", "offset", "length" or "index", by the refusal; 12 and 14 have none
 abbrev pub placeOf : Refusal → Option ℕ
@@ -37,3 +39,5 @@ placeOf WordTooLong = none
 placeOf (StrayEvent at) = some at
 placeOf NoSuchCondition = none
 placeOf (WrongOutcomes at) = some at
+placeOf (EditionNotFirst at) = some at
+placeOf (StopInOldSheet at) = some at

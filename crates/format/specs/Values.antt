@@ -3,7 +3,7 @@ use mathlib.Core.Path.{_≡_}
 use mathlib.Core.Option.{Option, none, some}
 use Prim.Native.Nat.{ℕ}
 use Rattle.sheet.specs.Sheet as sheet
-use Rattle.sheet.specs.Sheet.{event-step, call-step, pass-step}
+use Rattle.sheet.specs.Sheet.{event-step, call-step, pass-step, stop-step}
 use Rattle.format.specs.declared.values.Point.{Point}
 use Rattle.format.specs.declared.values.Declared.{Declared}
 use Rattle.format.specs.declared.values.Declaration.{Declaration}
@@ -12,7 +12,7 @@ use Rattle.format.specs.declared.values.Method.{Method}
 use Rattle.format.specs.declared.values.Method.the-variants.{Primitive, WithBody, TwoOutcomePrimitive, TwoOutcomeBody}
 use Rattle.format.specs.declared.values.CallStep.{CallStep}
 use Rattle.format.specs.declared.values.Step.{Step}
-use Rattle.format.specs.declared.values.Step.the-variants.{Event, Call, TwoOutcomeCall, Pass}
+use Rattle.format.specs.declared.values.Step.the-variants.{Event, Call, TwoOutcomeCall, Pass, Stop}
 
 -- a point, what is declared of an outcome, a method, a call and a step, each by the value of the code
 abbrev pub pointValue : Point → sheet.Point
@@ -49,3 +49,4 @@ stepValue (Event p q a) = event-step p q a
 stepValue (Call c) = call-step (callValue c none)
 stepValue (TwoOutcomeCall c f) = call-step (callValue c (some f))
 stepValue (Pass p q) = pass-step p q
+stepValue (Stop p) = stop-step p

@@ -2,7 +2,9 @@
 ghost use mathlib.Core.Path.{_≡_};
 ghost use Prim.Native.Nat.{_≤_};
 ghost use Rattle.sheet.specs.Kind.{kindOf, sectionOf};
+ghost use Rattle.sheet.specs.Reading.{inCondition};
 ghost use Rattle.format.specs.Kinds.{lastKind, countsOne, takesItems, leafKind, primitiveKind, twoOutcomeKind};
+use bits::both;
 use bits::one_of;
 
 // The sections in their order, each called by what is counted in it.
@@ -46,6 +48,11 @@ pub const TWO_OUTCOME_BODY: u8 = 16;
 
 pub const TWO_OUTCOME_CALL: u8 = 17;
 
+// The kinds of the mark of the new edition and of a stop.
+pub const EDITION: u8 = 18;
+
+pub const STOP: u8 = 19;
+
 pub fn section_of(kind: u8) -> u8
     requires { ⌜ (1 ≤ kind) × (kind ≤ lastKind) ⌝ }
     ensures { λ r. ⌜ r ≡ sectionOf kind ⌝ }
@@ -64,12 +71,22 @@ pub fn section_of(kind: u8) -> u8
         CERTIFICATES
     } else if kind < 17 {
         METHODS
+    } else if kind == EDITION {
+        CONDITIONS
     } else {
         STEPS
     }
 }
 
-// A record of the kind is one of its section, whole or at its end: no symbol of a condition, and no pair.
+// A record of the kind may stand in a condition: it is a symbol or its end.
+pub fn in_condition(kind: u8) -> bool
+    requires { ⌜ 1 ≤ kind ⌝ }
+    ensures { λ r. ⌜ r ≡ inCondition (sectionOf kind) (kindOf kind .role) ⌝ }
+{
+    kind < 7
+}
+
+// A record of the kind is one of its section, whole or at its end: no symbol of a condition, no pair, and no mark of the edition.
 pub fn counts(kind: u8) -> bool
     requires { ⌜ 1 ≤ kind ⌝ }
     ensures { λ r. ⌜ r ≡ countsOne (kindOf kind .role) ⌝ }
@@ -77,7 +94,7 @@ pub fn counts(kind: u8) -> bool
     if kind < 6 {
         return false;
     }
-    kind != PAIR
+    both(kind != PAIR, kind != EDITION)
 }
 
 // How many items of a condition a record of the kind takes: JOIN and EITHER two, STAR one.

@@ -2,9 +2,11 @@
 ghost use mathlib.Core.Path.{_≡_};
 ghost use Prim.Native.Nat.{_+_, _^_, _≤_, _<_};
 ghost use Rattle.sheet.specs.Kind.{bodyLength};
+ghost use Rattle.sheet.specs.Reading.{isNew};
 ghost use Rattle.format.specs.Kinds.{lastKind};
 ghost use Rattle.format.specs.Found.{isKnown, foundAt, refusalAt};
 use crate::kinds::CONDITIONS;
+use crate::kinds::EDITION;
 use crate::kinds::EMPTY;
 use crate::kinds::LEAF;
 use crate::kinds::PAIR;
@@ -18,7 +20,7 @@ pub mod listing; // listing.rt: the pairs of a certificate
 pub mod symbols; // symbols.rt: the symbols of a condition
 pub mod values; // values.rt: points, methods and steps as values
 
-// The refusals 1 to 10 and 12 to 14 of document 01 and 18 of document 02, with their places; specs/Refusal gives each its number.
+// The refusals 1 to 10 and 12 to 14 of document 01 and 18 to 20 of document 02, with their places; specs/Refusal gives each its number.
 pub enum Refusal {
     TooLong(usize),
     UnknownKind(usize),
@@ -34,15 +36,24 @@ pub enum Refusal {
     StrayEvent(usize),
     NoSuchCondition,
     WrongOutcomes(usize),
+    EditionNotFirst(usize),
+    StopInOldSheet(usize),
 }
 
-// Body lengths by kind, 1 to 17.
-const BODY_LENGTHS: [u8; 17] = [4, 0, 0, 0, 0, 0, 6, 6, 10, 5, 6, 4, 5, 0, 10, 16, 8];
+// Body lengths by kind, 1 to 19.
+const BODY_LENGTHS: [u8; 19] = [4, 0, 0, 0, 0, 0, 6, 6, 10, 5, 6, 4, 5, 0, 10, 16, 8, 0, 2];
 
 // A record with the offset after it. Where there is none, `refusal_at` says why.
 pub enum Found {
     Record { kind: u8, next: usize },
     NoRecord,
+}
+
+// A sheet of the new edition: its first byte says so.
+pub fn is_new(s: &[u8]) -> bool
+    ensures { λ r. ⌜ r ≡ isNew (now (s .entry)) ⌝ }
+{
+    byte_at(s, 0) == EDITION
 }
 
 // A kind up to the highest that an instrument takes.

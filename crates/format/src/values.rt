@@ -7,6 +7,7 @@ ghost use Rattle.format.specs.Values.{pointValue, declaredValue, Declare
 use crate::kinds::CALL;
 use crate::kinds::EVENT;
 use crate::kinds::PRIMITIVE;
+use crate::kinds::STOP;
 use crate::kinds::TWO_OUTCOME_BODY;
 use crate::kinds::TWO_OUTCOME_CALL;
 use crate::kinds::TWO_OUTCOME_PRIMITIVE;
@@ -59,7 +60,7 @@ pub struct CallStep {
     pub method: usize,
 }
 
-// A step. A call of a method that can fail has a failed target behind it.
+// A step. A call of a method that can fail has a failed target behind it; a stop has the point that it is at.
 pub enum Step {
     Event {
         from: usize,
@@ -72,6 +73,7 @@ pub enum Step {
         from: usize,
         to: usize,
     },
+    Stop(usize),
 }
 
 pub fn point_at(s: &[u8], at: usize) -> Point
@@ -169,6 +171,9 @@ pub fn step_at(s: &[u8], at: usize) -> Step
         let failed = short_at(s, at + 5);
         let method = short_at(s, at + 7);
         return Step::TwoOutcomeCall(CallStep { from, to, method }, failed);
+    }
+    if kind == STOP {
+        return Step::Stop(from);
     }
     Step::Pass { from, to }
 }

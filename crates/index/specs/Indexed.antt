@@ -1,19 +1,22 @@
 -- An indexed sheet: tables of offsets lead to the conditions, the points, the methods and the steps of a sheet, by their numbers.
 use Prim.Native.Nat.{ℕ, _≤_, _<_}
 use mathlib.Core.Path.{_≡_}
-use mathlib.Core.Option.{some}
+use mathlib.Core.Option.{Option, none, some}
 use mathlib.Core.List.{List}
 use lib.ListN.{length, getD, getElem?}
 use Rattle.condition.specs.Condition.{Condition}
 use Rattle.sheet.specs.Each.{Each}
 use Rattle.sheet.specs.Model.{conditionLimit, methodLimit, stepLimit}
 use Rattle.sheet.specs.AtOffset.{pointAt, methodAt, stepAt}
+use Rattle.sheet.specs.Reading.{isNew}
 use Rattle.sheet.specs.Sheet.{Outcome, normal, failed, Declared, Sheet, condition, past, own, due, pre, trace, future}
 use Rattle.sheet.specs.Names.{NamesExist, OutcomesFit, EventBelow}
 use Rattle.postfix.specs.Parts.{StandsAt}
 use Rattle.index.specs.declared.PointConditions.{PointConditions}
 use Rattle.index.specs.declared.OutcomeConditions.{OutcomeConditions}
 use Rattle.index.specs.declared.MethodConditions.{MethodConditions}
+use Rattle.index.specs.declared.Entry.{Entry}
+use Rattle.index.specs.declared.Entry.the-variants.{Unasked, At}
 
 -- what stands in the bytes s at the offsets of a table with so many rows: xs, numbered from 0
 pub record Tabled {A : Type 0} (at : List ℕ → ℕ → A) (s : List ℕ) (rows : ℕ) (table : List ℕ) (xs : List A) : Type 0 where
@@ -31,7 +34,7 @@ pub record ConditionIn (s conditions : List ℕ) (c : ℕ) (r : Condition) : Typ
 abbrev pub ConditionsIn : Sheet → (s conditions : List ℕ) → Type 0
 ConditionsIn S s conditions = (c : ℕ) → c < length (S .conditions) → ConditionIn s conditions c (condition S c)
 
--- the tables lead to the sheet S in the bytes s; its names exist, its outcomes and events fit, and it has a method
+-- the tables lead to the sheet S in the bytes s; its names exist, its outcomes and events fit, it has a method, and the bytes tell its edition
 pub record Indexes (S : Sheet) (s conditions points methods steps : List ℕ) : Type 0 where
   pub conditions-in : ConditionsIn S s conditions
   pub points-tabled : Tabled pointAt s (length points) points (S .points)
@@ -41,6 +44,7 @@ pub record Indexes (S : Sheet) (s conditions points methods steps : List ℕ) : 
   pub outcomes-fit : OutcomesFit S
   pub events-fit : Each (EventBelow 64) (S .steps)
   pub a-method : 0 < length (S .methods)
+  pub edition-is : S .new ≡ isNew s
 
 -- the point p of the sheet S: the point where the table says, with its conditions
 pub record PointIn (S : Sheet) (s conditions points : List ℕ) (p : ℕ) : Type 0 where
@@ -68,6 +72,18 @@ pub record FailedIn (S : Sheet) (s conditions methods : List ℕ) (m : ℕ) : Ty
   pub declared : Declared
   pub failing-is : methodAt s (getD methods m 0) .failing ≡ some declared
   pub failed-named : DeclaredIn S s conditions declared m failed
+
+-- the method m of the sheet S, as a call of it asks: the method where the table says, and the edition that the bytes tell
+pub record CalledIn (S : Sheet) (s methods : List ℕ) (m : ℕ) : Type 0 where
+  pub exists : m < methodLimit
+  pub inside : getD methods m 0 < length s
+  pub is : getElem? (S .methods) m ≡ some (methodAt s (getD methods m 0))
+  pub edition-is : S .new ≡ isNew s
+
+-- the entry that rule 26 asks about, by the value of the code
+abbrev pub entryValue : Entry → Option ℕ
+entryValue Unasked = none
+entryValue (At e) = some e
 
 -- the offsets where the conditions of the point p stand, those of the outcome o of the method m, and those of the method m
 pub record PointIs (s : List ℕ) (S : Sheet) (p : ℕ) (x : PointConditions) : Type 0 where

@@ -1,14 +1,19 @@
 // The conditions of a sheet's points and methods, by the tables of offsets that lead to them.
+ghost use mathlib.Core.Path.{_≡_};
 ghost use mathlib.Core.List.{List};
 ghost use Prim.Native.Nat.{ℕ};
 ghost use Rattle.sheet.specs.Sheet.{Outcome, failed, Sheet};
 ghost use Rattle.condition.specs.Condition.{Condition};
+ghost use Rattle.runs.specs.Rules.{entryAsked};
 ghost use Rattle.format.specs.Values.{declaredValue};
 ghost use Rattle.postfix.specs.Parts.{StandsAt};
-ghost use Rattle.index.specs.Indexed.{ConditionIn, PointIn, DeclaredIn, MethodIn, FailedIn, PointIs, MethodIs, OutcomeIs};
+ghost use Rattle.index.specs.Indexed.{ConditionIn, PointIn, DeclaredIn, MethodIn, FailedIn, CalledIn, entryValue, PointIs, MethodIs, OutcomeIs};
+use format::is_new;
 use format::values::Declared;
+use format::values::Method;
 use format::values::declaration_at;
 use format::values::failed_at;
+use format::values::method_at;
 use format::values::point_at;
 
 // The conditions of a point, by the offsets where they stand. An offset has four bytes, as in the tables: a subject's conditions are copied from claim to
@@ -29,6 +34,12 @@ pub struct OutcomeConditions {
 pub struct MethodConditions {
     pub pre: u32,
     pub normal: OutcomeConditions,
+}
+
+// The entry point that rule 26 asks about where a method is called, if it does.
+pub enum Entry {
+    Unasked,
+    At(usize),
 }
 
 // The offset where the condition number c stands.
@@ -92,4 +103,20 @@ pub fn failed_of(
     ensures { λ r. ⌜ ((S : Sheet) → FailedIn S (now (s .entry)) (now (conditions .entry)) (now (methods .entry)) m → OutcomeIs (now (s .entry)) S m failed r) ⌝ }
 {
     outcome_of(conditions, failed_at(s, methods[m] as usize))
+}
+
+// The entry that rule 26 asks about where the method m is called: in the new edition, that of a method with body.
+pub fn entry_asked(s: &[u8], methods: &[u32; 64], m: usize) -> Entry
+    requires { ⌜ ((S : Sheet) × CalledIn S (now s) (now methods) m) ⌝ }
+    ensures { λ r. ⌜ ((S : Sheet) → CalledIn S (now (s .entry)) (now (methods .entry)) m → entryValue r ≡ entryAsked S m) ⌝ }
+{
+    if !is_new(s) {
+        return Entry::Unasked;
+    }
+    match method_at(s, methods[m] as usize) {
+        Method::Primitive(_) => Entry::Unasked,
+        Method::TwoOutcomePrimitive(_, _) => Entry::Unasked,
+        Method::WithBody(_, inner) => Entry::At(inner.entry),
+        Method::TwoOutcomeBody(_, inner, _) => Entry::At(inner.entry),
+    }
 }

@@ -1,18 +1,22 @@
 // How many rules a sheet has, and how many certificates they need: those of each subject, by its kind alone, summed.
-ghost use mathlib.Core.List.{List};
+ghost use mathlib.Core.List.{List, _++_};
 ghost use Prim.Native.Nat.{ℕ, _+_, _≤_};
+ghost use Rattle.sheet.specs.Sheet as sheet;
 ghost use Rattle.sheet.specs.Sheet.{Sheet};
 ghost use Rattle.runs.specs.Rules as runs;
 ghost use mathlib.Core.Path.{_≡_};
-ghost use Rattle.runs.specs.Rules.{isAmong, methodRules, stepRules, rules};
+ghost use Rattle.runs.specs.Rules.{ifAny, isAmong, methodRules, entryRules, stepRules, rules};
 ghost use Rattle.format.specs.Values.{methodValue, stepValue};
+ghost use Rattle.index.specs.Indexed.{entryValue};
 ghost use Rattle.claims.specs.Claims.{NthIs};
 ghost use Rattle.rules.specs.Order.{SheetIn, groups};
-ghost use Rattle.needs.specs.Needs.{Needed};
+ghost use Rattle.needs.specs.Needs.{Needed, oneEach, CallIn};
 use format::values::Method;
 use format::values::Step;
 use format::values::method_at;
 use format::values::step_at;
+use index::Entry;
+use index::entry_asked;
 use rules::order::Counts;
 
 // How many rules there are, and how many certificates they need.
@@ -46,26 +50,42 @@ fn method_needs(method: Method, first: bool) -> Needs
     }
 }
 
-// An event step has rules 7 to 9, a call 10 to 14, one with a failed target 18 to 21 too, a pass step 15 to 17, each with a certificate.
-fn step_needs(step: Step) -> Needs
-    ensures { λ r. ⌜ ((S : Sheet) (i : ℕ) → Needed (stepRules S i (stepValue step)) r) ⌝ }
+// A call with so many rules before 26, each with a certificate. 26 has one too, where it is asked.
+fn call_needs(others: usize, entry: Entry) -> Needs
+    requires { ⌜ others ≤ 9 ⌝ }
+    ensures { λ r. ⌜ ((S : Sheet) (i : ℕ) (t : sheet.CallStep) (xs : List runs.Rule) → Needed xs (oneEach others) →
+        Needed (xs ++ ifAny (entryValue entry) (entryRules S i t)) r) ⌝ }
+{
+    let all = match entry {
+        Entry::Unasked => others,
+        Entry::At(_) => others + 1,
+    };
+    Needs {
+        rules: all,
+        certificates: all,
+    }
+}
+
+// An event step has rules 7 to 9, a call 10 to 14, one with a failed target 18 to 21 too, a pass step 15 to 17, each with a certificate; a stop has 25, which
+// has none.
+fn step_needs(s: &[u8], methods: &[u32; 64], step: Step) -> Needs
+    requires { ⌜ ((S : Sheet) × CallIn S (now s) (now methods) (stepValue step)) ⌝ }
+    ensures { λ r. ⌜ ((S : Sheet) (i : ℕ) → CallIn S (now (s .entry)) (now (methods .entry)) (stepValue step) → Needed (stepRules S i (stepValue step)) r) ⌝ }
 {
     match step {
         Step::Event { .. } => Needs {
             rules: 3,
             certificates: 3,
         },
-        Step::Call(_) => Needs {
-            rules: 5,
-            certificates: 5,
-        },
-        Step::TwoOutcomeCall(_, _) => Needs {
-            rules: 9,
-            certificates: 9,
-        },
+        Step::Call(call) => call_needs(5, entry_asked(s, methods, call.method)),
+        Step::TwoOutcomeCall(call, _) => call_needs(9, entry_asked(s, methods, call.method)),
         Step::Pass { .. } => Needs {
             rules: 3,
             certificates: 3,
+        },
+        Step::Stop(_) => Needs {
+            rules: 1,
+            certificates: 0,
         },
     }
 }
@@ -94,7 +114,7 @@ fn needs_at(
     if k < listed {
         return method_needs(method_at(s, methods[k] as usize), k == 0);
     }
-    step_needs(step_at(s, steps[k - listed] as usize))
+    step_needs(s, methods, step_at(s, steps[k - listed] as usize))
 }
 
 // The needs of all subjects.

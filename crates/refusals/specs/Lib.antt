@@ -1,3 +1,4 @@
 pub mod Step
 pub mod Names
 pub mod Outcomes
+pub mod Editions

@@ -8,6 +8,7 @@ use format::kinds::counts;
 use format::kinds::is_leaf;
 use format::kinds::items_taken;
 
+pub mod editions; // editions.rt: the mark of the new edition, and stops
 pub mod names; // names.rt: whether what a record names exists
 pub mod outcomes; // outcomes.rt: whether a call names a method with as many outcomes
 

@@ -15,6 +15,7 @@ use fields::short_inside;
 use format::kinds::CALL;
 use format::kinds::EVENT;
 use format::kinds::STEPS;
+use format::kinds::STOP;
 use format::kinds::TWO_OUTCOME_BODY;
 use format::kinds::TWO_OUTCOME_CALL;
 use format::kinds::TWO_OUTCOME_PRIMITIVE;
@@ -64,11 +65,15 @@ fn declared_names_exist(s: &[u8], at: usize, kind: u8, tally: Tally) -> bool
     }
 }
 
-// What a step names is counted in the tally, and its event is of the first `events`: two points, and what its kind has behind them.
+// What a step names is counted in the tally, and its event is of the first `events`: of a stop one point, of the others two, and what the kind has behind
+// them.
 fn step_names_exist(s: &[u8], at: usize, kind: u8, tally: Tally, events: usize) -> bool
     requires { ⌜ Named (now s) at kind × (steps ≤ sectionOf kind) ⌝ }
     ensures { λ r. ⌜ r ≡ allExist events (countOf tally) (kindOf kind .fields) (recordAt (now (s .entry)) at .values) ⌝ }
 {
+    if kind == STOP {
+        return below(s, at + 1, tally.points);
+    }
     let named = two_below(s, at + 1, tally.points);
     match kind {
         EVENT => both(named, index(s[at + 5]) < events),

@@ -1,15 +1,18 @@
--- The ways of returning and the names of rules, as the code has them.
+-- The ways of returning, what a call enters, and the names of rules, as the code has them.
 use mathlib.Core.Path.{_≡_}
 use mathlib.Core.Option.{Option, none, some}
 use mathlib.Core.List.{List}
 use Prim.Native.Nat.{ℕ, _+_}
-use Rattle.sheet.specs.Sheet.{Outcome, failed, Sheet}
+use Rattle.sheet.specs.Sheet.{Outcome, failed, Sheet, due}
+use Rattle.postfix.specs.Parts.{StandsAt}
 use Rattle.index.specs.Indexed.{PointIs, OutcomeIs}
 use Rattle.answers.specs.declared.Rule.{Rule}
 use Rattle.answers.specs.Answers.{ruleNumber, ruleSubject}
 use Rattle.rule_claims.specs.declared.Way.{Way}
 use Rattle.rule_claims.specs.declared.Failing.{Failing}
 use Rattle.rule_claims.specs.declared.Failing.the-variants.{Never, By}
+use Rattle.rule_claims.specs.declared.Entered.{Entered}
+use Rattle.rule_claims.specs.declared.Entered.the-variants.{Unasked, Due}
 use Rattle.rule_claims.specs.declared.ReturnRules.{ReturnRules}
 
 -- the name is that of rule n about the method or step k
@@ -35,3 +38,10 @@ FailingIs s S m none Never = Unit {0}
 FailingIs s S m none (By x) = ⊥
 FailingIs s S m (some p) Never = ⊥
 FailingIs s S m (some p) (By x) = WayIs s S m failed p x
+
+-- the due of the entry that rule 26 asks about, if it asks about one
+abbrev pub EnteredIs : List ℕ → Sheet → Option ℕ → Entered → Type 0
+EnteredIs s S none Unasked = Unit {0}
+EnteredIs s S none (Due d) = ⊥
+EnteredIs s S (some e) Unasked = ⊥
+EnteredIs s S (some e) (Due d) = StandsAt s d (due S e)

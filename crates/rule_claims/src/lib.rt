@@ -1,16 +1,16 @@
 // What the rules claim of the conditions that they name, by number: the rules of a start, of a method with body, of a step of each kind. No table
 // and no byte of the sheet is read here.
 ghost use mathlib.Core.Path.{_≡_};
-ghost use mathlib.Core.List.{List};
+ghost use mathlib.Core.List.{List, _++_};
 ghost use mathlib.Core.Option.{Option, some};
 ghost use Prim.Native.Nat.{ℕ, _+_, _<_};
 ghost use Rattle.sheet.specs.Sheet as sheet;
-ghost use Rattle.sheet.specs.Sheet.{Sheet, event-step, call-step, pass-step};
-ghost use Rattle.runs.specs.Rules.{ifAny, isAmong, firstRules, exitRules, failedExitRules, methodRules, returnRules, stepRules};
+ghost use Rattle.sheet.specs.Sheet.{Sheet, event-step, call-step, pass-step, stop-step};
+ghost use Rattle.runs.specs.Rules.{ifAny, isAmong, firstRules, exitRules, failedExitRules, methodRules, returnRules, entryAsked, entryRules, stepRules};
 ghost use Rattle.postfix.specs.Parts.{StandsAt};
 ghost use Rattle.index.specs.Indexed.{PointIs, MethodIs};
 ghost use Rattle.claims.specs.Claims.{Kth};
-ghost use Rattle.rule_claims.specs.Ways.{RuleIs, WayIs, FailingIs, ReturnRulesAre};
+ghost use Rattle.rule_claims.specs.Ways.{RuleIs, WayIs, FailingIs, EnteredIs, ReturnRulesAre};
 use answers::Rule;
 use bits::both;
 use claims::Asked;
@@ -34,6 +34,12 @@ pub struct Way {
 pub enum Failing {
     Never,
     By(Way),
+}
+
+// What a call enters, as far as rule 26 asks about it: the due of the called method's entry.
+pub enum Entered {
+    Unasked,
+    Due(u32),
 }
 
 // The four rules of a call about one way of returning, by name.
@@ -146,10 +152,33 @@ fn return_claim(rules: ReturnRules, p: PointConditions, q: Way, k: usize) -> Ask
     }
 }
 
-// 18 to 21, of a call with a failed target.
-fn failed_call_claim(i: usize, p: PointConditions, failed: Failing, k: usize) -> Asked
+// 26: due of the entry of the called method is in due(p), where it is asked.
+fn entry_claim(i: usize, p: PointConditions, entered: Entered, k: usize) -> Asked
+    ensures { λ r. ⌜ ((s : List ℕ) (S : Sheet) (t : sheet.CallStep) (e : Option ℕ) → PointIs s S (t .from) p → EnteredIs s S e entered →
+        Kth s (ifAny e (entryRules S i t)) k r) ⌝ }
+{
+    match entered {
+        Entered::Unasked => Asked::NoMore,
+        Entered::Due(due) => {
+            if k == 0 {
+                return inclusion(Rule::CallEntry(i), due, p.due);
+            }
+            Asked::NoMore
+        }
+    }
+}
+
+// The rules of a call behind those of its normal return: 18 to 21, if it has a failed target, and 26.
+fn later_call_claim(
+    i: usize,
+    p: PointConditions,
+    failed: Failing,
+    entered: Entered,
+    k: usize,
+) -> Asked
     ensures { λ r. ⌜ ((s : List ℕ) (S : Sheet) (t : sheet.CallStep) → PointIs s S (t .from) p → FailingIs s S (t .method) (t .failed-to) failed →
-        Kth s (ifAny (t .failed-to) (returnRules S 18 i t sheet.failed)) k r) ⌝ }
+        EnteredIs s S (entryAsked S (t .method)) entered →
+        Kth s (ifAny (t .failed-to) (returnRules S 18 i t sheet.failed) ++ ifAny (entryAsked S (t .method)) (entryRules S i t)) k r) ⌝ }
 {
     let rules = ReturnRules {
         past: Rule::FailedPast(i),
@@ -158,23 +187,29 @@ fn failed_call_claim(i: usize, p: PointConditions, failed: Failing, k: usize) ->
         due: Rule::FailedDue(i),
     };
     match failed {
-        Failing::Never => Asked::NoMore,
-        Failing::By(q) => return_claim(rules, p, q, k),
+        Failing::Never => entry_claim(i, p, entered, k),
+        Failing::By(q) => {
+            if k < 4 {
+                return return_claim(rules, p, q, k);
+            }
+            entry_claim(i, p, entered, k - 4)
+        }
     }
 }
 
-// 10 past(p) in pre; then the rules of its returns.
+// 10 past(p) in pre; then the rules of its returns, and 26.
 pub fn call_claim(
     i: usize,
     pre: u32,
     p: PointConditions,
     q: Way,
     failed: Failing,
+    entered: Entered,
     k: usize,
 ) -> Asked
     ensures { λ r. ⌜ ((s : List ℕ) (S : Sheet) (t : sheet.CallStep) → StandsAt s pre (sheet.pre S (t .method)) → PointIs s S (t .from) p →
         WayIs s S (t .method) sheet.normal (t .to) q → FailingIs s S (t .method) (t .failed-to) failed →
-        Kth s (stepRules S i (call-step t)) k r) ⌝ }
+        EnteredIs s S (entryAsked S (t .method)) entered → Kth s (stepRules S i (call-step t)) k r) ⌝ }
 {
     if k == 0 {
         return inclusion(Rule::CallPre(i), p.past, pre);
@@ -188,7 +223,7 @@ pub fn call_claim(
         };
         return return_claim(rules, p, q, k - 1);
     }
-    failed_call_claim(i, p, failed, k - 5)
+    later_call_claim(i, p, failed, entered, k - 5)
 }
 
 // 15 past(p) in past(q); 16 own(p) in own(q); 17 due(q) in due(p).
@@ -200,6 +235,16 @@ pub fn pass_claim(i: usize, p: PointConditions, q: PointConditions, k: usize) ->
         0 => forward(Rule::PassPast(i), p.past, raised, q.past),
         1 => forward(Rule::PassOwn(i), p.own, raised, q.own),
         2 => backward(Rule::PassDue(i), raised, q.due, p.due),
+        _ => Asked::NoMore,
+    }
+}
+
+// 25: due at the point of a stop holds the empty word.
+pub fn stop_claim(i: usize, due: u32, k: usize) -> Asked
+    ensures { λ r. ⌜ ((s : List ℕ) (S : Sheet) (p : ℕ) → StandsAt s due (sheet.due S p) → Kth s (stepRules S i (stop-step p)) k r) ⌝ }
+{
+    match k {
+        0 => holds_empty(Rule::StopDue(i), due),
         _ => Asked::NoMore,
     }
 }

@@ -31,7 +31,7 @@ module _ (S : Sheet) where
 
 -- no subject has more rules
 abbrev pub mostRules : ℕ
-mostRules = 9
+mostRules = 10
 
 -- all elements of the lists, one list after the other
 unfoldable pub together : {A : Type 0} → List (List A) → List A

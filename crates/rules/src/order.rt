@@ -7,10 +7,10 @@ ghost use lib.ListN.{length, getD};
 ghost use Rattle.sheet.specs.AtOffset.{stepAt};
 ghost use Rattle.sheet.specs.Sheet.{Outcome, call-step, Sheet, body};
 ghost use Rattle.runs.specs.Rules as runs;
-ghost use Rattle.runs.specs.Rules.{isAmong, methodRules, stepRules};
+ghost use Rattle.runs.specs.Rules.{isAmong, methodRules, entryAsked, stepRules};
 ghost use Rattle.format.specs.Values.{bodyValue, callValue};
 ghost use Rattle.index.specs.Indexed.{Indexes, PointIn, FailedIn, OutcomeIs};
-ghost use Rattle.rule_claims.specs.Ways.{WayIs, FailingIs};
+ghost use Rattle.rule_claims.specs.Ways.{WayIs, FailingIs, EnteredIs};
 ghost use Rattle.claims.specs.Claims.{NthIs};
 ghost use Rattle.rules.specs.Subjects.{SubjectIs};
 ghost use Rattle.rules.specs.Order.{SheetIn, groups};
@@ -21,10 +21,13 @@ use format::values::Method;
 use format::values::Step;
 use format::values::method_at;
 use format::values::step_at;
+use index::Entry;
 use index::OutcomeConditions;
+use index::entry_asked;
 use index::failed_of;
 use index::method_of;
 use index::point_of;
+use rule_claims::Entered;
 use rule_claims::Failing;
 use rule_claims::Way;
 
@@ -132,6 +135,27 @@ fn method_subject(
     }
 }
 
+// What a call of the method m enters, as far as rule 26 asks about it.
+fn entered_by(
+    s: &[u8],
+    conditions: &[u32; 256],
+    points: &[u32],
+    methods: &[u32; 64],
+    m: usize,
+) -> Entered
+    requires { ⌜ ((S : Sheet) × (steps : List ℕ) × Indexes S (now s) (now conditions) (now points) (now methods) steps × (m < length (S .methods))) ⌝ }
+    ensures { λ r. ⌜ ((S : Sheet) (steps : List ℕ) → Indexes S (now (s .entry)) (now (conditions .entry)) (now (points .entry)) (now (methods .entry)) steps →
+        m < length (S .methods) → EnteredIs (now (s .entry)) S (entryAsked S m) r) ⌝ }
+{
+    match entry_asked(s, methods, m) {
+        Entry::Unasked => Entered::Unasked,
+        Entry::At(e) => {
+            let entry = point_of(s, conditions, points, e);
+            Entered::Due(entry.due)
+        }
+    }
+}
+
 // The call step i with its failed way.
 fn call_subject(
     s: &[u8],
@@ -150,12 +174,14 @@ fn call_subject(
 {
     let declared = method_of(s, conditions, methods, call.method);
     let to = way_of(s, conditions, points, call.to, declared.normal);
+    let entered = entered_by(s, conditions, points, methods, call.method);
     Subject::Call {
         step: i,
         pre: declared.pre,
         from: point_of(s, conditions, points, call.from),
         to,
         failed,
+        entered,
     }
 }
 
@@ -190,6 +216,13 @@ fn step_subject(
             from: point_of(s, conditions, points, from),
             to: point_of(s, conditions, points, to),
         },
+        Step::Stop(from) => {
+            let point = point_of(s, conditions, points, from);
+            Subject::Stop {
+                step: i,
+                due: point.due,
+            }
+        }
     }
 }
 

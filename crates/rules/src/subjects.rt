@@ -8,6 +8,7 @@ ghost use Rattle.rules.specs.Subjects.{SubjectIs};
 use claims::Asked;
 use index::MethodConditions;
 use index::PointConditions;
+use rule_claims::Entered;
 use rule_claims::Failing;
 use rule_claims::Way;
 use rule_claims::body_claim;
@@ -15,6 +16,7 @@ use rule_claims::call_claim;
 use rule_claims::event_claim;
 use rule_claims::first_claim;
 use rule_claims::pass_claim;
+use rule_claims::stop_claim;
 
 // A method that runs start at, a method with its body, or a step; a primitive has no rules.
 pub enum Subject {
@@ -42,11 +44,16 @@ pub enum Subject {
         from: PointConditions,
         to: Way,
         failed: Failing,
+        entered: Entered,
     },
     Pass {
         step: usize,
         from: PointConditions,
         to: PointConditions,
+    },
+    Stop {
+        step: usize,
+        due: u32,
     },
     None,
 }
@@ -77,8 +84,10 @@ pub fn claim_of(subject: Subject, k: usize) -> Asked
             from,
             to,
             failed,
-        } => call_claim(step, pre, from, to, failed, k),
+            entered,
+        } => call_claim(step, pre, from, to, failed, entered, k),
         Subject::Pass { step, from, to } => pass_claim(step, from, to, k),
+        Subject::Stop { step, due } => stop_claim(step, due, k),
         Subject::None => Asked::NoMore,
     }
 }

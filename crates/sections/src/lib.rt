@@ -14,7 +14,9 @@ use format::Found;
 use format::Refusal;
 use format::kinds::CERTIFICATES;
 use format::kinds::CONDITIONS;
+use format::kinds::EDITION;
 use format::kinds::counts;
+use format::kinds::in_condition;
 use format::kinds::is_primitive;
 use format::kinds::section_of;
 use format::record_at;
@@ -22,6 +24,8 @@ use format::refusal_at;
 use instrument::Limits;
 use refusals::Stepped;
 use refusals::condition_step;
+use refusals::editions::past_mark;
+use refusals::editions::stop_fits;
 use refusals::names::names_exist;
 use refusals::nothing_begun;
 use refusals::outcomes::outcomes_fit;
@@ -48,14 +52,14 @@ pub enum Section {
 // The section readers. Each starts where the section before ended, and tells where its own ends, or the refusal that ends reading (`Told`),
 // whatever was counted before the sheet. A table holds each offset in four bytes.
 
-// The conditions. One is stored with its start, when its end comes.
+// The conditions, behind the mark of the edition. One is stored with its start, when its end comes.
 pub fn read_conditions(s: &[u8], limits: Limits, given: Tally, table: &mut [u32; 256]) -> Section
     requires { ⌜ (limits .kinds ≤ lastKind) × (length (now s) ≤ addressable) ⌝ }
     ensures { λ r. ⌜ ((o : ReadResult) (u : Reading) → Told (modelWith limits) (now (s .entry)) o 0 (Section.Done 0 given) u → u .own conditions ≡ []
         → Filled (modelWith limits) (now (s .entry)) o points r conditions u (now (table .entry)) (now (table .exit))) ⌝ }
 {
-    let mut at: usize = 0;
-    let mut start: usize = 0;
+    let mut at = past_mark(s, limits.kinds);
+    let mut start = at;
     let mut begun = nothing_begun();
     let mut tally = given;
     while at < s.len() {
@@ -63,9 +67,12 @@ pub fn read_conditions(s: &[u8], limits: Limits, given: Tally, table: &mut [u32;
         let Found::Record { kind, next } = got else {
             return Section::Refused(refusal_at(s, limits.kinds, at));
         };
-        if CONDITIONS < section_of(kind) {
+        if !in_condition(kind) {
             if 0 < begun.symbols {
                 return Section::Refused(Refusal::WrongSection(at));
+            }
+            if kind == EDITION {
+                return Section::Refused(Refusal::EditionNotFirst(at));
             }
             return Section::Done { at, tally };
         }
@@ -119,6 +126,9 @@ pub fn read_alone(
         }
         if section < here {
             return Section::Done { at, tally };
+        }
+        if !stop_fits(s, kind) {
+            return Section::Refused(Refusal::StopInOldSheet(at));
         }
         let n = Tally::count(tally, section);
         if limit <= n {
