@@ -1,16 +1,16 @@
 -- The certificates of a sheet that is read whole stand one after the other.
 use mathlib.Core.Path.{_≡_, refl, sym, ap, subst}
-use mathlib.Core.Bool.{true, false, _&&_}
+use mathlib.Core.Bool.{true, false, not, _&&_}
 use mathlib.Core.List.{List, [], _∷_, _++_}
 use Prim.Native.Nat.{ℕ, zero, suc, _+_, _*_, _≤_, _<_}
 use native.Mathlib.Omega.{arith}
 use lib.ListN.{length}
-use lib.Dec.{eqb, ltb}
+use lib.Dec.{eqb}
 use Rattle.certificate.specs.Certificate.{Certificate}
 use Rattle.sheet.specs.Model.{Model}
-use Rattle.sheet.specs.Kind.{Role, symbol, a-pair, counts, kindOf, sectionOf}
+use Rattle.sheet.specs.Kind.{Role, symbol, a-pair, counts, edition, kindOf, sectionOf}
 use Rattle.sheet.specs.Record.{Record, byteAt, recordAt, nextAt}
-use Rattle.sheet.specs.Reading.{Opened, Counted, Reading, startOf, startsOf, openedPast, ownPast, pastAt, whole, readSheet}
+use Rattle.sheet.specs.Reading.{Opened, Counted, Reading, startOf, startsOf, inCondition, openedPast, ownPast, pastAt, whole, readSheet}
 use Rattle.sheet.specs.AtOffset.{certificateAt}
 use Rattle.sheet.proofs.Take.{next-lt, Took}
 use Rattle.sheet.proofs.ReadOn.{read-keeps}
@@ -82,7 +82,7 @@ module _ (s : List ℕ) (at kind : ℕ) (values : List ℕ) (r : Reading) (now-o
         none-before = λ l. absurd (omega arith);
       }
 
-  good-past : (section : ℕ) (role : Role) → Fits s at x section role → at < length s → r .section ≤ section → (eqb (o .section) 1 && ltb 1 section) ≡ false
+  good-past : (section : ℕ) (role : Role) → Fits s at x section role → at < length s → r .section ≤ section → (eqb (o .section) 1 && not (inCondition section role)) ≡ false
       → Good s (startOf o at) (r .section) (r .own 5) → Past section role
   good-past section (symbol takes make) (first, y) inside order none-open h = none-yet s _ section (h .none-before (omega arith))
   good-past section a-pair (last, e, is) inside order none-open h =
@@ -94,6 +94,7 @@ module _ (s : List ℕ) (at kind : ℕ) (values : List ℕ) (r : Reading) (now-o
   good-past (suc (suc (suc (suc zero)))) counts fit inside order none-open h = none-yet s _ 4 (h .none-before (omega arith))
   good-past (suc (suc (suc (suc (suc zero))))) counts fit inside order none-open h = ends fit inside none-open (h .up-to)
   good-past (suc (suc (suc (suc (suc (suc k)))))) counts fit inside order none-open h = absurd fit
+  good-past section edition first inside order none-open h = none-yet s _ section (h .none-before (omega arith))
 
 module _ (M : Model) (s : List ℕ) where
   abbrev GoodIn : ℕ → Reading → Type 0

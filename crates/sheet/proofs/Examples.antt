@@ -2,6 +2,7 @@
 -- last and at one more, the order of sections, refusals of one record in their order, what was counted before a refusal, other instruments' limits, and
 -- methods with two outcomes and their calls.
 use mathlib.Core.Path.{_≡_, refl}
+use mathlib.Core.Bool.{false}
 use mathlib.Core.Option.{Option, none, some}
 use mathlib.Core.List.{List, [], _∷_, _++_, map}
 use Prim.Native.Nat.{ℕ, zero, suc}
@@ -121,6 +122,7 @@ small-is-so : sheetOf large small
       methods = oneOutcome 1 (declared 0 1) (body 0 1 none) ∷ oneOutcome 0 (declared 1 0) none ∷ [];
       steps = event-step 0 1 31 ∷ callFrom 1 0 1 ∷ pass-step 1 0 ∷ [];
       certificates = (pair 0 1 ∷ pair 5 0x04030201 ∷ []) ∷ [] ∷ [];
+      new = false;
     }
 unfolding sheetOf
 small-is-so = refl
@@ -206,8 +208,8 @@ rows =
     -- "the end comes inside a condition or a certificate"
     ∷ after 0 0 0 0 (0x02 ∷ []) (8 ∷ 1 ∷ [])
     ∷ after 1 1 0 0 (method0 ++ (0x0D ∷ 0 ∷ 1 ∷ 0 ∷ 0 ∷ 0 ∷ [])) (8 ∷ 17 ∷ [])
-    -- "kind not 1 to 14", but 15 to 17; "an event above 31"; the names of a pass step are points, where no method is yet
-    ∷ after 0 0 0 0 (0x12 ∷ []) (2 ∷ 0 ∷ [])
+    -- "kind not 1 to 14", but 15 to 19; "an event above 31"; the names of a pass step are points, where no method is yet
+    ∷ after 0 0 0 0 (0x14 ∷ []) (2 ∷ 0 ∷ [])
     ∷ after 1 1 1 0 (0x0A ∷ 0 ∷ 0 ∷ 0 ∷ 0 ∷ 32 ∷ []) (7 ∷ 0 ∷ [])
     ∷ after 1 1 0 0 pass0 (9 ∷ 5 ∷ [])
     -- "at one record the table's order holds": 3 before 4, 4 before 5, 5 before 6, 6 before 7, 7 before 9, and behind each of the last three
@@ -257,7 +259,7 @@ moreRows =
     ∷ after 1 1 1 0 primitive0 (9 ∷ 0 ∷ [])
     ∷ after 1 1 0 0 (method0 ++ primitive0) []
     -- every record is read, also where each has one byte
-    ∷ after 1 1 1 0 (0x0E ∷ 0x0E ∷ 0x12 ∷ []) (2 ∷ 2 ∷ [])
+    ∷ after 1 1 1 0 (0x0E ∷ 0x0E ∷ 0x14 ∷ []) (2 ∷ 2 ∷ [])
     ∷ []
 
 more-rows-are-so : map (λ x. numberAndPlace (readFrom large (startingFrom (x .before)) (x .bytes))) moreRows ≡ map (λ x. x .refused) moreRows
@@ -305,7 +307,7 @@ unfolding readFrom
 too-long-behind = refl
 
 -- bytes that are refused stand for a sheet with nothing in it, also where conditions and points were read
-refused-is-nothing : sheetOf large (0x02 ∷ 0x06 ∷ (point0 ++ point1)) ≡ record { conditions = []; points = []; methods = []; steps = []; certificates = [] }
+refused-is-nothing : sheetOf large (0x02 ∷ 0x06 ∷ (point0 ++ point1)) ≡ record { conditions = []; points = []; methods = []; steps = []; certificates = []; new = false }
 unfolding sheetOf
 refused-is-nothing = refl
 
@@ -327,7 +329,7 @@ entryRows =
     ∷ after 1 1 1 512 pass0 (6 ∷ 0 ∷ [])
     ∷ after 1 1 1 0 (0x0A ∷ 0 ∷ 0 ∷ 0 ∷ 0 ∷ 31 ∷ []) (9 ∷ 6 ∷ [])
     ∷ after 1 1 1 0 (0x0A ∷ 0 ∷ 0 ∷ 0 ∷ 0 ∷ 32 ∷ []) (7 ∷ 0 ∷ [])
-    ∷ after 1 1 1 0 (0x0E ∷ 0x12 ∷ []) (2 ∷ 1 ∷ [])
+    ∷ after 1 1 1 0 (0x0E ∷ 0x14 ∷ []) (2 ∷ 1 ∷ [])
     ∷ []
 
 entry-rows-are-so : map (λ x. numberAndPlace (readFrom entry (startingFrom (x .before)) (x .bytes))) entryRows ≡ map (λ x. x .refused) entryRows
@@ -371,6 +373,7 @@ failing-sheet-is-so : sheetOf large failingSheet
           ∷ [];
       steps = failingCallFrom 0 1 2 1 ∷ failingCallFrom 2 0 1 0 ∷ callFrom 1 0 2 ∷ [];
       certificates = [];
+      new = false;
     }
 unfolding sheetOf
 failing-sheet-is-so = refl

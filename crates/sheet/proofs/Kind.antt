@@ -3,16 +3,17 @@ use mathlib.Core.Path.{_≡_, refl, sym, ap, ap₂, _∙_}
 use mathlib.Core.Bool.{Bool, true, false, cond}
 use mathlib.Core.Option.{Option, none, some}
 use mathlib.Core.List.{List, [], _∷_, _++_, append-assoc}
-use Prim.Native.Nat.{ℕ, zero, suc, _+_, _≤_}
+use Prim.Native.Nat.{ℕ, zero, suc, _+_, _≤_, _<_}
 use native.Mathlib.Omega.{arith}
 use lib.ListN.{length, getD, drop}
 use lib.Dec.{eqb}
+use borrow.Author.Tests.{ne-eqb}
 use Rattle.condition.specs.Condition.{Condition, join, either, star, noWord}
 use Rattle.certificate.specs.Certificate.{pair}
-use Rattle.sheet.specs.Kind.{a-set, Role, symbol, a-pair, counts, Kind, a-kind, kinds, kindOf, sectionOf}
+use Rattle.sheet.specs.Kind.{a-set, Role, symbol, a-pair, counts, edition, Kind, a-kind, kinds, kindOf, sectionOf}
 use Rattle.sheet.specs.Record.{Record, byteAt, valuesAt, recordAt, value}
 use Rattle.sheet.specs.Sheet.{Declared, Method}
-use Rattle.sheet.specs.Reading.{isLeaf, isPrimitive, hasTwoOutcomes}
+use Rattle.sheet.specs.Reading.{inCondition, isLeaf, isPrimitive, hasTwoOutcomes}
 use Rattle.sheet.specs.Decode.{pointOf, declaredFrom, methodOf, stepOf}
 use Rattle.sheet.specs.AtOffset.{pointAt, declaredAt, methodAs, methodAt, stepAs, stepAt, pairAt, Symbol, leaf-symbol, empty-symbol, join-symbol, either-symbol, star-symbol, shortAt, setAt, symbolsByKind, symbolAt, postfix}
 use Rattle.sheet.proofs.Fields.{event-value, set-value-alone, shortsThen, names-then, names-alone, pair-values}
@@ -59,6 +60,7 @@ abbrev pub Fits : List ℕ → ℕ → Record → ℕ → Role → Type 0
 Fits s at x section (symbol takes make) = (section ≡ 1) × IsSymbol s at x takes make
 Fits s at x section a-pair = (section ≡ 5) × (byteAt s at ≡ 13) × (pair (value x 0) (value x 1) ≡ pairAt s at)
 Fits s at x section counts = Counts s at x section
+Fits s at x section edition = section ≡ 1
 
 -- Row by row ----------------------------------------------------------------------------------------------------------------
 
@@ -173,9 +175,21 @@ module _ (s : List ℕ) (at : ℕ) where
       and (λ e. method-is 15 e ∙ ap (λ (vs : List ℕ). methodOf (with 15 vs)) (sym (names-alone s at (1 ∷ 1 ∷ 1 ∷ 1 ∷ 1 ∷ []))))
       and (λ e. method-is 16 e ∙ ap (λ (vs : List ℕ). methodOf (with 16 vs)) (sym (names-alone s at (1 ∷ 1 ∷ 1 ∷ 2 ∷ 2 ∷ 1 ∷ 1 ∷ 2 ∷ []))))
       and (λ e. step-is 17 refl e ∙ ap (λ (vs : List ℕ). stepOf (with 17 vs)) (sym (names-alone s at (2 ∷ 2 ∷ 2 ∷ 3 ∷ []))))
+      and (λ e. refl)
+      and (λ e. step-is 19 refl e ∙ ap (λ (vs : List ℕ). stepOf (with 19 vs)) (sym (names-alone s at (2 ∷ []))))
       and (λ i e. tt))
 
   -- the record at an offset fits there
   pub fits : Fits s at (recordAt s at) (sectionOf (byteAt s at)) (kindOf (byteAt s at) .role)
   unfolding recordAt
   fits = fits-row (byteAt s at) refl
+
+  -- a record of a later section cannot stand in an open condition
+  pub not-inside : 1 < sectionOf (byteAt s at) → inCondition (sectionOf (byteAt s at)) (kindOf (byteAt s at) .role) ≡ false
+  not-inside later = go (kindOf (byteAt s at) .role) fits
+    where
+      go : (role : Role) → Fits s at (recordAt s at) (sectionOf (byteAt s at)) role → inCondition (sectionOf (byteAt s at)) role ≡ false
+      go (symbol takes make) (first, y) = absurd (omega arith)
+      go a-pair fit = refl
+      go counts fit = ne-eqb (sectionOf (byteAt s at)) 1 (λ (e : sectionOf (byteAt s at) ≡ 1). omega arith)
+      go edition fit = refl

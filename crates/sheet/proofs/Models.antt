@@ -1,7 +1,7 @@
 -- Two instruments, of which one takes no more bytes, points and kinds than the other and has as many events: it refuses with 1, 6 or 2 where it
 -- takes fewer, or reads what the other reads. So in whatever state reading starts.
 use mathlib.Core.Path.{_≡_, refl, sym, _∙_, subst}
-use mathlib.Core.Bool.{Bool, true, false, cond, _&&_, _||_}
+use mathlib.Core.Bool.{Bool, true, false, cond, _||_}
 use mathlib.Core.Logic.{_⊎_, inl, inr}
 use mathlib.Core.List.{List}
 use Prim.Native.Nat.{ℕ, zero, suc, _≤_, _<_}
@@ -11,10 +11,11 @@ use lib.ListN.{length}
 use lib.Dec.{T, eqb, ltb, leb}
 use borrow.Author.Tests.{leb-false, leb-true, lt-leb, ltb-false, ltb-true, le-ltb}
 use Rattle.sheet.specs.Model.{Model, NoLarger}
-use Rattle.sheet.specs.Kind.{conditions, Role, symbol, a-pair, counts, kindOf}
+use Rattle.sheet.specs.Kind.{Role, symbol, a-pair, counts, edition, kindOf}
 use Rattle.sheet.specs.Record.{Record, byteAt, recordAt, nextAt}
-use Rattle.sheet.specs.Reading.{Reading, tally, full, wrongItems, overLimit, _when_else_, refusalOf, pastAt, ReadResult, refusal, readOn, readFrom}
+use Rattle.sheet.specs.Reading.{Reading, tally, full, overLimit, _when_else_, refusalOf, pastAt, ReadResult, refusal, readOn, readFrom}
 use Rattle.sheet.proofs.Take.{or-false}
+use Rattle.sheet.proofs.Order.{is-3, is-4, is-19, is-20, is-5}
 
 -- what an instrument M reads, beside what M′ reads, which is no smaller: 1 where it takes fewer bytes, 6 where it takes fewer points, 2 at a record of a
 -- kind that M′ alone takes, or the same
@@ -45,6 +46,7 @@ module _ (I I′ : Model) where
   within-limit l r x section (symbol takes make) h = h
   within-limit l r x section a-pair h = h
   within-limit l r x section counts h = room-left l section (tally r section) h
+  within-limit l r x section edition h = h
 
   more-room : (section n : ℕ) → full I section n ≡ true → full I′ section n ≡ false → I .points < I′ .points
   more-room zero n h h′ = absurd (subst T (sym h) tt)
@@ -59,6 +61,7 @@ module _ (I I′ : Model) where
   fewer-points r x section (symbol takes make) h h′ = absurd (subst T (sym h ∙ h′) tt)
   fewer-points r x section a-pair h h′ = absurd (subst T (sym h) tt)
   fewer-points r x section counts h h′ = more-room section (tally r section) h h′
+  fewer-points r x section edition h h′ = absurd (subst T (sym h) tt)
 
 module _ (M M′ : Model) (N : NoLarger M M′) (s : List ℕ) where
   module _ (at : ℕ) (r : Reading) where
@@ -95,28 +98,34 @@ module _ (M M′ : Model) (N : NoLarger M M′) (s : List ℕ) where
     abbrev M″ : Model
     M″ = with (M .events)
 
-    -- 2 and 6 in their places among the others
-    by-tests : (b2 b2′ b3 b4 b5 b6 b6′ : Bool) (n : ℕ) → is2For M ≡ b2 → is2For M′ ≡ b2′ → is6For M ≡ b6 → is6For M″ ≡ b6′
-        → Beside (2 when b2 else 3 when b3 else 4 when b4 else 5 when b5 else 6 when b6 else n)
-        (2 when b2′ else 3 when b3 else 4 when b4 else 5 when b5 else 6 when b6′ else n)
-    by-tests true true b3 b4 b5 b6 b6′ n h h′ l l′ = same
-    by-tests true false b3 b4 b5 b6 b6′ n h h′ l l′ = let (above, taken) = new-kind h h′ in two above taken
-    by-tests false true b3 b4 b5 b6 b6′ n h h′ l l′ = absurd (subst T (sym h′ ∙ old-kind h) tt)
-    by-tests false false true b4 b5 b6 b6′ n h h′ l l′ = same
-    by-tests false false false true b5 b6 b6′ n h h′ l l′ = same
-    by-tests false false false false true b6 b6′ n h h′ l l′ = same
-    by-tests false false false false false true true n h h′ l l′ = same
-    by-tests false false false false false true false n h h′ l l′ = six (fewer-points M M″ r (recordAt s at) (kindOf b .section) (kindOf b .role) l l′)
-    by-tests false false false false false false true n h h′ l l′ =
-        absurd (subst T (sym l′ ∙ within-limit M M″ (N .points) r (recordAt s at) (kindOf b .section) (kindOf b .role) l) tt)
-    by-tests false false false false false false false n h h′ l l′ = same
+    -- 2, another refusal, and 6, each with what follows
+    by-2 : (b2 b2′ : Bool) {n n′ : ℕ} → is2For M ≡ b2 → is2For M′ ≡ b2′ → Beside n n′ → Beside (2 when b2 else n) (2 when b2′ else n′)
+    by-2 true true h h′ more = same
+    by-2 true false h h′ more = let (above, taken) = new-kind h h′ in two above taken
+    by-2 false true h h′ more = absurd (subst T (sym h′ ∙ old-kind h) tt)
+    by-2 false false h h′ more = more
+
+    alike : (m : ℕ) (b : Bool) {n n′ : ℕ} → Beside n n′ → Beside (m when b else n) (m when b else n′)
+    alike m true more = same
+    alike m false more = more
+
+    by-6 : (b6 b6′ : Bool) (n : ℕ) → is6For M ≡ b6 → is6For M″ ≡ b6′ → Beside (6 when b6 else n) (6 when b6′ else n)
+    by-6 true true n h h′ = same
+    by-6 true false n h h′ = six (fewer-points M M″ r (recordAt s at) (kindOf b .section) (kindOf b .role) h h′)
+    by-6 false true n h h′ =
+        absurd (subst T (sym h′ ∙ within-limit M M″ (N .points) r (recordAt s at) (kindOf b .section) (kindOf b .role) h) tt)
+    by-6 false false n h h′ = same
 
     numbers : Beside (refusalOf M s at r) (refusalOf M′ s at r)
     numbers =
         subst (λ (events : ℕ). Beside (refusalOf M s at r) (refusalOf (with events) s at r)) (N .events)
-        (by-tests (is2For M) (is2For M′) (ltb (length s) (nextAt s at))
-        (ltb (kindOf b .section) (r .section) || (eqb (r .opened .section) conditions && ltb conditions (kindOf b .section)))
-        (wrongItems (kindOf b .section) (kindOf b .role) (length (r .opened .items))) (is6For M) (is6For M″) _ refl refl refl refl)
+        (by-2 (is2For M) (is2For M′) refl refl
+        (alike 3 (is-3 M s at r)
+        (alike 4 (is-4 M s at r)
+        (alike 19 (is-19 M s at r)
+        (alike 20 (is-20 M s at r)
+        (alike 5 (is-5 M s at r)
+        (by-6 (is6For M) (is6For M″) _ refl refl)))))))
 
   -- All records -------------------------------------------------------------------------------------------------------------
 

@@ -13,7 +13,7 @@ use Rattle.sheet.specs.Each.{Each}
 use Rattle.sheet.specs.Sheet.{Outcome, normal, failed, Method, Sheet, declaredFor}
 use Rattle.sheet.specs.Kind.{Field, a-set, Kind, a-kind, counts, kinds, kindOf, width}
 use Rattle.sheet.specs.Record.{Record, byteAt, valuesAt, recordAt, value}
-use Rattle.sheet.specs.Reading.{Counted, Reading, tally, exists, allExist, item, whole, readSheet}
+use Rattle.sheet.specs.Reading.{Counted, Reading, tally, isNew, exists, allExist, item, whole, readSheet}
 use Rattle.sheet.specs.Decode.{pointOf, methodOf, stepOf, sheetRead, sheetOf}
 use Rattle.sheet.specs.Names.{PointNamed, DeclaredNamed, MethodNamed, StepNamed, NamesExist, EventBelow}
 use Rattle.sheet.proofs.Each.{each-map, each-zip, each-mapped}
@@ -78,6 +78,8 @@ module _ (events : ℕ) (counted : ℕ → ℕ) where
       and failing-primitive-row
       and failing-method-row
       and failing-call-row
+      and (λ at vs n. tt)
+      and stop-row
       and (λ i at vs n. tt))
     where
       point-row : Row 7 (kindOf 7)
@@ -139,6 +141,9 @@ module _ (events : ℕ) (counted : ℕ → ℕ) where
         tt,
       )
 
+      stop-row : Row 19 (kindOf 19)
+      stop-row at vs n = (ltb→lt _ _ (n 0 (omega arith)), tt)
+
 -- Of the sheet --------------------------------------------------------------------------------------------------------------
 
 module _ (M : Model) (s : List ℕ) (r : Reading) (h : readSheet M s ≡ whole r) where
@@ -156,7 +161,7 @@ module _ (M : Model) (s : List ℕ) (r : Reading) (h : readSheet M s ≡ whole r
           subst (λ (counted : ℕ → ℕ). NamedIn (M .events) counted k (c .last)) (λ i j. own-tally M s r h j i)
           (subst (λ (j : ℕ). NamedIn (M .events) (tally r) j (c .last)) (x .section) here)
 
-  names-read : NamesExist (sheetRead (r .own))
+  names-read : NamesExist (sheetRead (isNew s) (r .own))
   names-read =
       let conditions = length-map (r .own 1) (λ (c : Counted). item (c .opened) 0) in
       let points = length-map (r .own 2) (λ (c : Counted). pointOf (c .last)) in

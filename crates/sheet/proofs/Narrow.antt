@@ -10,7 +10,7 @@ use Rattle.condition.proofs.Narrow.{EventsBelow}
 use Rattle.sheet.specs.Model.{Model}
 use Rattle.sheet.specs.Each.{Each, nil, cons}
 use Rattle.sheet.specs.Sheet.{Sheet, condition}
-use Rattle.sheet.specs.Kind.{Role, symbol, a-pair, counts, Kind, a-kind, kinds, kindOf, sectionOf}
+use Rattle.sheet.specs.Kind.{Role, symbol, a-pair, counts, edition, Kind, a-kind, kinds, kindOf, sectionOf}
 use Rattle.sheet.specs.Record.{Bytes, Record, byteAt, recordAt, value}
 use Rattle.sheet.specs.Reading.{Opened, Counted, Reading, item, openedPast, pastAt, ReadResult, whole, refusal, readSheet}
 use Rattle.sheet.specs.Decode.{sheetIn, sheetOf}
@@ -30,6 +30,7 @@ module _ (n : ℕ) where
   MakesBelow (symbol takes make) = (set : ℕ) (a b : Condition) → set < 2 ^ n → EventsBelow n a → EventsBelow n b → EventsBelow n (make set a b)
   MakesBelow a-pair = Unit {0}
   MakesBelow counts = Unit {0}
+  MakesBelow edition = Unit {0}
 
   makes-below : (k : ℕ) → MakesBelow (kindOf k .role)
   makes-below =
@@ -40,7 +41,7 @@ module _ (n : ℕ) where
       and (λ set a b h ha hb. (ha, hb))
       and (λ set a b h ha hb. (ha, hb))
       and (λ set a b h ha hb. hb)
-      and tt and tt and tt and tt and tt and tt and tt and tt and tt and tt and tt and tt and (λ i. tt))
+      and tt and tt and tt and tt and tt and tt and tt and tt and tt and tt and tt and tt and tt and tt and (λ i. tt))
 
   item-below : (items : List Condition) → AllBelow items → (i : ℕ) → EventsBelow n (getD items i noWord)
   item-below items h i = each-getD (λ c. EventsBelow n c) h noWord (pow-pos n) i
@@ -56,6 +57,7 @@ module _ (n : ℕ) where
       cons (makes (value x 0) (item o 1) (item o 0) few (item-below (o .items) h 1) (item-below (o .items) h 0)) (drop-below takes (o .items) h)
   past-below o x section a-pair makes few h = nil
   past-below o x section counts makes few h = nil
+  past-below o x section edition makes few h = nil
 
 module _ (M : Model) (s : List ℕ) (wide : 32 ≤ M .events) (bytes : Bytes s) where
   kept : (at : ℕ) (r : Reading) → Took M s at r → AllBelow (M .events) (r .opened .items) → AllBelow (M .events) (pastAt s at r .opened .items)
@@ -64,7 +66,7 @@ module _ (M : Model) (s : List ℕ) (wide : 32 ≤ M .events) (bytes : Bytes s) 
       past-below (M .events) (r .opened) (recordAt s at) (sectionOf (byteAt s at)) (kindOf (byteAt s at) .role) (makes-below (M .events) (byteAt s at))
       (lt-of-lt-of-le (value-lt s bytes (kindOf (byteAt s at) .fields) (at + 1) 0) (pow-mono wide)) h
 
-  in-result : (x : ReadResult) → readSheet M s ≡ x → (c : ℕ) → EventsBelow (M .events) (condition (sheetIn x) c)
+  in-result : (x : ReadResult) → readSheet M s ≡ x → (c : ℕ) → EventsBelow (M .events) (condition (sheetIn s x) c)
   in-result (whole r) h c =
       let each = each-own M s (λ at (r : Reading). AllBelow (M .events) (r .opened .items)) (λ k (c : Counted). EventsBelow (M .events) (item (c .opened) 0))
       kept (λ at r w below e. item-below (M .events) (r .opened .items) below 0) r h nil 1 in

@@ -1,6 +1,6 @@
 -- "at one record the table's order holds": the refusal of a record, by the first test that it does not pass.
 use mathlib.Core.Path.{_≡_}
-use mathlib.Core.Bool.{Bool, true, false, _&&_, _||_}
+use mathlib.Core.Bool.{Bool, true, false, not, _&&_, _||_}
 use mathlib.Core.List.{List}
 use Prim.Native.Nat.{ℕ}
 use lib.ListN.{length}
@@ -8,7 +8,7 @@ use lib.Dec.{eqb, ltb}
 use Rattle.sheet.specs.Model.{Model}
 use Rattle.sheet.specs.Kind.{Kind, kindOf}
 use Rattle.sheet.specs.Record.{Record, byteAt, recordAt, nextAt}
-use Rattle.sheet.specs.Reading.{Reading, tally, wrongItems, overLimit, allExist, isPrimitive, wrongOutcomes, refusalOf}
+use Rattle.sheet.specs.Reading.{Reading, tally, inCondition, isNew, wrongItems, overLimit, allExist, isPrimitive, wrongOutcomes, refusalOf}
 
 module _ (M : Model) (s : List ℕ) (at : ℕ) (r : Reading) where
   abbrev x : Record
@@ -25,7 +25,13 @@ module _ (M : Model) (s : List ℕ) (at : ℕ) (r : Reading) where
   is-3 = ltb (length s) (nextAt s at)
 
   abbrev pub is-4 : Bool
-  is-4 = ltb (k .section) (r .section) || (eqb (r .opened .section) 1 && ltb 1 (k .section))
+  is-4 = ltb (k .section) (r .section) || (eqb (r .opened .section) 1 && not (inCondition (k .section) (k .role)))
+
+  abbrev pub is-19 : Bool
+  is-19 = eqb (byteAt s at) 18 && ltb 0 at
+
+  abbrev pub is-20 : Bool
+  is-20 = eqb (byteAt s at) 19 && not (isNew s)
 
   abbrev pub is-5 : Bool
   is-5 = wrongItems (k .section) (k .role) (length (r .opened .items))
@@ -54,24 +60,32 @@ module _ (M : Model) (s : List ℕ) (at : ℕ) (r : Reading) where
       four e4 = rw (e2, e3, e4)
 
       module _ (e4 : is-4 ≡ false) where
-        pub five : is-5 ≡ true → refusalOf M s at r ≡ 5
-        five e5 = rw (e2, e3, e4, e5)
+        pub nineteen : is-19 ≡ true → refusalOf M s at r ≡ 19
+        nineteen e19 = rw (e2, e3, e4, e19)
 
-        module _ (e5 : is-5 ≡ false) where
-          pub six : is-6 ≡ true → refusalOf M s at r ≡ 6
-          six e6 = rw (e2, e3, e4, e5, e6)
+        module _ (e19 : is-19 ≡ false) where
+          pub twenty : is-20 ≡ true → refusalOf M s at r ≡ 20
+          twenty e20 = rw (e2, e3, e4, e19, e20)
 
-          module _ (e6 : is-6 ≡ false) where
-            pub seven : all-named ≡ false → refusalOf M s at r ≡ 7
-            seven e7 = rw (e2, e3, e4, e5, e6, e7)
+          module _ (e20 : is-20 ≡ false) where
+            pub five : is-5 ≡ true → refusalOf M s at r ≡ 5
+            five e5 = rw (e2, e3, e4, e19, e20, e5)
 
-            module _ (e7 : all-named ≡ true) where
-              pub nine : is-9 ≡ true → refusalOf M s at r ≡ 9
-              nine e9 = rw (e2, e3, e4, e5, e6, e7, e9)
+            module _ (e5 : is-5 ≡ false) where
+              pub six : is-6 ≡ true → refusalOf M s at r ≡ 6
+              six e6 = rw (e2, e3, e4, e19, e20, e5, e6)
 
-              module _ (e9 : is-9 ≡ false) where
-                pub eighteen : is-18 ≡ true → refusalOf M s at r ≡ 18
-                eighteen e18 = rw (e2, e3, e4, e5, e6, e7, e9, e18)
+              module _ (e6 : is-6 ≡ false) where
+                pub seven : all-named ≡ false → refusalOf M s at r ≡ 7
+                seven e7 = rw (e2, e3, e4, e19, e20, e5, e6, e7)
 
-                pub takes : is-18 ≡ false → refusalOf M s at r ≡ 0
-                takes e18 = rw (e2, e3, e4, e5, e6, e7, e9, e18)
+                module _ (e7 : all-named ≡ true) where
+                  pub nine : is-9 ≡ true → refusalOf M s at r ≡ 9
+                  nine e9 = rw (e2, e3, e4, e19, e20, e5, e6, e7, e9)
+
+                  module _ (e9 : is-9 ≡ false) where
+                    pub eighteen : is-18 ≡ true → refusalOf M s at r ≡ 18
+                    eighteen e18 = rw (e2, e3, e4, e19, e20, e5, e6, e7, e9, e18)
+
+                    pub takes : is-18 ≡ false → refusalOf M s at r ≡ 0
+                    takes e18 = rw (e2, e3, e4, e19, e20, e5, e6, e7, e9, e18)

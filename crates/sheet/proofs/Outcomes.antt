@@ -1,27 +1,28 @@
 -- Outcomes fit in a sheet that is read whole: a method with body has a failed exit exactly if it has two outcomes, and a call has a failed target exactly
 -- if the method that it names has two outcomes, which is what 18 leaves. And the kinds of methods, by the offsets where they start.
 use mathlib.Core.Path.{_≡_, refl, sym, ap, _∙_, subst}
-use mathlib.Core.Bool.{Bool, true, false, cond, _&&_, _||_}
+use mathlib.Core.Bool.{Bool, true, false, not, cond, _&&_, _||_}
 use mathlib.Core.Option.{none, some}
 use mathlib.Core.List.{List, [], _∷_, _++_, map, append-assoc}
 use Prim.Native.Nat.{ℕ, zero, suc, _+_, _<_}
 use native.Mathlib.Nat.{le-of-suc-le-suc, not-suc-le-zero}
 use native.Mathlib.Omega.{arith}
 use lib.ListN.{length, getD, getElem?}
-use lib.Dec.{T, eqb, ltb, ltb→lt}
+use lib.Dec.{T, eqb, ltb→lt}
 use borrow.Author.Tests.{eqb-true, not-false}
 use Rattle.sheet.specs.Model.{Model}
 use Rattle.sheet.specs.Each.{Each, nil, cons}
-use Rattle.sheet.specs.Sheet.{failed, Declared, Body, Method, event-step, callFrom, failingCallFrom, pass-step, declaredIn}
+use Rattle.sheet.specs.Sheet.{failed, Declared, Body, Method, event-step, callFrom, failingCallFrom, pass-step, stop-step, declaredIn}
 use Rattle.sheet.specs.Kind.{methods, kindOf, sectionOf}
 use Rattle.sheet.specs.Record.{Record, byteAt, recordAt, nextAt, value}
-use Rattle.sheet.specs.Reading.{Counted, Reading, fresh, tally, startOf, startsOf, isPrimitive, hasTwoOutcomes, allExist, methodRecord, twoOutcomesIn, wrongOutcomes, pastAt, whole, readSheet}
+use Rattle.sheet.specs.Reading.{Counted, Reading, fresh, tally, startOf, startsOf, isNew, isPrimitive, hasTwoOutcomes, allExist, methodRecord, twoOutcomesIn, wrongOutcomes, pastAt, whole, readSheet}
 use Rattle.sheet.specs.Decode.{methodOf, stepOf, sheetRead, sheetOf}
 use Rattle.sheet.specs.Names.{isSome, ExitsFit, TargetsFit, OutcomesFit}
 use Rattle.sheet.proofs.Each.{each-map, each-all, each-append, each-mapped}
 use Rattle.sheet.proofs.Take.{or-false, Took}
 use Rattle.sheet.proofs.ReadOn.{read-keeps}
 use Rattle.sheet.proofs.Own.{counted, own-cases}
+use Rattle.sheet.proofs.Kind.{not-inside}
 use Rattle.sheet.proofs.Standing.{closed, OpenIn, still-open, alone}
 use Rattle.sheet.proofs.SheetOf.{sheet-is}
 use Rattle.sheet.proofs.Named.{FieldsExist, at-exists}
@@ -119,18 +120,20 @@ exit-fits x = go (isPrimitive x) (hasTwoOutcomes x) _
     go false true d = refl
     go false false d = refl
 
-target-fits : (own : ℕ → List Counted) (x : Record) → CallFits (own 3) x → TargetsFit (sheetRead own) (stepOf x)
-target-fits own x h = go (eqb (x .kind) 10) (eqb (x .kind) 11) (eqb (x .kind) 17) (h .of-11) (h .of-17)
+target-fits : (new : Bool) (own : ℕ → List Counted) (x : Record) → CallFits (own 3) x → TargetsFit (sheetRead new own) (stepOf x)
+target-fits new own x h = go (eqb (x .kind) 10) (eqb (x .kind) 11) (eqb (x .kind) 17) (eqb (x .kind) 19) (h .of-11) (h .of-17)
   where
-    go : (b10 b11 b17 : Bool) → (b11 ≡ true → Calls false (own 3) (value x 2)) → (b17 ≡ true → Calls true (own 3) (value x 3))
-        → TargetsFit (sheetRead own)
+    go : (b10 b11 b17 b19 : Bool) → (b11 ≡ true → Calls false (own 3) (value x 2)) → (b17 ≡ true → Calls true (own 3) (value x 3))
+        → TargetsFit (sheetRead new own)
         (cond b10 (event-step (value x 0) (value x 1) (value x 2))
         (cond b11 (callFrom (value x 0) (value x 1) (value x 2))
-        (cond b17 (failingCallFrom (value x 0) (value x 1) (value x 2) (value x 3)) (pass-step (value x 0) (value x 1)))))
-    go true b11 b17 n f = tt
-    go false true b17 n f = sym (fails-as (n refl))
-    go false false true n f = sym (fails-as (f refl))
-    go false false false n f = tt
+        (cond b17 (failingCallFrom (value x 0) (value x 1) (value x 2) (value x 3))
+        (cond b19 (stop-step (value x 0)) (pass-step (value x 0) (value x 1))))))
+    go true b11 b17 b19 n f = tt
+    go false true b17 b19 n f = sym (fails-as (n refl))
+    go false false true b19 n f = sym (fails-as (f refl))
+    go false false false true n f = tt
+    go false false false false n f = tt
 
 pub outcomes-fit : (M : Model) (s : List ℕ) (r : Reading) → readSheet M s ≡ whole r → OutcomesFit (sheetOf M s)
 outcomes-fit M s r h =
@@ -139,7 +142,7 @@ outcomes-fit M s r h =
     subst OutcomesFit (sym (sheet-is M s r h))
     (record {
       exits-fit = each-mapped (λ (x : Method). ExitsFit (x .failing) (x .body)) (λ (c : Counted). methodOf (c .last)) (each-all (λ (c : Counted). exit-fits (c .last)) {xs = r .own 3});
-      targets-fit = each-mapped (TargetsFit (sheetRead (r .own))) (λ (c : Counted). stepOf (c .last)) (each-map (λ (c : Counted). target-fits (r .own) (c .last)) alone);
+      targets-fit = each-mapped (TargetsFit (sheetRead (isNew s) (r .own))) (λ (c : Counted). stepOf (c .last)) (each-map (λ (c : Counted). target-fits (isNew s) (r .own) (c .last)) alone);
     })
 
 -- Kinds by offset ---------------------------------------------------------------------------------------------------------
@@ -200,7 +203,7 @@ module _ (M : Model) (s : List ℕ) where
   method-starts : (at : ℕ) (r : Reading) → Took M s at r → OpenIn s at r → 3 ≡ sectionOf (byteAt s at) → startOf (r .opened) at ≡ at
   method-starts at r w now-open e =
       alone s at (r .section) 1 (r .opened) (omega (arith, w .in-order)) (omega arith)
-      (subst (λ (k : ℕ). (eqb (r .opened .section) 1 && ltb 1 k) ≡ false) (sym e) (w .none-open)) now-open
+      (subst (λ (b : Bool). (eqb (r .opened .section) 1 && not b) ≡ false) (not-inside s at (omega arith)) (w .none-open)) now-open
 
   pub reached-open : {at : ℕ} {r : Reading} → Reached M s at r → OpenIn s at r
   reached-open at-start = closed

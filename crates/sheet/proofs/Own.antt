@@ -8,7 +8,7 @@ use borrow.Author.Tests.{eqb-true}
 use Rattle.sheet.specs.Each.{Each, nil, cons}
 use Rattle.sheet.proofs.Each.{each-append}
 use Rattle.sheet.specs.Model.{Model}
-use Rattle.sheet.specs.Kind.{Role, symbol, a-pair, counts, kindOf, sectionOf}
+use Rattle.sheet.specs.Kind.{Role, symbol, a-pair, counts, edition, kindOf, sectionOf}
 use Rattle.sheet.specs.Record.{byteAt, recordAt, nextAt}
 use Rattle.sheet.specs.Reading.{Counted, Reading, fresh, ownPast, pastAt, whole, readSheet}
 use Rattle.sheet.proofs.Take.{Took}
@@ -32,6 +32,7 @@ own-cases P s at r k same more = go (kindOf (byteAt s at) .role) more
         by-section : (b : Bool) → eqb k (sectionOf (byteAt s at)) ≡ b → P (cond b (r .own k ++ (counted s at r ∷ [])) (r .own k))
         by-section true e = more refl (eqb-true k (sectionOf (byteAt s at)) e)
         by-section false e = same
+    go edition more = same
 
 module _ (M : Model) (s : List ℕ) (Q : ℕ → Reading → Type 0) (P : ℕ → Counted → Type 0) where
   module _ (kept : (at : ℕ) (r : Reading) → Took M s at r → Q at r → Q (nextAt s at) (pastAt s at r))

@@ -1,21 +1,21 @@
 -- What was read is what stands in the bytes: each condition in postfix order at its offset, and each point, method, step and certificate is the
 -- one at its offset.
 use mathlib.Core.Path.{_≡_, refl, sym, ap, _∙_, subst}
-use mathlib.Core.Bool.{Bool, true, false, cond, _&&_, _||_}
+use mathlib.Core.Bool.{Bool, true, false, not, cond, _&&_, _||_}
 use mathlib.Core.Option.{none}
 use mathlib.Core.List.{List, [], _∷_, _++_}
 use Prim.Native.Nat.{ℕ, zero, suc, _+_, _≤_, _<_}
 use native.Mathlib.Omega.{arith}
 use lib.ListN.{length, getD, drop, length-append}
-use lib.Dec.{T, eqb, ltb, leb}
+use lib.Dec.{T, eqb, leb}
 use borrow.Author.Tests.{ltb-false, leb-false, eqb-true, not-false}
 use Rattle.condition.specs.Condition.{Condition, noWord}
 use Rattle.certificate.specs.Certificate.{Pair, Certificate}
 use Rattle.sheet.specs.Model.{Model, symbolLimit, leafLimit}
 use Rattle.sheet.specs.Each.{Each}
-use Rattle.sheet.specs.Kind.{Role, symbol, a-pair, counts, kindOf, sectionOf}
+use Rattle.sheet.specs.Kind.{Role, symbol, a-pair, counts, edition, kindOf, sectionOf}
 use Rattle.sheet.specs.Record.{Record, byteAt, recordAt, nextAt, value}
-use Rattle.sheet.specs.Reading.{Opened, nothing, Counted, Reading, startOf, wrongItems, isLeaf, overLimit, item, openedPast, pastAt, whole, readSheet}
+use Rattle.sheet.specs.Reading.{Opened, nothing, Counted, Reading, startOf, inCondition, wrongItems, isLeaf, overLimit, item, openedPast, pastAt, whole, readSheet}
 use Rattle.sheet.specs.Decode.{pointOf, methodOf, stepOf}
 use Rattle.sheet.specs.AtOffset.{pointAt, methodAt, stepAt, pairAt, symbolAt, InPostfix, certificateAt}
 use Rattle.sheet.proofs.Each.{each-map}
@@ -126,15 +126,15 @@ module _ (M : Model) (s : List ℕ) (at kind : ℕ) (values : List ℕ) (r : Rea
   abbrev Past : ℕ → Role → Type 0
   Past section role = Open s (nextAt s at) section (openedPast o x section role)
 
-  past-record : (section : ℕ) (role : Role) → Fits s at x section role → r .section ≤ section → (eqb (o .section) 1 && ltb 1 section) ≡ false
+  past-record : (section : ℕ) (role : Role) → Fits s at x section role → r .section ≤ section → (eqb (o .section) 1 && not (inCondition section role)) ≡ false
       → wrongItems section role (length (o .items)) ≡ false → overLimit M r x section role ≡ false → Past section role
   past-record section (symbol takes make) (first, y) order none-open items room =
       subst (λ (k : ℕ). Past k (symbol takes make)) (sym first)
       (in-condition (symbol-past takes make y (omega arith) (ltb-false (length (o .items)) takes items) room))
   past-record section a-pair (last, e, is) order none-open items room =
-      subst (λ (k : ℕ). Past k a-pair) (sym last)
-      (in-certificate (pair-past _ e is (subst (λ (k : ℕ). (eqb (o .section) 1 && ltb 1 k) ≡ false) last none-open)))
+      subst (λ (k : ℕ). Past k a-pair) (sym last) (in-certificate (pair-past _ e is none-open))
   past-record section counts fit order none-open items room = closed
+  past-record section edition fit order none-open items room = closed
 
   -- What counts at a record -----------------------------------------------------------------------------------------------
 
@@ -151,7 +151,7 @@ module _ (M : Model) (s : List ℕ) (at kind : ℕ) (values : List ℕ) (r : Rea
   abbrev here : Counted
   here = record { last = x; opened = o }
 
-  counts-here : (section : ℕ) → Counts s at x section → at < length s → r .section ≤ section → (eqb (o .section) 1 && ltb 1 section) ≡ false
+  counts-here : (section : ℕ) → Counts s at x section → at < length s → r .section ≤ section → (eqb (o .section) 1 && not (inCondition section counts)) ≡ false
       → wrongItems section counts (length (o .items)) ≡ false → ReadAt s section here
   counts-here zero fit inside order none-open items = tt
   counts-here (suc zero) fit inside order none-open items =
@@ -184,7 +184,7 @@ module _ (M : Model) (s : List ℕ) where
     unfolding recordAt
     counted e =
         counts-here M s at b _ r now-open (sectionOf b) (subst (Fits s at (recordAt s at) (sectionOf b)) e (fits s at)) (omega (arith, w .inside, next-lt s at))
-        (w .in-order) (w .none-open) (subst (λ (role : Role). wrongItems (sectionOf b) role (length (r .opened .items)) ≡ false) e (w .items))
+        (w .in-order) (subst (λ (role : Role). (eqb (r .opened .section) 1 && not (inCondition (sectionOf b) role)) ≡ false) e (w .none-open)) (subst (λ (role : Role). wrongItems (sectionOf b) role (length (r .opened .items)) ≡ false) e (w .items))
 
   -- each thing of a section is what stands at its offset
   pub read-at : (r : Reading) → readSheet M s ≡ whole r → (k : ℕ) → Each (ReadAt s k) (r .own k)

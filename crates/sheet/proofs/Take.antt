@@ -1,4 +1,4 @@
--- A record that is taken: none of the refusals 2 to 7, 9 and 18 applies to it.
+-- A record that is taken: none of the refusals 2 to 7, 9 and 18 to 20 applies to it.
 use mathlib.Core.Path.{_≡_, refl, sym, subst}
 use mathlib.Core.Bool.{Bool, true, false, not, _&&_, _||_}
 use mathlib.Core.List.{List}
@@ -10,7 +10,7 @@ use borrow.Author.Tests.{ltb-false, not-false}
 use Rattle.sheet.specs.Model.{Model}
 use Rattle.sheet.specs.Kind.{bodyLength, kindOf, sectionOf}
 use Rattle.sheet.specs.Record.{byteAt, valuesAt, recordAt, nextAt}
-use Rattle.sheet.specs.Reading.{Reading, tally, wrongItems, overLimit, isPrimitive, allExist, wrongOutcomes, _when_else_, refusalOf}
+use Rattle.sheet.specs.Reading.{Reading, tally, inCondition, isNew, wrongItems, overLimit, isPrimitive, allExist, wrongOutcomes, _when_else_, refusalOf}
 -- checked before the proofs
 use Rattle.sheet.proofs.Examples
 
@@ -47,7 +47,11 @@ pub record Took (M : Model) (s : List ℕ) (at : ℕ) (r : Reading) : Type 0 whe
   pub inside : nextAt s at ≤ length s
   -- not 4
   pub in-order : r .section ≤ sectionOf (byteAt s at)
-  pub none-open : (eqb (r .opened .section) 1 && ltb 1 (sectionOf (byteAt s at))) ≡ false
+  pub none-open : (eqb (r .opened .section) 1 && not (inCondition (sectionOf (byteAt s at)) (kindOf (byteAt s at) .role))) ≡ false
+  -- not 19
+  pub edition-first : (eqb (byteAt s at) 18 && ltb 0 at) ≡ false
+  -- not 20
+  pub stops-new : (eqb (byteAt s at) 19 && not (isNew s)) ≡ false
   -- not 5
   pub items : wrongItems (sectionOf (byteAt s at)) (kindOf (byteAt s at) .role) (length (r .opened .items)) ≡ false
   -- not 6
@@ -64,18 +68,22 @@ took M s at r e =
     let b = byteAt s at in
     let (two, e) = when-zero 1 (eqb b 0 || ltb (M .kinds) b) _ e in
     let (three, e) = when-zero 2 (ltb (length s) (nextAt s at)) _ e in
-    let (four, e) = when-zero 3 (ltb (sectionOf b) (r .section) || (eqb (r .opened .section) 1 && ltb 1 (sectionOf b))) _ e in
+    let (four, e) = when-zero 3 (ltb (sectionOf b) (r .section) || (eqb (r .opened .section) 1 && not (inCondition (sectionOf b) (kindOf b .role)))) _ e in
+    let (nineteen, e) = when-zero 18 (eqb b 18 && ltb 0 at) _ e in
+    let (twenty, e) = when-zero 19 (eqb b 19 && not (isNew s)) _ e in
     let (five, e) = when-zero 4 (wrongItems (sectionOf b) (kindOf b .role) (length (r .opened .items))) _ e in
     let (six, e) = when-zero 5 (overLimit M r (recordAt s at) (sectionOf b) (kindOf b .role)) _ e in
     let (seven, e) = when-zero 6 (not (allExist (M .events) (tally r) (kindOf b .fields) (recordAt s at .values))) _ e in
     let (nine, e) = when-zero 8 (isPrimitive (recordAt s at) && eqb (length (r .own 3)) 0) _ e in
     let (eighteen, e) = when-zero 17 (wrongOutcomes r (recordAt s at)) _ e in
-    let (order, condition) = or-false (ltb (sectionOf b) (r .section)) (eqb (r .opened .section) 1 && ltb 1 (sectionOf b)) four in
+    let (order, condition) = or-false (ltb (sectionOf b) (r .section)) (eqb (r .opened .section) 1 && not (inCondition (sectionOf b) (kindOf b .role))) four in
     record {
       known = two;
       inside = ltb-false (length s) (nextAt s at) three;
       in-order = ltb-false (sectionOf b) (r .section) order;
       none-open = condition;
+      edition-first = nineteen;
+      stops-new = twenty;
       items = five;
       room = six;
       names = subst T (sym (not-false (allExist (M .events) (tally r) (kindOf b .fields) (recordAt s at .values)) seven)) tt;

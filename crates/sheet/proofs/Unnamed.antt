@@ -14,7 +14,7 @@ use Rattle.sheet.proofs.Each.{each-head}
 
 -- one condition, and the point, the method and the step that are given; so each name that exists is 0
 abbrev sheet : Point → Method → Step → Sheet
-sheet p m t = record { conditions = empty ∷ []; points = p ∷ []; methods = m ∷ []; steps = t ∷ []; certificates = [] }
+sheet p m t = record { conditions = empty ∷ []; points = p ∷ []; methods = m ∷ []; steps = t ∷ []; certificates = []; new = true }
 
 abbrev point : ℕ → ℕ → ℕ → Point
 point past own due = record { past = past; own = own; due = due }
