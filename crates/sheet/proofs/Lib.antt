@@ -16,6 +16,7 @@ pub mod SheetOf
 pub mod Named
 pub mod First
 pub mod Outcomes
+pub mod Editions
 pub mod Narrow
 pub mod Located
 mod Unnamed

@@ -19,7 +19,7 @@ use Rattle.sheet.specs.Reading.{Counted, Reading, fresh, tally, startOf,
 use Rattle.sheet.specs.Decode.{methodOf, stepOf, sheetRead, sheetOf}
 use Rattle.sheet.specs.Names.{isSome, ExitsFit, TargetsFit, OutcomesFit}
 use Rattle.sheet.proofs.Each.{each-map, each-all, each-append, each-mapped}
-use Rattle.sheet.proofs.Take.{or-false, Took}
+use Rattle.sheet.proofs.Take.{or-false, and-false, Took}
 use Rattle.sheet.proofs.ReadOn.{read-keeps}
 use Rattle.sheet.proofs.Own.{counted, own-cases}
 use Rattle.sheet.proofs.Kind.{not-inside}
@@ -58,10 +58,6 @@ module _ {two : Bool} where
 record CallFits (cs : List Counted) (x : Record) : Type 0 where
   of-11 : eqb (x .kind) 11 ≡ true → Calls false cs (value x 2)
   of-17 : eqb (x .kind) 17 ≡ true → Calls true cs (value x 3)
-
-and-false : (a b : Bool) → (a && b) ≡ false → a ≡ true → b ≡ false
-and-false true b h e = h
-and-false false b h e = absurd (subst T (sym e) tt)
 
 -- the methods so far
 abbrev methodsIn : Reading → List Counted

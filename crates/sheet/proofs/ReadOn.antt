@@ -1,10 +1,11 @@
 -- Reading on from an offset: its laws, and what holds at the end of a whole reading.
 use mathlib.Core.Path.{_≡_, refl, sym, ap, _∙_, subst}
 use mathlib.Core.Bool.{Bool, true, false, cond}
+use mathlib.Core.Logic.{_⊎_, inl, inr}
 use mathlib.Core.List.{List}
 use Prim.Native.Nat.{ℕ, zero, suc, _≤_, _<_}
 use lib.ListN.{length}
-use lib.Dec.{eqb, eqb·suc-zero, ltb, leb}
+use lib.Dec.{T, eqb, eqb·suc-zero, ltb, leb}
 use borrow.Author.Tests.{lt-leb, le-leb}
 use Rattle.sheet.specs.Model.{Model}
 use Rattle.sheet.specs.Record.{nextAt}
@@ -85,3 +86,18 @@ module _ (M : Model) (s : List ℕ) (P : ℕ → Reading → Type 0)
   pub read-keeps : (r : Reading) → readSheet M s ≡ whole r → P 0 fresh → Finished P r
   unfolding readSheet
   read-keeps r h p = from-keeps fresh r h p
+
+-- a sheet that is read whole has a first record, and it is taken
+pub first-taken : (M : Model) (s : List ℕ) (r : Reading) → readSheet M s ≡ whole r → Took M s 0 fresh
+first-taken M s r h = let end = read-keeps M s Begun begun r h (inl (refl, refl)) in taken (end .holds) (end .some-method)
+  where
+    Begun : ℕ → Reading → Type 0
+    Begun at r = ((at ≡ 0) × (r ≡ fresh)) ⊎ Took M s 0 fresh
+
+    begun : (at : ℕ) (r : Reading) → Took M s at r → Begun at r → Begun (nextAt s at) (pastAt s at r)
+    begun at r w (inl (start, none)) = inr (subst (λ (r : Reading). Took M s 0 r) none (subst (λ (at : ℕ). Took M s at r) start w))
+    begun at r w (inr first) = inr first
+
+    taken : {end : ℕ} → Begun end r → eqb (length (r .own 3)) 0 ≡ false → Took M s 0 fresh
+    taken (inl (start, none)) some-method = absurd (subst T (sym (ap (λ (r : Reading). eqb (length (r .own 3)) 0) none) ∙ some-method) tt)
+    taken (inr first) some-method = first

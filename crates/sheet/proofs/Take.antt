@@ -18,6 +18,10 @@ pub or-false : (a b : Bool) → (a || b) ≡ false → (a ≡ false) × (b ≡ f
 or-false true b e = absurd (subst T e tt)
 or-false false b e = (refl, e)
 
+pub and-false : (a b : Bool) → (a && b) ≡ false → a ≡ true → b ≡ false
+and-false true b h e = h
+and-false false b h e = absurd (subst T (sym e) tt)
+
 abbrev IsZero : ℕ → Type 0
 IsZero zero = Unit {0}
 IsZero (suc n) = ⊥
