@@ -1,6 +1,7 @@
 -- Two activations that agree in method, step, history and callers. What a call that the first made still asks is owed in the first and in its
 -- caller, and not in the second, where it would not be met. The sheet is that of examples/activations.
 use mathlib.Core.Path.{_≡_, refl}
+use mathlib.Core.Bool.{false}
 use mathlib.Core.Option.{Option, none, some}
 use mathlib.Core.List.{List, [], _∷_, _++_, List·Memᴰ·head, List·Memᴰ·tail, List·Memᴰ·cases-cons, List·Memᴰ·not-nil}
 use mathlib.Core.Logic.{⊎-elim}
@@ -23,6 +24,7 @@ visits = record {
   methods = withBody 2 2 2 0 2 ∷ primitive 1 0 3 ∷ [];
   steps = callFrom 0 1 1 ∷ callFrom 1 1 0 ∷ pass-step 1 2 ∷ event-step 1 2 2 ∷ [];
   certificates = [];
+  new = false;
 }
 
 -- the primitive, method 0, the primitive again: now in the first of the two

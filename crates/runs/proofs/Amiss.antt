@@ -35,6 +35,7 @@ opening = record {
   methods = withBody 1 1 0 0 2 ∷ withBody 1 1 4 3 4 ∷ primitive 1 3 4 ∷ [];
   steps = callFrom 0 1 1 ∷ event-step 1 2 0 ∷ callFrom 3 4 2 ∷ callFrom 0 1 2 ∷ [];
   certificates = [];
+  new = false;
 }
 
 -- control is in the activation that made the call, and open is due
@@ -69,6 +70,7 @@ failing = record {
   methods = withBody 1 1 0 0 2 ∷ failingWithBody 1 1 2 3 4 1 4 4 ∷ failingPrimitive 1 3 2 3 4 ∷ [];
   steps = failingCallFrom 0 1 1 1 ∷ event-step 1 2 0 ∷ failingCallFrom 3 4 4 2 ∷ failingCallFrom 0 1 1 2 ∷ [];
   certificates = [];
+  new = false;
 }
 
 -- of the primitive, in the activation that made the call

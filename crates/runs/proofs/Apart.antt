@@ -15,7 +15,7 @@ use Rattle.sheet.proofs.Each.{each-map, each-zip, each-head, each-tail, each-ap
 use Rattle.sheet.specs.Sheet.{normal, CallStep, Sheet}
 use Rattle.runs.specs.Runs.{Call, Returned, State, calls, start, Move, return, callersNow, newCall, runOn, run}
 use Rattle.runs.specs.Owing.{callNumber, IsCaller, stateAfter, HowBegan, at-start, by-move, ToldApart}
-use Rattle.runs.proofs.Moves.{Makes, event-made, pass-made, primitive-made, open-made, return-made, move-case, run-append, run-on-keeps, run-keeps}
+use Rattle.runs.proofs.Moves.{Makes, event-made, pass-made, primitive-made, open-made, stop-made, return-made, move-case, run-append, run-on-keeps, run-keeps}
 use Rattle.runs.proofs.Numbers.{NumbersAt, not-below, numbers-below, made-numbers, start-numbers}
 
 -- Lists of calls --------------------------------------------------------------------------------------------------------
@@ -79,6 +79,7 @@ module _ (S : Sheet) where
   made-told s t (primitive-made {t = x} i o w found at is to h) n g =
       record { numbers = nodup-moved (newCall s i x) (s .open-calls) _ (new-nodup s i x n g); stacked = g .stacked }
   made-told s t (open-made {t = x} i found at is) n g = record { numbers = new-nodup s i x n g; stacked = upon (callers-are (g .stacked)) (g .stacked) }
+  made-told s t (stop-made i found marked) n g = g
   made-told s t (return-made {c = c} {cs = cs} o opened is at to) n g =
       let k : Told (c ∷ cs) (s .returned-calls) = subst (λ x. Told x (s .returned-calls)) opened g in
       record { numbers = nodup-moved c cs (returned s) (k .numbers); stacked = stacked-below (k .stacked) }
@@ -110,6 +111,7 @@ module _ (S : Sheet) where
   made-calls s t (primitive-made {t = x} i o w found at is to h) =
       each-moved (newCall s i x) (s .open-calls) (returned s) .0 (cons (new refl refl refl) (all-old s))
   made-calls s t (open-made i found at is) = cons (new refl refl refl) (all-old s)
+  made-calls s t (stop-made i found marked) = all-old s
   made-calls s t (return-made {c = c} {cs = cs} o opened is at to) =
       each-moved c cs (returned s) .0
       (subst (λ (xs : List Call). Each (OldOrNew s) (xs ++ returned s)) opened (all-old s))
@@ -120,6 +122,7 @@ module _ (S : Sheet) where
   made-stay s t (primitive-made {t = x} i o w found at is to h) =
       each-tail (each-moved (newCall s i x) (s .open-calls) (returned s) .1 (each-is-member _))
   made-stay s t (open-made i found at is) = each-tail (each-is-member _)
+  made-stay s t (stop-made i found marked) = each-is-member (calls s)
   made-stay s t (return-made {c = c} {cs = cs} o opened is at to) =
       subst (λ (xs : List Call). Each (λ d. List·Memᴰ d (calls t)) (xs ++ returned s)) (sym opened)
       (each-moved c cs (returned s) .1 (each-is-member _))

@@ -6,8 +6,8 @@ use mathlib.Core.Bool.{Bool, true, false, cond}
 use mathlib.Core.Option.{Option, none, some}
 use mathlib.Core.List.{List, [], _∷_, _++_}
 use lib.ListN.{length, length-append}
-use Rattle.sheet.specs.Sheet.{failed, Body, Method, CallStep, Step, event-step, call-step, pass-step, Sheet, future}
-use Rattle.runs.specs.Rules.{holdsEmpty, Rule, _of_says_, isAmong, ifAny, failedExitRules, methodRules, returnRules, stepRules, firstsRules, methodsRules, stepsRules, rulesFrom, rules, howMany, bodyCount, eventCount, callCount, passCount, failedExits, failedExitCount, failedCallCount, total, failingStarts, countFrom, count}
+use Rattle.sheet.specs.Sheet.{failed, Body, Method, CallStep, Step, event-step, call-step, pass-step, stop-step, Sheet, future}
+use Rattle.runs.specs.Rules.{holdsEmpty, Rule, _of_says_, isAmong, ifAny, failedExitRules, methodRules, returnRules, entryAsked, entryRules, stepRules, firstsRules, methodsRules, stepsRules, rulesFrom, rules, howMany, bodyCount, eventCount, callCount, passCount, failedExits, failedExitCount, failedCallCount, stopCount, entryCount, total, failingStarts, countFrom, count}
 
 -- one rule, or none
 length-if : (b : Bool) (x : Rule) → length (cond b (x ∷ []) []) ≡ cond b 1 0
@@ -49,13 +49,26 @@ module _ (S : Sheet) where
   of-failed-target i t none = refl
   of-failed-target i t (some q) = refl
 
-  of-step : (k : ℕ) (t : Step) → length (stepRules S k t) ≡ 3 * eventCount t + 5 * callCount t + 3 * passCount t + 4 * failedCallCount t
-  of-step k (event-step p q a) = refl
-  of-step k (call-step t) = omega (arith, of-failed-target k t (t .failed-to))
-  of-step k (pass-step p q) = refl
+  -- 26
+  of-entry : (i : ℕ) (t : CallStep) (e : Option ℕ) → length (ifAny e (entryRules S i t)) ≡ howMany e
+  of-entry i t none = refl
+  of-entry i t (some e) = refl
 
-  of-steps : (k : ℕ) (ts : List Step)
-      → length (stepsRules S k ts) ≡ 3 * total eventCount ts + 5 * total callCount ts + 3 * total passCount ts + 4 * total failedCallCount ts
+  of-step : (k : ℕ) (t : Step)
+      → length (stepRules S k t) ≡ 3 * eventCount t + 5 * callCount t + 3 * passCount t + 4 * failedCallCount t + stopCount t + entryCount S t
+  of-step k (event-step p q a) = refl
+  of-step k (call-step t) =
+      omega (
+        arith,
+        length-append (ifAny (t .failed-to) (returnRules S 18 k t failed)) (ifAny (entryAsked S (t .method)) (entryRules S k t)),
+        of-failed-target k t (t .failed-to),
+        of-entry k t (entryAsked S (t .method)),
+      )
+  of-step k (pass-step p q) = refl
+  of-step k (stop-step p) = refl
+
+  of-steps : (k : ℕ) (ts : List Step) → length (stepsRules S k ts)
+      ≡ 3 * total eventCount ts + 5 * total callCount ts + 3 * total passCount ts + 4 * total failedCallCount ts + total stopCount ts + total (entryCount S) ts
   unfolding stepsRules total
   of-steps k [] = refl
   of-steps k (t ∷ ts) = length-append (stepRules S k t) (stepsRules S (suc k) ts) ∙ omega (arith, of-step k t, of-steps (suc k) ts)
@@ -72,7 +85,7 @@ module _ (S : Sheet) where
         of-steps 0 (S .steps),
       )
 
-  -- "2 + 4b + 3e + 5c + 3p", and one for each of 18 to 24
+  -- "2 + 4b + 3e + 5c + 3p", and one for each of 18 to 26
   pub counted : length (rules S) ≡ count S
   unfolding rules count
   counted = counted-from (0 ∷ [])

@@ -27,6 +27,7 @@ sheet = record {
   methods = with-body 0 3 ∷ with-body 4 5 ∷ primitive 0 1 0 ∷ [];
   steps = event-step 0 1 2 ∷ callFrom 1 2 1 ∷ pass-step 2 3 ∷ callFrom 4 5 2 ∷ event-step 3 3 5 ∷ [];
   certificates = [];
+  new = false;
 }
 
 -- its calls
@@ -122,6 +123,7 @@ told = record {
   methods = withBody 6 7 8 0 1 ∷ primitive 9 10 11 ∷ [];
   steps = event-step 0 1 31 ∷ callFrom 0 1 1 ∷ pass-step 0 1 ∷ [];
   certificates = [];
+  new = false;
 }
 
 rule-claims : map (λ x. x .claim) (rules told)
@@ -139,7 +141,7 @@ rule-claims = refl
 
 -- one method, at whose one point it starts and ends; each condition is EMPTY
 abbrev M : Sheet
-M = record { conditions = empty ∷ []; points = anywhere ∷ []; methods = with-body 0 0 ∷ []; steps = []; certificates = [] }
+M = record { conditions = empty ∷ []; points = anywhere ∷ []; methods = with-body 0 0 ∷ []; steps = []; certificates = []; new = false }
 
 in-itself : empty ⊆ empty
 in-itself w h = h

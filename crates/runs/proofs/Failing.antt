@@ -19,7 +19,7 @@ use Rattle.runs.specs.Runs.{Call, Returned, State, start, Move, return, 
 use Rattle.runs.proofs.Methods.{primitive, withBody, failingPrimitive, failingWithBody}
 use Rattle.runs.proofs.Examples.{anywhere, of-0, _returned-at_, midway, Row, _leaves_, states}
 use Rattle.runs.proofs.Safe.{runs-are-safe}
-use Rattle.runs.proofs.Moves.{Makes, event-made, pass-made, primitive-made, open-made, return-made, run-keeps}
+use Rattle.runs.proofs.Moves.{Makes, event-made, pass-made, primitive-made, open-made, stop-made, return-made, run-keeps}
 
 -- Moves that fail ---------------------------------------------------------------------------------------------------------
 
@@ -47,6 +47,7 @@ failing = record {
   methods = failingWithBody 0 0 0 0 1 0 0 2 ∷ failingWithBody 0 0 0 3 4 0 0 5 ∷ failingPrimitive 0 1 0 2 0 ∷ [];
   steps = failingCallFrom 0 1 2 1 ∷ failingCallFrom 3 4 5 2 ∷ event-step 2 2 6 ∷ [];
   certificates = [];
+  new = false;
 }
 
 abbrev failed-calls : List Returned
@@ -107,6 +108,7 @@ undecided = record {
   methods = failingWithBody 0 0 0 0 0 0 0 0 ∷ failingWithBody 0 0 0 3 3 0 0 3 ∷ failingPrimitive 0 1 0 1 0 ∷ [];
   steps = failingCallFrom 0 1 2 1 ∷ failingCallFrom 0 1 2 2 ∷ [];
   certificates = [];
+  new = false;
 }
 
 -- the state after the move, or the two moves, with an outcome
@@ -144,6 +146,7 @@ unfit = record {
   methods = withBody 0 0 0 0 1 ∷ failingWithBody 0 0 0 2 3 0 0 3 ∷ withBody 0 0 0 2 3 ∷ failingPrimitive 0 1 0 2 0 ∷ primitive 0 1 0 ∷ [];
   steps = callFrom 0 1 1 ∷ failingCallFrom 0 1 1 2 ∷ callFrom 0 1 3 ∷ failingCallFrom 0 1 1 4 ∷ pass-step 2 3 ∷ [];
   certificates = [];
+  new = false;
 }
 
 abbrev without-target : List Row
@@ -203,6 +206,7 @@ module _ (S : Sheet) (m : ℕ) (undeclared : declaredIn failed (getElem? (S .met
   made-normal s t z (pass-made i found) g = g
   made-normal s t z (primitive-made {t = x} i o w found at is to h) g = cons (by-word (x .method) o w h) g
   made-normal s t z (open-made i found at is) g = g
+  made-normal s t z (stop-made i found marked) g = g
   made-normal s t z (return-made {c = c} o opened is at to) g = cons (by-exit (c .method) o (ap (exitIn o) is ∙ at)) g
 
   pub never-fails : (k : ℕ) (ms : List Move) → Each (λ r. r .call .method ≡ m → r .outcome ≡ normal) (run S k ms .returned-calls)
@@ -239,6 +243,7 @@ told = record {
   methods = failingWithBody 9 10 11 0 1 12 13 2 ∷ failingPrimitive 14 15 16 17 18 ∷ [];
   steps = failingCallFrom 0 1 2 1 ∷ [];
   certificates = [];
+  new = false;
 }
 
 pub rules-told : rules told
@@ -271,6 +276,7 @@ pub starts-told : map (λ x. x .number) (rulesFrom (1 ∷ 0 ∷ []) (record {
   methods = failingWithBody 0 0 0 0 1 0 0 2 ∷ failingWithBody 0 0 0 3 4 0 0 5 ∷ [];
   steps = [];
   certificates = [];
+  new = false;
 })) ≡ 1 ∷ 2 ∷ 1 ∷ 2 ∷ 3 ∷ 4 ∷ 5 ∷ 6 ∷ 22 ∷ 23 ∷ 24 ∷ 3 ∷ 4 ∷ 5 ∷ 6 ∷ 22 ∷ 23 ∷ 24 ∷ []
 unfolding rulesFrom
 starts-told = refl
@@ -303,6 +309,7 @@ gateWith failed-future = record {
   methods = withBody 0 4 0 0 2 ∷ failingPrimitive 0 1 2 0 failed-future ∷ [];
   steps = failingCallFrom 0 1 2 1 ∷ event-step 1 2 1 ∷ [];
   certificates = [];
+  new = false;
 }
 
 abbrev gate : Sheet

@@ -9,7 +9,7 @@ use Rattle.sheet.proofs.Each.{each-map, each-head, each-tail}
 use Rattle.sheet.specs.Sheet.{Outcome, Sheet}
 use Rattle.runs.specs.Runs.{Call, Returned, State, Extends, Grown, start, Move, newCall, run}
 use Rattle.runs.proofs.Adds.{Adds, adds-word, adds-more, adds-nothing}
-use Rattle.runs.proofs.Moves.{Makes, event-made, pass-made, primitive-made, open-made, return-made, run-keeps}
+use Rattle.runs.proofs.Moves.{Makes, event-made, pass-made, primitive-made, open-made, stop-made, return-made, run-keeps}
 
 -- h goes on from b
 abbrev Grows : Word → Word → Type 0
@@ -53,6 +53,7 @@ module _ (S : Sheet) where
       return-grows (newCall s i x) o (grows-more w (grows-self (s .history))) (raise-grows w g)
   made-grows s t z (open-made i found at is) g =
       record { opened = cons (grows-self (s .history)) (g .opened); raised = g .raised; returned = g .returned }
+  made-grows s t z (stop-made i found marked) g = g
   made-grows s t z (return-made {c = c} {cs = cs} o opened is at to) g =
       let k : EachGrows (s .history) (c ∷ cs) (s .returned-calls) = subst (λ x. EachGrows (s .history) x (s .returned-calls)) opened g in
       return-grows c o (each-head (k .opened)) record { opened = each-tail (k .opened); raised = k .raised; returned = k .returned }

@@ -4,13 +4,13 @@ use Prim.Native.Nat.{ℕ}
 use mathlib.Core.Bool.{true, false}
 use mathlib.Core.Option.{Option, none, some}
 use mathlib.Core.List.{List, [], _∷_, _++_}
-use Rattle.condition.specs.Condition.{Word, Holds}
+use Rattle.condition.specs.Condition.{Word, Condition, Holds}
 use Rattle.sheet.specs.Each.{Each}
 use Rattle.sheet.specs.Sheet.{Outcome, Step, Sheet, past, own, due, body, exitIn}
 use Rattle.runs.specs.Runs.{Call, Returned, State, preOf, traceOf, futureOf, fromOf, madeBy, targetOr}
 use Rattle.runs.proofs.Adds.{Adds}
 use Rattle.runs.proofs.Rules.{ReturnRules}
-use Rattle.runs.specs.Owing.{IsCaller}
+use Rattle.runs.specs.Owing.{IsCaller, InCaller}
 
 module _ (S : Sheet) where
   -- The open calls -------------------------------------------------------------------------------------------------------
@@ -40,12 +40,17 @@ module _ (S : Sheet) where
   abbrev pub EndsWell : Call → Type 0
   EndsWell c = (o : Outcome) (e : ℕ) → exitIn o (body S (c .method)) ≡ some e → Holds (futureOf S c o) []
 
+  -- a word that, followed by any word of the due at p, is in the condition c
+  abbrev pub WithDue : Condition → ℕ → Word → Type 0
+  WithDue c p u = (v : Word) → Holds (due S p) v → Holds c (u ++ v)
+
   -- Control is at p after h. The outermost call may end. Each other call was made by a step with its rules, and its caller stands where that step
-  -- starts, after the history at the call's beginning.
+  -- starts, after the history at the call's beginning; in the new edition, what the call raised since, followed by any word of the due at p, is in
+  -- the due there.
   pub data Frames : ℕ → Word → List Call → Type 0 where
     outermost : {p : ℕ} {h : Word} {c : Call} → Stands p h c → EndsWell c → Frames p h (c ∷ [])
     inner : {p : ℕ} {h : Word} {c : Call} {cs : List Call} → Stands p h c → ReturnsWell c (madeBy S (c .step))
-        → Frames (origin c) (c .began) cs → Frames p h (c ∷ cs)
+        → (S .new ≡ true → Adds (c .began) h (WithDue (due S (origin c)) p)) → Frames (origin c) (c .began) cs → Frames p h (c ∷ cs)
 
   -- The returned calls ---------------------------------------------------------------------------------------------------
 
@@ -55,7 +60,7 @@ module _ (S : Sheet) where
 
   -- what was raised since r's return, followed by any word of the due at p, is in the future of r's outcome
   abbrev pub Due : Returned → ℕ → Word → Type 0
-  Due r p h = Adds (r .at) h (λ u. (v : Word) → Holds (due S p) v → Holds (futureOf S (r .call) (r .outcome)) (u ++ v))
+  Due r p h = Adds (r .at) h (WithDue (futureOf S (r .call) (r .outcome)) p)
 
   -- it is so where the active call stands, or where one below it stands; the calls above that one began after r's return, and are not r's callers
   pub data Owed (r : Returned) : ℕ → Word → List Call → Type 0 where
@@ -73,11 +78,13 @@ module _ (S : Sheet) where
     pub owed : Each (λ r. Owed r p h cs) rs
     pub well : Each Well rs
 
-  pub record Over (h : Word) (cs : List Call) (rs : List Returned) : Type 0 where
-    pub none-open : cs ≡ []
+  -- the outermost call has returned, or the run stopped at p: every future is met, also those that the calls that are still open owe
+  pub record Over (p : ℕ) (h : Word) (cs : List Call) (rs : List Returned) : Type 0 where
+    pub begun : Each Begun cs
+    pub owing : Each (λ r. InCaller cs (r .call) → Due r p h) rs
     pub met : Each (Ended h) rs
     pub well : Each Well rs
 
   pub data Good (s : State) : Type 0 where
     running : s .ended ≡ false → Running (s .point) (s .history) (s .open-calls) (s .returned-calls) → Good s
-    over : s .ended ≡ true → Over (s .history) (s .open-calls) (s .returned-calls) → Good s
+    over : s .ended ≡ true → Over (s .point) (s .history) (s .open-calls) (s .returned-calls) → Good s

@@ -1,22 +1,22 @@
 -- Each move keeps the invariant of runs, where the sheet's rules are true.
 use mathlib.Core.Path.{_≡_, refl, sym, ap, _∙_, subst}
 use Prim.Native.Nat.{ℕ}
-use mathlib.Core.Bool.{false, false≢true}
+use mathlib.Core.Bool.{true, false, false≢true}
 use mathlib.Core.Option.{Option, none, some}
 use mathlib.Core.List.{List, [], _∷_, _++_, append-assoc, append-nil}
 use lib.ListN.{getElem?}
-use Rattle.condition.specs.Condition.{Word, Holds}
+use Rattle.condition.specs.Condition.{Word, Condition, Holds}
 use Rattle.sheet.specs.Each.{Each, nil, cons}
-use Rattle.sheet.proofs.Each.{each-map, each-zip}
-use Rattle.sheet.specs.Sheet.{Outcome, Body, CallStep, call-step, Sheet, past, body, exitIn, targetFor}
-use Rattle.runs.specs.Runs.{Call, Returned, State, preOf, traceOf, futureOf, entryOf, start, Move, raise, newCall, openCall, returnedNow, madeBy, targetOr, noneOpen, close, run}
-use Rattle.runs.specs.Owing.{IsCaller}
+use Rattle.sheet.proofs.Each.{each-map, each-zip, each-all}
+use Rattle.sheet.specs.Sheet.{Outcome, Body, CallStep, call-step, Sheet, past, due, body, exitIn, targetFor}
+use Rattle.runs.specs.Runs.{Call, Returned, State, preOf, traceOf, futureOf, entryOf, start, Move, raise, newCall, openCall, returnedNow, stop, madeBy, targetOr, noneOpen, close, run}
+use Rattle.runs.specs.Owing.{IsCaller, InCaller}
 use Rattle.sheet.specs.Names.{HasBody}
 use Rattle.runs.proofs.Rules.{ExitRules, BodyRules, Leads, ReturnRules, CallRules, MethodRules, StepRules, SheetRules}
-use Rattle.runs.proofs.Adds.{adds-more, adds-weaker, adds-nothing}
-use Rattle.runs.proofs.Moves.{Makes, event-made, pass-made, primitive-made, open-made, return-made, run-keeps}
+use Rattle.runs.proofs.Adds.{Adds, adds-more, adds-weaker, adds-nothing}
+use Rattle.runs.proofs.Moves.{Makes, event-made, pass-made, primitive-made, open-made, stop-made, return-made, run-keeps}
 use Rattle.runs.proofs.Numbers.{NumbersAt, next-is-new, made-numbers, start-numbers}
-use Rattle.runs.proofs.Invariant.{Begun, Stands, source, origin, ReturnsWell, Frames, outermost, inner, Well, Due, Ended, Owed, here, below, Running, Good, running, over}
+use Rattle.runs.proofs.Invariant.{Begun, Stands, source, origin, ReturnsWell, WithDue, Frames, outermost, inner, Well, Due, Ended, Owed, here, below, Running, Good, running, over}
 
 module _ (S : Sheet) where
   -- A word is raised: rules 7 to 9, 11, 12 and 14 to 19, and 21 ---------------------------------------------------------------
@@ -25,26 +25,29 @@ module _ (S : Sheet) where
     advance-stands : {h : Word} {c : Call} → Stands S p h c → Stands S q (h ++ w) c
     advance-stands {h} x = record { in-pre = x .in-pre; in-past = l .past-on h (x .in-past); in-own = adds-more (x .in-own) w (l .own-on) }
 
+    advance-due : {b h : Word} (c : Condition) → Adds b h (WithDue S c p) → Adds b (h ++ w) (WithDue S c q)
+    advance-due c d = adds-more d w (λ u f v x. rw append-assoc (f (w ++ v) (l .due-back v x)))
+
     advance-frames : {h : Word} {cs : List Call} → Frames S p h cs → Frames S q (h ++ w) cs
     advance-frames (outermost x f) = outermost (advance-stands x) f
-    advance-frames (inner x k f) = inner (advance-stands x) k f
+    advance-frames (inner {c = c} x k d f) = inner (advance-stands x) k (λ marked. advance-due (due S (origin S c)) (d marked)) f
 
     advance-owed : {h : Word} {cs : List Call} (r : Returned) → Owed S r p h cs → Owed S r q (h ++ w) cs
-    advance-owed r (here d) = here (adds-more d w (λ u f v x. rw append-assoc (f (w ++ v) (l .due-back v x))))
+    advance-owed r (here d) = here (advance-due (futureOf S (r .call) (r .outcome)) d)
     advance-owed r (below n o) = below n o
 
     advance : {h : Word} {cs : List Call} {rs : List Returned} → Running S p h cs rs → Running S q (h ++ w) cs rs
     advance g = record { frames = advance-frames (g .frames); owed = each-map advance-owed (g .owed); well = g .well }
 
-  -- A call begins: rules 3, 4 and 10, and 13 or 20 of a primitive, which returns at once -----------------------------------
+  -- A call begins: rules 3, 4, 10 and 26, and 13 or 20 of a primitive, which returns at once --------------------------------
 
   frames-past : {p : ℕ} {h : Word} {cs : List Call} → Frames S p h cs → Holds (past S p) h
   frames-past (outermost x f) = x .in-past
-  frames-past (inner x k f) = x .in-past
+  frames-past (inner x k d f) = x .in-past
 
   owed-here : {p : ℕ} {h : Word} {cs : List Call} (r : Returned) → Frames S p h cs → Due S r p h → Owed S r p h cs
   owed-here r (outermost x f) d = here d
-  owed-here r (inner x k f) d = here d
+  owed-here r (inner x k e f) d = here d
 
   -- step i, which is t, makes a call; control is at its from
   module _ (s : State) (going : s .ended ≡ false) (i : ℕ) {t : CallStep} (k : CallRules S t)
@@ -64,18 +67,19 @@ module _ (S : Sheet) where
           well = cons (record { began = begun; raised = record { word = w; is = refl; inside = h } }) (g .well);
         }
 
-    open-good : {b : Body} → getElem? (S .steps) i ≡ some (call-step t)
+    open-good : {b : Body} → getElem? (S .steps) i ≡ some (call-step t) → body S (t .method) ≡ some b
         → BodyRules S (preOf S (newCall s i t)) (traceOf S (newCall s i t)) (futureOf S (newCall s i t)) b
         → Each (λ r. IsCaller (newCall s i t) (r .call) → ⊥) (s .returned-calls) → Good S (openCall (newCall s i t) (b .entry) s)
-    open-good found rules new =
+    open-good {b} found is rules apart =
         running going
         record {
           frames =
               inner
               (record { in-pre = begun; in-past = rules .rule-3 _ begun; in-own = adds-nothing (rules .rule-4) })
               (subst (ReturnsWell S (newCall s i t)) (sym found) (λ here. k .returns))
+              (λ marked. from (λ p. Adds (s .history) (s .history) (WithDue S (due S p) (b .entry))) (adds-nothing (k .rule-26 marked is)))
               (from (λ p. Frames S p (s .history) (s .open-calls)) (g .frames));
-          owed = each-zip (λ r o n. below n (from (λ p. Owed S r p (s .history) (s .open-calls)) o)) (g .owed) new;
+          owed = each-zip (λ r o n. below n (from (λ p. Owed S r p (s .history) (s .open-calls)) o)) (g .owed) apart;
           well = g .well;
         }
       where
@@ -115,7 +119,7 @@ module _ (S : Sheet) where
 
   some-open : {p : ℕ} {h : Word} {cs : List Call} → Frames S p h cs → noneOpen cs ≡ false
   some-open (outermost x f) = refl
-  some-open (inner x k f) = refl
+  some-open (inner x k d f) = refl
 
   return-good : (s : State) {c : Call} {cs : List Call} {o : Outcome} {q : ℕ} → ExitRules S (traceOf S c o) (futureOf S c o) (s .point)
       → exitIn o (body S (c .method)) ≡ some (s .point) → targetOr (s .point) o (madeBy S (c .step)) ≡ some q
@@ -124,11 +128,42 @@ module _ (S : Sheet) where
       let f = ends o (s .point) at in
       over refl
       record {
-        none-open = refl;
+        begun = nil;
+        owing = each-all (λ r i. absurd i);
         met = cons (adds-nothing f) (each-map (λ r. met-at-end c o e x r f) (g .owed));
         well = cons (well-now c o e x) (g .well);
       }
-  return-good s {c} {o = o} {q = q} e at to (inner x k f) g = running (some-open f) (back c o e x (k (s .point) o q to) f g)
+  return-good s {c} {o = o} {q = q} e at to (inner x k d f) g = running (some-open f) (back c o e x (k (s .point) o q to) f g)
+
+  -- The run stops: rules 25 and 26 ------------------------------------------------------------------------------------------
+
+  pub open-begun : {p : ℕ} {h : Word} {cs : List Call} → Frames S p h cs → Each (Begun S) cs
+  open-begun (outermost x f) = cons (x .in-pre) nil
+  open-begun (inner x k d f) = cons (x .in-pre) (open-begun f)
+
+  pub owed-due : {p : ℕ} {h : Word} {cs : List Call} (r : Returned) → Owed S r p h cs → InCaller cs (r .call) → Due S r p h
+  owed-due r (here d) i = d
+  owed-due r (below n o) i = absurd (n i)
+
+  -- in the new edition any word of the due where control is meets every future, also those that the calls below owe
+  due-meets : {p : ℕ} {h : Word} {cs : List Call} → S .new ≡ true → Frames S p h cs → (r : Returned) → Owed S r p h cs
+      → (v : Word) → Holds (due S p) v → Ended S (h ++ v) r
+  due-meets marked f r (here d) v x = adds-more d v (λ u k. k v x)
+  due-meets marked (outermost x f) r (below n o) v y = absurd (elim o [ ])
+  due-meets marked (inner {c = c} x k d f) r (below n o) v y =
+      subst (λ z. Ended S z r) (sym (ap (λ (z : Word). z ++ v) (d marked .is) ∙ append-assoc (c .began) (d marked .word) v))
+      (due-meets marked f r o (d marked .word ++ v) (d marked .inside v y))
+
+  stop-good : (s : State) → S .new ≡ true → Running S (s .point) (s .history) (s .open-calls) (s .returned-calls) → Holds (due S (s .point)) []
+      → Good S (stop s)
+  stop-good s marked g e =
+      over refl
+      record {
+        begun = open-begun (g .frames);
+        owing = each-map owed-due (g .owed);
+        met = each-map (λ r o. subst (λ h. Ended S h r) (append-nil (s .history)) (due-meets marked (g .frames) r o [] e)) (g .owed);
+        well = g .well;
+      }
 
   -- Every move -----------------------------------------------------------------------------------------------------------
 
@@ -147,7 +182,8 @@ module _ (S : Sheet) where
     made-good s t z (primitive-made i o w found at is to h) n (running e g) =
         primitive-good s z i (subst (StepRules S) found (R .steps i)) (stands-at s at g) o w to h
     made-good s t z (open-made {t = x} i found at is) n (running e g) =
-        open-good s z i (subst (StepRules S) found (R .steps i)) (stands-at s at g) found (rules-of (newCall s i x) is) (next-is-new s i x n)
+        open-good s z i (subst (StepRules S) found (R .steps i)) (stands-at s at g) found is (rules-of (newCall s i x) is) (next-is-new s i x n)
+    made-good s t z (stop-made i found marked) n (running e g) = stop-good s marked g (subst (StepRules S) found (R .steps i))
     made-good s t z (return-made {c = c} o opened is at to) n (running e g) =
         let k = subst (λ cs. Running S (s .point) (s .history) cs (s .returned-calls)) opened g in
         return-good s (rules-of c is .exits o (s .point) at) (ap (exitIn o) is ∙ at) to (k .frames) k

@@ -2,7 +2,7 @@
 -- true, whatever the points' conditions are.
 use mathlib.Core.Path.{_≡_, refl, sym, ap, _∙_, subst}
 use Prim.Native.Nat.{ℕ}
-use mathlib.Core.Bool.{true, false}
+use mathlib.Core.Bool.{Bool, true, false}
 use mathlib.Core.Logic.{inl, inr}
 use mathlib.Core.Option.{none, some}
 use mathlib.Core.List.{List, [], _∷_, _++_, append-assoc, append-nil, List·Memᴰ, List·Memᴰ·head, List·Memᴰ·tail}
@@ -18,7 +18,7 @@ use Rattle.sheet.proofs.Each.{each-member}
 use Rattle.sheet.specs.Names.{HasBody}
 use Rattle.runs.specs.Rules.{rulesFrom, AllMet}
 use Rattle.runs.specs.Runs.{Returned, State, traceOf, futureOf, since, Move, return, by-step, raise, newCall, returnedNow, move, runOn, run}
-use Rattle.runs.proofs.Moves.{Makes, event-made, pass-made, primitive-made, open-made, return-made, run-on-append, run-append, run-on-keeps, step-made, by-trace}
+use Rattle.runs.proofs.Moves.{Makes, event-made, pass-made, primitive-made, open-made, stop-made, return-made, run-on-append, run-append, run-on-keeps, step-made, by-trace}
 use Rattle.runs.proofs.Safe.{runs-are-safe}
 
 -- What stays ------------------------------------------------------------------------------------------------------------
@@ -45,6 +45,7 @@ module _ (S : Sheet) (r : Returned) (h : Word) where
       let k = raised-later s w q l in
       record { returned = List·Memᴰ·tail (k .returned); added = k .added; goes-on = k .goes-on }
   later-kept s t z (open-made i found at is) l = record { returned = l .returned; added = l .added; goes-on = l .goes-on }
+  later-kept s t z (stop-made i found marked) l = record { returned = l .returned; added = l .added; goes-on = l .goes-on }
   later-kept s t z (return-made o opened is at to) l =
       record { returned = List·Memᴰ·tail (l .returned); added = l .added; goes-on = l .goes-on }
 
@@ -163,7 +164,7 @@ no-0 v (inr h) =
 
 -- An example: point 0 is the start of the loop, event 0 leads to 1, "close" to 2, and from there a pass back to 0 or on to 3, the exit.
 -- Condition 0 is close's trace and 1 its future; all else is free.
-module _ (conditions : List Condition) (points : List Point) (pre trace future close-pre : ℕ) (certificates : List Certificate) where
+module _ (conditions : List Condition) (points : List Point) (pre trace future close-pre : ℕ) (certificates : List Certificate) (new : Bool) where
   -- the call of "close"
   abbrev closing : CallStep
   closing = record { from = 1; to = 2; failed-to = none; method = 1 }
@@ -183,6 +184,7 @@ module _ (conditions : List Condition) (points : List Point) (pre trace future c
         ∷ [];
     steps = event-step 0 1 0 ∷ call-step closing ∷ pass-step 2 0 ∷ pass-step 2 3 ∷ [];
     certificates = certificates;
+    new = new;
   }
 
   twice-round : TwiceRound loop 0 closing

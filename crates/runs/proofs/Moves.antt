@@ -1,4 +1,4 @@
--- What a move does: nothing, or one of five things. An invariant of runs is shown by what it says of each of them.
+-- What a move does: nothing, or one of six things. An invariant of runs is shown by what it says of each of them.
 use mathlib.Core.Path.{_≡_, refl, sym, ap, _∙_, subst}
 use Prim.Native.Nat.{ℕ}
 use mathlib.Core.Bool.{Bool, true, false, cond}
@@ -10,8 +10,8 @@ use Rattle.bits.proofs.Tests.{T-true, T-false}
 use Rattle.condition.specs.Condition.{Word, Condition, Holds}
 use Rattle.condition.specs.Places.{accepts}
 use Rattle.condition.proofs.Words.{words}
-use Rattle.sheet.specs.Sheet.{Outcome, Body, CallStep, Step, event-step, call-step, pass-step, Sheet, body, exitFor, exitIn, targetFor}
-use Rattle.runs.specs.Runs.{Call, State, traceOf, start, Move, return, by-step, raise, newCall, openCall, returnedNow, makeReturn, makeCall, makeStep, fromOf, tryStep, madeBy, targetOr, close, closeTo, isAt, tryReturn, tryMove, move, MadeByTrace, runOn, run}
+use Rattle.sheet.specs.Sheet.{Outcome, Body, CallStep, Step, event-step, call-step, pass-step, stop-step, Sheet, body, exitFor, exitIn, targetFor}
+use Rattle.runs.specs.Runs.{Call, State, traceOf, start, Move, return, by-step, raise, newCall, openCall, returnedNow, makeReturn, makeCall, stop, makeStep, fromOf, tryStep, madeBy, targetOr, close, closeTo, isAt, tryReturn, tryMove, move, MadeByTrace, runOn, run}
 
 -- what holds of both sides holds of the choice
 by-test : {A : Type 0} (P : A → Type 0) (b : Bool) {x y : A} → (b ≡ true → P x) → (b ≡ false → P y) → P (cond b x y)
@@ -39,6 +39,7 @@ module _ (S : Sheet) where
         → Makes s (returnedNow (newCall s i t) o (raise w q s))
     open-made : {t : CallStep} {b : Body} (i : ℕ) → getElem? (S .steps) i ≡ some (call-step t) → s .point ≡ t .from
         → body S (t .method) ≡ some b → Makes s (openCall (newCall s i t) (b .entry) s)
+    stop-made : (i : ℕ) → getElem? (S .steps) i ≡ some (stop-step (s .point)) → S .new ≡ true → Makes s (stop s)
     return-made : {c : Call} {cs : List Call} {b : Body} {q : ℕ} (o : Outcome) → s .open-calls ≡ c ∷ cs → body S (c .method) ≡ some b
         → exitFor o b ≡ some (s .point) → targetOr (s .point) o (madeBy S (c .step)) ≡ some q → Makes s (close s o c cs q)
 
@@ -60,6 +61,7 @@ module _ (S : Sheet) where
       step-case (event-step p q a) found at = made _ (event-made i (rw at found))
       step-case (call-step t) found at = call-case found at (body S (t .method)) refl
       step-case (pass-step p q) found at = made _ (pass-made i (rw at found))
+      step-case (stop-step p) found at = by-test P _ (λ e. made _ (stop-made i (rw at found) e)) (λ e. same)
 
       try-step-case : (t : Option Step) → getElem? (S .steps) i ≡ t → P (tryStep S s i o w t)
       try-step-case none found = same

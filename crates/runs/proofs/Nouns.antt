@@ -5,8 +5,9 @@ use mathlib.Core.Option.{Option, none, some}
 use mathlib.Core.List.{List, [], _∷_}
 use Prim.Native.Nat.{ℕ}
 use Rattle.sheet.specs.Each.{Each, nil, cons}
-use Rattle.sheet.specs.Sheet.{failed, Body, CallStep, Step, event-step, call-step, pass-step, Sheet, future}
-use Rattle.runs.specs.Rules.{holdsEmpty, Rule, _of_says_, isAmong, ofMethod, ifAny, firstRules, failedExitRules, methodRules, returnRules, stepRules}
+use Rattle.sheet.proofs.Each.{each-append}
+use Rattle.sheet.specs.Sheet.{failed, Body, CallStep, Step, event-step, call-step, pass-step, stop-step, Sheet, future}
+use Rattle.runs.specs.Rules.{holdsEmpty, Rule, _of_says_, isAmong, ofMethod, ifAny, firstRules, failedExitRules, methodRules, returnRules, entryAsked, entryRules, stepRules}
 
 abbrev Told : Bool → Rule → Type 0
 Told b x = ofMethod (x .number) ≡ b
@@ -32,7 +33,14 @@ module _ (S : Sheet) where
   failed-target-of-step i t none = nil
   failed-target-of-step i t (some q) = cons refl (cons refl (cons refl (cons refl nil)))
 
+  entry-of-step : (i : ℕ) (t : CallStep) (e : Option ℕ) → Each (Told false) (ifAny e (entryRules S i t))
+  entry-of-step i t none = nil
+  entry-of-step i t (some e) = cons refl nil
+
   rules-of-step : (i : ℕ) (t : Step) → Each (Told false) (stepRules S i t)
   rules-of-step i (event-step p q a) = cons refl (cons refl (cons refl nil))
-  rules-of-step i (call-step t) = cons refl (cons refl (cons refl (cons refl (cons refl (failed-target-of-step i t (t .failed-to))))))
+  rules-of-step i (call-step t) =
+      cons refl (cons refl (cons refl (cons refl (cons refl
+      (each-append (failed-target-of-step i t (t .failed-to)) (entry-of-step i t (entryAsked S (t .method))))))))
   rules-of-step i (pass-step p q) = cons refl (cons refl (cons refl nil))
+  rules-of-step i (stop-step p) = cons refl nil

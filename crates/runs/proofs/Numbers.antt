@@ -10,7 +10,7 @@ use Rattle.sheet.proofs.Each.{each-map, each-head, each-tail, each-append, each
 use Rattle.sheet.specs.Sheet.{CallStep, Sheet}
 use Rattle.runs.specs.Runs.{Call, Returned, State, calls, start, callersNow, newCall}
 use Rattle.runs.specs.Owing.{callNumber, IsCaller}
-use Rattle.runs.proofs.Moves.{Makes, event-made, pass-made, primitive-made, open-made, return-made}
+use Rattle.runs.proofs.Moves.{Makes, event-made, pass-made, primitive-made, open-made, stop-made, return-made}
 
 -- of n calls so far, c is one
 record Numbered (n : ℕ) (c : Call) : Type 0 where
@@ -65,6 +65,7 @@ module _ (S : Sheet) where
         opened = cons (new-numbered s i x g (omega arith)) (each-map (more-calls (omega arith)) (g .opened));
         returned = each-map (λ r. more-calls (omega arith) (r .call)) (g .returned);
       }
+  made-numbers s t (stop-made i found marked) g = g
   made-numbers s t (return-made {c = c} {cs = cs} o opened is at to) g =
       let k : Numbers (c ∷ cs) (s .returned-calls) = subst (λ x. Numbers x (s .returned-calls)) opened g in
       record {

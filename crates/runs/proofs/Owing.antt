@@ -1,27 +1,21 @@
 -- While a caller of a returned call has control, what followed the return and any word of the present due make a word of its future.
-use mathlib.Core.Path.{subst}
 use Prim.Native.Nat.{ℕ}
 use mathlib.Core.List.{List, List·Memᴰ}
-use Rattle.condition.specs.Condition.{Word}
-use Rattle.sheet.proofs.Each.{each-map, each-all}
+use Rattle.sheet.proofs.Each.{each-map}
 use Rattle.sheet.specs.Sheet.{Sheet, body}
 use Rattle.runs.specs.Rules.{rulesFrom, AllMet}
-use Rattle.runs.specs.Runs.{Call, Returned, State, Move, run}
-use Rattle.runs.specs.Owing.{InCaller, Owing}
+use Rattle.runs.specs.Runs.{State, Move, run}
+use Rattle.runs.specs.Owing.{Owing}
 use Rattle.sheet.specs.Names.{HasBody}
 use Rattle.runs.proofs.Rules.{by-number}
 use Rattle.runs.proofs.Adds.{adds-since}
-use Rattle.runs.proofs.Invariant.{Due, Owed, here, below, Good, running, over}
-use Rattle.runs.proofs.Kept.{runs-are-good}
+use Rattle.runs.proofs.Invariant.{Good, running, over}
+use Rattle.runs.proofs.Kept.{owed-due, runs-are-good}
 
 module _ (S : Sheet) where
-  owed-due : {p : ℕ} {h : Word} {cs : List Call} (r : Returned) → Owed S r p h cs → InCaller cs (r .call) → Due S r p h
-  owed-due r (here d) i = d
-  owed-due r (below n o) i = absurd (n i)
-
   good-is-owing : {s : State} → Good S s → Owing S s
-  good-is-owing (running e g) = each-map (λ r o i. adds-since (owed-due r o i)) (g .owed)
-  good-is-owing (over e g) = each-all (λ r i. absurd (subst (λ cs. InCaller cs (r .call)) (g .none-open) i))
+  good-is-owing (running e g) = each-map (λ r o i. adds-since (owed-due S r o i)) (g .owed)
+  good-is-owing (over e g) = each-map (λ r d i. adds-since (d i)) (g .owing)
 
 -- request 12, of every list of moves from any of the starts
 pub runs-owe : (S : Sheet) (starts : List ℕ) → AllMet (rulesFrom starts S) → (m : ℕ) → List·Memᴰ m starts → HasBody (body S m)

@@ -45,6 +45,7 @@ sheet = record {
   methods = failingPrimitive 0 0 0 0 0 ∷ [];
   steps = call-step called ∷ event-step 0 0 3 ∷ [];
   certificates = [];
+  new = false;
 }
 
 abbrev over : State

@@ -1,5 +1,5 @@
 -- The rules of a sheet by their numbers: what each says of words, where all rules of the sheet's list are true.
-use mathlib.Core.Path.{_≡_, refl, sym, ap, subst}
+use mathlib.Core.Path.{_≡_, refl, sym, ap, _∙_, subst}
 use mathlib.Core.Logic.{⊎-elim}
 use Prim.Native.Nat.{ℕ, zero, suc, _+_}
 use native.Mathlib.Nat.{zero-add}
@@ -14,8 +14,8 @@ use Rattle.bits.proofs.Tests.{T-true}
 use Rattle.condition.specs.Condition.{Word, Condition, join, Holds, _⊆_, event}
 use Rattle.sheet.specs.Each.{Each, nil, cons}
 use Rattle.sheet.proofs.Each.{each-head, each-tail, each-left, each-right, each-get}
-use Rattle.sheet.specs.Sheet.{Outcome, normal, failed, Body, Method, CallStep, Step, event-step, call-step, pass-step, Sheet, past, own, due, pre, trace, future, bodyIn, body, exitFor, exitIn, targetFor}
-use Rattle.runs.specs.Rules.{Rule, isAmong, ifAny, firstRules, exitRules, failedExitRules, methodRules, returnRules, stepRules, firstsRules, methodsRules, stepsRules, rulesFrom, AllMet}
+use Rattle.sheet.specs.Sheet.{Outcome, normal, failed, Body, Method, CallStep, Step, event-step, call-step, pass-step, stop-step, Sheet, past, own, due, pre, trace, future, bodyIn, body, entryIn, exitFor, exitIn, targetFor}
+use Rattle.runs.specs.Rules.{Rule, isAmong, ifAny, firstRules, exitRules, failedExitRules, methodRules, returnRules, entryAsked, entryRules, stepRules, firstsRules, methodsRules, stepsRules, rulesFrom, AllMet}
 
 one-event : (a : ℕ) → Holds (event a) (a ∷ [])
 one-event a = (a, single-has a, refl)
@@ -67,6 +67,7 @@ module _ (S : Sheet) where
   pub record CallRules (t : CallStep) : Type 0 where
     pub rule-10 : past S (t .from) ⊆ pre S (t .method)
     pub returns : (o : Outcome) (q : ℕ) → targetFor o t ≡ some q → ReturnsBy t o q
+    pub rule-26 : S .new ≡ true → {b : Body} → body S (t .method) ≡ some b → due S (b .entry) ⊆ due S (t .from)
 
   -- a primitive has no rules, and a number that names no method or step has none
   abbrev pub MethodRules : ℕ → Option Body → Type 0
@@ -78,6 +79,8 @@ module _ (S : Sheet) where
   StepRules (some (event-step p q a)) = Leads p (a ∷ []) q
   StepRules (some (call-step t)) = CallRules t
   StepRules (some (pass-step p q)) = Leads p [] q
+  -- 25
+  StepRules (some (stop-step p)) = Holds (due S p) []
 
   -- all rules of a sheet one of whose runs starts at the method m
   pub record SheetRules (m : ℕ) : Type 0 where
@@ -135,22 +138,33 @@ module _ (S : Sheet) where
       }
 
   module _ (i : ℕ) (t : CallStep) (h : AllMet (stepRules S i (call-step t))) where
+    behind-returns : AllMet (ifAny (t .failed-to) (returnRules S 18 i t failed) ++ ifAny (entryAsked S (t .method)) (entryRules S i t))
+    behind-returns = each-right (returnRules S 11 i t normal (t .to)) (each-tail h)
+
     of-returns : (o : Outcome) (q : ℕ) → targetFor o t ≡ some q → ReturnsBy t o q
     of-returns normal q is =
         of-return 11 i t normal q (of-any (returnRules S 11 i t normal) (each-left (returnRules S 11 i t normal (t .to)) _ (each-tail h)) is)
     of-returns failed q is =
-        of-return 18 i t failed q (of-any (returnRules S 18 i t failed) (each-right (returnRules S 11 i t normal (t .to)) (each-tail h)) is)
+        of-return 18 i t failed q
+        (of-any (returnRules S 18 i t failed) (each-left (ifAny (t .failed-to) (returnRules S 18 i t failed)) _ behind-returns) is)
+
+    of-entry : S .new ≡ true → {b : Body} → body S (t .method) ≡ some b → due S (b .entry) ⊆ due S (t .from)
+    of-entry marked is =
+        each-head
+        (of-any (entryRules S i t) (each-right (ifAny (t .failed-to) (returnRules S 18 i t failed)) behind-returns)
+        (ap (λ (b : Bool). cond b (entryIn (body S (t .method))) none) marked ∙ ap entryIn is))
 
   of-step : (i : ℕ) (t : Step) → AllMet (stepRules S i t) → StepRules (some t)
   of-step i (event-step p q a) h =
       joined (event a) (each-head h) (each-head (each-tail h)) (each-head (each-tail (each-tail h))) (a ∷ []) (one-event a)
-  of-step i (call-step t) h = record { rule-10 = each-head h; returns = of-returns i t h }
+  of-step i (call-step t) h = record { rule-10 = each-head h; returns = of-returns i t h; rule-26 = of-entry i t h }
   of-step i (pass-step p q) h =
       record {
         past-on = λ u x. rw append-nil (each-head h u x);
         own-on = λ u x. rw append-nil (each-head (each-tail h) u x);
         due-back = each-head (each-tail (each-tail h));
       }
+  of-step i (stop-step p) h = each-head h
 
   -- The whole list -------------------------------------------------------------------------------------------------------
 

@@ -1,25 +1,21 @@
 -- Every run of a sheet whose rules are true is safe.
-use mathlib.Core.Path.{sym, _∙_, subst}
+use mathlib.Core.Path.{sym, _∙_}
 use Prim.Native.Nat.{ℕ}
 use mathlib.Core.Bool.{false≢true}
 use mathlib.Core.List.{List, map, List·Memᴰ}
-use Rattle.condition.specs.Condition.{Word, Holds}
-use Rattle.sheet.specs.Each.{Each, nil, cons}
+use Rattle.condition.specs.Condition.{Holds}
+use Rattle.sheet.specs.Each.{Each}
 use Rattle.sheet.proofs.Each.{each-map, each-append, each-mapped}
 use Rattle.sheet.specs.Sheet.{Sheet, body}
 use Rattle.runs.specs.Rules.{rulesFrom, AllMet}
-use Rattle.runs.specs.Runs.{Call, Returned, State, traceOf, raised, Move, run, Safe}
+use Rattle.runs.specs.Runs.{Returned, State, traceOf, raised, Move, run, Safe}
 use Rattle.sheet.specs.Names.{HasBody}
 use Rattle.runs.proofs.Rules.{by-number}
 use Rattle.runs.proofs.Adds.{adds-since}
-use Rattle.runs.proofs.Invariant.{Begun, Frames, outermost, inner, Well, Good, running, over}
-use Rattle.runs.proofs.Kept.{runs-are-good}
+use Rattle.runs.proofs.Invariant.{Begun, Well, Good, running, over}
+use Rattle.runs.proofs.Kept.{open-begun, runs-are-good}
 
 module _ (S : Sheet) where
-  open-begun : {p : ℕ} {h : Word} {cs : List Call} → Frames S p h cs → Each (Begun S) cs
-  open-begun (outermost x f) = cons (x .in-pre) nil
-  open-begun (inner x k f) = cons (x .in-pre) (open-begun f)
-
   returned-begun : {rs : List Returned} → Each (Well S) rs → Each (Begun S) (map (λ r. r .call) rs)
   returned-begun w = each-mapped (Begun S) (λ r. r .call) (each-map (λ r x. x .began) w)
 
@@ -29,13 +25,13 @@ module _ (S : Sheet) where
   good-is-safe : {s : State} → Good S s → Safe S s
   good-is-safe (running e g) =
       record {
-        began-well = each-append (open-begun (g .frames)) (returned-begun (g .well));
+        began-well = each-append (open-begun S (g .frames)) (returned-begun (g .well));
         raised-well = all-raised (g .well);
         ended-well = λ z. absurd (false≢true (sym e ∙ z));
       }
   good-is-safe (over e g) =
       record {
-        began-well = each-append (subst (Each (Begun S)) (sym (g .none-open)) nil) (returned-begun (g .well));
+        began-well = each-append (g .begun) (returned-begun (g .well));
         raised-well = all-raised (g .well);
         ended-well = λ z. each-map (λ r x. adds-since x) (g .met);
       }

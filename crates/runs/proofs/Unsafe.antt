@@ -2,7 +2,7 @@
 -- and of calls that fail, whose trace and future are those of their outcome. Each sheet differs in one condition of one method from a sheet whose same
 -- runs are safe.
 use mathlib.Core.Path.{_≡_, refl}
-use mathlib.Core.Bool.{false≢true}
+use mathlib.Core.Bool.{false, false≢true}
 use mathlib.Core.List.{List, [], _∷_, _++_}
 use Prim.Native.Nat.{ℕ}
 use Rattle.condition.specs.Condition.{Condition, empty, join, event}
@@ -31,6 +31,7 @@ sheet pre0 trace0 future0 pre1 trace1 future1 = record {
   methods = withBody pre0 trace0 future0 0 3 ∷ withBody pre1 trace1 future1 4 5 ∷ [];
   steps = event-step 0 1 0 ∷ callFrom 1 2 1 ∷ event-step 4 5 1 ∷ event-step 2 3 2 ∷ [];
   certificates = [];
+  new = false;
 }
 
 -- the moves to where withBody 1 is open, to where it has returned, and to the end
@@ -156,6 +157,7 @@ calling pre trace future = record {
   methods = withBody 0 4 0 0 3 ∷ withBody 1 2 3 4 5 ∷ primitive pre trace future ∷ [];
   steps = event-step 0 1 0 ∷ callFrom 1 2 1 ∷ callFrom 4 5 2 ∷ event-step 2 3 2 ∷ [];
   certificates = [];
+  new = false;
 }
 
 -- the moves to where the primitive has returned, to where its caller has, and to the end
@@ -212,6 +214,7 @@ failing trace0 future0 failed-trace0 failed-future0 trace1 future1 failed-trace1
       ∷ [];
   steps = event-step 0 1 0 ∷ failingCallFrom 1 2 2 1 ∷ event-step 4 5 1 ∷ event-step 2 3 2 ∷ [];
   certificates = [];
+  new = false;
 }
 
 -- the moves to where method 1 has failed, and to the end, where method 0 fails
@@ -276,6 +279,7 @@ calling-failing future failed-future = record {
   methods = withBody 0 4 0 0 3 ∷ withBody 1 2 3 4 5 ∷ failingPrimitive 1 0 future 2 failed-future ∷ [];
   steps = event-step 0 1 0 ∷ callFrom 1 2 1 ∷ failingCallFrom 4 5 5 2 ∷ event-step 2 3 2 ∷ [];
   certificates = [];
+  new = false;
 }
 
 abbrev past-all-failing : List Move
