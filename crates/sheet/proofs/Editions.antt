@@ -94,7 +94,7 @@ unfolding recordAt
 fits-now M s at r w = stop-fits (isNew s) (recordAt s at) (λ e. not-false (isNew s) (and-false (eqb (byteAt s at) 19) (not (isNew s)) (w .stops-new) e))
 
 module _ (M : Model) (s : List ℕ) (r : Reading) (h : readSheet M s ≡ whole r) where
-  new-is : sheetOf M s .new ≡ isNew s
+  pub new-is : sheetOf M s .new ≡ isNew s
   new-is = ap (λ (S : Sheet). S .new) (sheet-is M s r h)
 
   pub edition : (sheetOf M s .new ≡ true) ↔ (byteAt s 0 ≡ 18)

@@ -1,5 +1,5 @@
 -- All that an index of a sheet needs: how many conditions, points, methods and steps there are, what stands at their offsets, that names
--- exist, and that outcomes fit.
+-- exist, that outcomes fit, and that the bytes tell the edition.
 use mathlib.Core.Path.{_≡_, refl, sym, ap, ap₂, _∙_, subst}
 use mathlib.Core.Option.{some}
 use mathlib.Core.List.{List, _∷_, map}
@@ -12,7 +12,7 @@ use Rattle.sheet.specs.Model.{Model, conditionLimit, methodLimit, stepLi
 use Rattle.sheet.specs.Each.{Each, nil, cons}
 use Rattle.sheet.specs.Sheet.{Sheet, condition, body}
 use Rattle.sheet.specs.Kind.{conditions, points, methods, steps}
-use Rattle.sheet.specs.Reading.{Counted, Reading, startOf, startsOf, item, whole, readSheet}
+use Rattle.sheet.specs.Reading.{Counted, Reading, startOf, startsOf, isNew, item, whole, readSheet}
 use Rattle.sheet.specs.Decode.{pointOf, methodOf, stepOf, sheetOf}
 use Rattle.sheet.specs.AtOffset.{pointAt, methodAt, stepAt, certificateAt}
 use Rattle.sheet.specs.Names.{NamesExist, HasBody, OutcomesFit, EventBelow}
@@ -47,6 +47,7 @@ pub record Located (M : Model) (S : Sheet) (s : List ℕ) (offsets : ℕ → Lis
   pub events : Each (EventBelow (M .events)) (S .steps)
   pub first : HasBody (body S 0)
   pub outcomes : OutcomesFit S
+  pub edition : S .new ≡ isNew s
 
 module _ {A : Type 0} (s : List ℕ) (f : Counted → A) where
   as-many : (cs : List Counted) → length (map f cs) ≡ length (startsOf cs)
@@ -90,6 +91,7 @@ module _ (M : Model) (s : List ℕ) (r : Reading) (h : readSheet M s ≡ whole r
         events = subst (λ (S : Sheet). Each (EventBelow (M .events)) (S .steps)) (sheet-is M s r h) (events-below M s r h);
         first = subst (λ (S : Sheet). HasBody (body S 0)) (sheet-is M s r h) (first-has-body M s r h);
         outcomes = subst OutcomesFit (sheet-is M s r h) (outcomes-fit M s r h);
+        edition = refl;
       })
 
   -- the certificates are those that stand at their offsets
