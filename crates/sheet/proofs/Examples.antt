@@ -1,8 +1,8 @@
 -- Records, sheets and readings by evaluation: the table of kinds, the fields of a record of each kind and what they stand for, a sheet, each limit at its
--- last and at one more, the order of sections, refusals of one record in their order, what was counted before a refusal, other instruments' limits, and
--- methods with two outcomes and their calls.
+-- last and at one more, the order of sections, refusals of one record in their order, what was counted before a refusal, other instruments' limits,
+-- methods with two outcomes and their calls, and sheets of the new edition.
 use mathlib.Core.Path.{_≡_, refl}
-use mathlib.Core.Bool.{false}
+use mathlib.Core.Bool.{true, false}
 use mathlib.Core.Option.{Option, none, some}
 use mathlib.Core.List.{List, [], _∷_, _++_, map}
 use Prim.Native.Nat.{ℕ, zero, suc}
@@ -11,24 +11,30 @@ use lib.ListN.{getD, replicate, set, take}
 use Rattle.condition.specs.Condition.{leaf, empty, join, either, star}
 use Rattle.certificate.specs.Certificate.{pair}
 use Rattle.sheet.specs.Model.{Model, large, entry, withKinds, NoLarger}
-use Rattle.sheet.specs.Sheet.{Declared, Body, Method, event-step, callFrom, failingCallFrom, pass-step}
-use Rattle.sheet.specs.Kind.{sectionOf, bodyLength}
+use Rattle.sheet.specs.Sheet.{Declared, Body, Method, event-step, callFrom, failingCallFrom, pass-step, stop-step}
+use Rattle.sheet.specs.Kind.{kindOf, sectionOf, bodyLength}
 use Rattle.sheet.specs.Record.{Record, recordAt}
-use Rattle.sheet.specs.Reading.{nothing, Counted, Reading, startingFrom, startsOf, ReadResult, whole, refusal, stateOf, readFrom, readSheet}
+use Rattle.sheet.specs.Reading.{nothing, Counted, Reading, startingFrom, startsOf, inCondition, ReadResult, whole, refusal, stateOf, readFrom, readSheet}
 use Rattle.sheet.specs.Decode.{pointOf, methodOf, stepOf, sheetOf}
 
 -- Kinds -----------------------------------------------------------------------------------------------------------------
 
 abbrev allKinds : List ℕ
-allKinds = 1 ∷ 2 ∷ 3 ∷ 4 ∷ 5 ∷ 6 ∷ 7 ∷ 8 ∷ 9 ∷ 10 ∷ 11 ∷ 12 ∷ 13 ∷ 14 ∷ 15 ∷ 16 ∷ 17 ∷ []
+allKinds = 1 ∷ 2 ∷ 3 ∷ 4 ∷ 5 ∷ 6 ∷ 7 ∷ 8 ∷ 9 ∷ 10 ∷ 11 ∷ 12 ∷ 13 ∷ 14 ∷ 15 ∷ 16 ∷ 17 ∷ 18 ∷ 19 ∷ []
 
--- "Body lengths by kind, 1 to 14: 4, 0, 0, 0, 0, 0, 6, 6, 10, 5, 6, 4, 5, 0"; of 15 to 17 five, eight and four fields, "all fields two bytes"
-lengths-are : map bodyLength allKinds ≡ 4 ∷ 0 ∷ 0 ∷ 0 ∷ 0 ∷ 0 ∷ 6 ∷ 6 ∷ 10 ∷ 5 ∷ 6 ∷ 4 ∷ 5 ∷ 0 ∷ 10 ∷ 16 ∷ 8 ∷ []
+-- "Body lengths by kind, 1 to 14: 4, 0, 0, 0, 0, 0, 6, 6, 10, 5, 6, 4, 5, 0"; of 15 to 17 five, eight and four fields, "all fields two bytes"; 18
+-- "no body", 19 "body from (2 bytes)"
+lengths-are : map bodyLength allKinds ≡ 4 ∷ 0 ∷ 0 ∷ 0 ∷ 0 ∷ 0 ∷ 6 ∷ 6 ∷ 10 ∷ 5 ∷ 6 ∷ 4 ∷ 5 ∷ 0 ∷ 10 ∷ 16 ∷ 8 ∷ 0 ∷ 2 ∷ []
 lengths-are = refl
 
--- "Sections in order: kinds 1-6, 7, 8-9, 10-12, 13-14"; 15 to 17 "in the sections of 8, 9 and 11"
-sections-are : map sectionOf allKinds ≡ 1 ∷ 1 ∷ 1 ∷ 1 ∷ 1 ∷ 1 ∷ 2 ∷ 3 ∷ 3 ∷ 4 ∷ 4 ∷ 4 ∷ 5 ∷ 5 ∷ 3 ∷ 3 ∷ 4 ∷ []
+-- "Sections in order: kinds 1-6, 7, 8-9, 10-12, 13-14"; 15 to 17 "in the sections of 8, 9 and 11"; 18 in "the first
+-- section", 19 "among the steps"
+sections-are : map sectionOf allKinds ≡ 1 ∷ 1 ∷ 1 ∷ 1 ∷ 1 ∷ 1 ∷ 2 ∷ 3 ∷ 3 ∷ 4 ∷ 4 ∷ 4 ∷ 5 ∷ 5 ∷ 3 ∷ 3 ∷ 4 ∷ 1 ∷ 4 ∷ []
 sections-are = refl
+
+-- in an open condition stand "kinds 1-6": "a condition is open and the kind is above 6" is 4
+in-condition-are : map (λ (k : ℕ). inCondition (sectionOf k) (kindOf k .role)) allKinds ≡ replicate 6 true ++ replicate 13 false
+in-condition-are = refl
 
 -- Fields ----------------------------------------------------------------------------------------------------------------
 
@@ -58,6 +64,7 @@ stepBytes =
     ∷ (0x0B ∷ 0x01 ∷ 0x11 ∷ 0x02 ∷ 0x12 ∷ 0x03 ∷ 0x13 ∷ [])
     ∷ (0x0C ∷ 0x01 ∷ 0x11 ∷ 0x02 ∷ 0x12 ∷ [])
     ∷ (0x11 ∷ 0x01 ∷ 0x11 ∷ 0x02 ∷ 0x12 ∷ 0x03 ∷ 0x13 ∷ 0x04 ∷ 0x14 ∷ [])
+    ∷ (0x13 ∷ 0x01 ∷ 0x11 ∷ [])
     ∷ []
 
 abbrev pairBytes : List ℕ
@@ -99,7 +106,8 @@ unfolding recordAt
 methods-are-so = refl
 
 steps-are-so : map (λ (s : List ℕ). stepOf (recordAt s 0)) stepBytes
-    ≡ event-step 0x1101 0x1202 0x03 ∷ callFrom 0x1101 0x1202 0x1303 ∷ pass-step 0x1101 0x1202 ∷ failingCallFrom 0x1101 0x1202 0x1303 0x1404 ∷ []
+    ≡ event-step 0x1101 0x1202 0x03 ∷ callFrom 0x1101 0x1202 0x1303 ∷ pass-step 0x1101 0x1202 ∷ failingCallFrom 0x1101 0x1202 0x1303 0x1404 ∷ stop-step 0x1101
+    ∷ []
 unfolding recordAt
 steps-are-so = refl
 
@@ -494,3 +502,116 @@ older-no-larger = record { bytes = omega arith; points = omega arith; events = r
 
 larger-than-older : NoLarger large (withKinds 14 large) → ⊥
 larger-than-older n = omega (arith, n .kinds)
+
+-- Editions --------------------------------------------------------------------------------------------------------------
+
+abbrev stop : ℕ → List ℕ
+stop p = naming 0x13 (p ∷ [])
+
+-- "A sheet of the new edition begins with a record of kind 18": two conditions, two points, a method, a stop between two passes
+abbrev newSheet : List ℕ
+newSheet = 0x12 ∷ (times 2 (0x02 ∷ 0x06 ∷ []) ++ (times 2 point0 ++ (method0 ++ (pass0 ++ (stop 1 ++ pass0)))))
+
+new-sheet-is-so : sheetOf large newSheet
+    ≡ record {
+      conditions = replicate 2 empty;
+      points = replicate 2 (record { past = 0; own = 0; due = 0 });
+      methods = oneOutcome 0 (declared 0 0) (body 0 0 none) ∷ [];
+      steps = pass-step 0 0 ∷ stop-step 1 ∷ pass-step 0 0 ∷ [];
+      certificates = [];
+      new = true;
+    }
+unfolding sheetOf
+new-sheet-is-so = refl
+
+-- its first condition starts behind the mark
+new-sheet-starts : starts (readSheet large newSheet) ≡ (1 ∷ 3 ∷ []) ∷ (5 ∷ 12 ∷ []) ∷ (19 ∷ []) ∷ (30 ∷ 35 ∷ 38 ∷ []) ∷ [] ∷ []
+unfolding starts readSheet
+new-sheet-starts = refl
+
+-- bytes that are refused stand for an old sheet, also where they begin with the mark
+refused-is-old : sheetOf large (0x12 ∷ []) .new ≡ false
+unfolding sheetOf
+refused-is-old = refl
+
+abbrev markRows : List Row
+markRows =
+    -- alone, before a condition that is open at the end, and before a sheet
+    after 0 0 0 0 (0x12 ∷ []) (9 ∷ 1 ∷ [])
+    ∷ after 0 0 0 0 (0x12 ∷ 0x02 ∷ []) (8 ∷ 2 ∷ [])
+    ∷ after 1 1 0 0 (0x12 ∷ method0) []
+    -- "19 when kind 18 is not first": twice, between two conditions and behind the last one, also in an old sheet
+    ∷ after 0 0 0 0 (0x12 ∷ 0x12 ∷ []) (19 ∷ 1 ∷ [])
+    ∷ after 0 0 0 0 (0x12 ∷ 0x02 ∷ 0x06 ∷ 0x12 ∷ 0x02 ∷ 0x06 ∷ []) (19 ∷ 3 ∷ [])
+    ∷ after 0 0 0 0 (0x02 ∷ 0x06 ∷ 0x12 ∷ 0x02 ∷ 0x06 ∷ []) (19 ∷ 2 ∷ [])
+    ∷ after 1 0 0 0 (0x02 ∷ 0x06 ∷ 0x12 ∷ point0) (19 ∷ 2 ∷ [])
+    -- "after 4": inside a condition, and behind a point, a method, a step, a pair and a certificate
+    ∷ after 0 0 0 0 (0x12 ∷ 0x02 ∷ 0x12 ∷ []) (4 ∷ 2 ∷ [])
+    ∷ after 0 0 0 0 (0x02 ∷ 0x12 ∷ []) (4 ∷ 1 ∷ [])
+    ∷ after 1 0 0 0 (point0 ++ (0x12 ∷ [])) (4 ∷ 7 ∷ [])
+    ∷ after 1 1 0 0 (0x12 ∷ (method0 ++ (0x12 ∷ []))) (4 ∷ 12 ∷ [])
+    ∷ after 1 1 0 0 (pass0 ++ (0x12 ∷ [])) (4 ∷ 5 ∷ [])
+    ∷ after 0 0 0 0 (pairBytes ++ (0x12 ∷ [])) (4 ∷ 6 ∷ [])
+    ∷ after 0 0 0 0 (0x0E ∷ 0x12 ∷ []) (4 ∷ 1 ∷ [])
+    -- it is no condition, and no symbol or item of one
+    ∷ after 256 0 0 0 (0x12 ∷ []) (9 ∷ 1 ∷ [])
+    ∷ after 255 0 0 0 (0x12 ∷ 0x02 ∷ 0x06 ∷ []) (9 ∷ 3 ∷ [])
+    ∷ after 0 0 0 0 (0x12 ∷ replicate 96 0x02) (8 ∷ 97 ∷ [])
+    ∷ after 0 0 0 0 (0x12 ∷ 0x06 ∷ []) (5 ∷ 1 ∷ [])
+    ∷ []
+
+mark-rows-are-so : map (λ x. numberAndPlace (readFrom large (startingFrom (x .before)) (x .bytes))) markRows ≡ map (λ x. x .refused) markRows
+unfolding readFrom
+mark-rows-are-so = refl
+
+-- a sheet of the new edition with a method, before what is given
+abbrev newly : List ℕ → List ℕ
+newly s = 0x12 ∷ (method0 ++ s)
+
+abbrev stopRows : List Row
+stopRows =
+    -- "20 when kind 19 stands in an old sheet, at its record"
+    after 1 1 0 0 (method0 ++ stop 0) (20 ∷ 11 ∷ [])
+    ∷ after 1 1 0 0 (newly (stop 0)) []
+    -- "a sheet of the new edition begins with a record of kind 18": a byte 18 elsewhere makes none
+    ∷ after 1 1 0 0 (0x01 ∷ 0x12 ∷ 0 ∷ 0 ∷ 0 ∷ 0x06 ∷ (method0 ++ stop 0)) (20 ∷ 17 ∷ [])
+    ∷ after 1 19 1 0 (stop 18) (20 ∷ 0 ∷ [])
+    -- 3 and 4 before 20
+    ∷ after 1 1 1 0 (0x13 ∷ 0 ∷ []) (3 ∷ 0 ∷ [])
+    ∷ after 1 1 1 0 (0x02 ∷ stop 0) (4 ∷ 1 ∷ [])
+    ∷ after 1 1 1 0 (0x0E ∷ stop 0) (4 ∷ 1 ∷ [])
+    -- 20 before 6, 7 and both, and in a new sheet 6, 7 and 6
+    ∷ after 1 1 1 512 (stop 0) (20 ∷ 0 ∷ [])
+    ∷ after 1 1 1 0 (stop 1) (20 ∷ 0 ∷ [])
+    ∷ after 1 1 1 512 (stop 1) (20 ∷ 0 ∷ [])
+    ∷ after 1 1 0 512 (newly (stop 0)) (6 ∷ 12 ∷ [])
+    ∷ after 1 1 0 0 (newly (stop 1)) (7 ∷ 12 ∷ [])
+    ∷ after 1 1 0 512 (newly (stop 1)) (6 ∷ 12 ∷ [])
+    -- "512 steps": a stop counts among them; its point is the last one
+    ∷ after 1 1 0 511 (newly (stop 0)) []
+    ∷ after 1 1 0 511 (newly (stop 0 ++ pass0)) (6 ∷ 15 ∷ [])
+    ∷ after 1 2 0 0 (newly (stop 1)) []
+    -- "among the steps", in a new sheet too
+    ∷ after 1 1 0 0 (newly (stop 0 ++ method0)) (4 ∷ 15 ∷ [])
+    ∷ after 1 1 0 0 (newly (stop 0 ++ (0x0E ∷ stop 0))) (4 ∷ 16 ∷ [])
+    ∷ after 1 1 0 0 (newly (0x13 ∷ 0 ∷ [])) (3 ∷ 12 ∷ [])
+    ∷ []
+
+stop-rows-are-so : map (λ x. numberAndPlace (readFrom large (startingFrom (x .before)) (x .bytes))) stopRows ≡ map (λ x. x .refused) stopRows
+unfolding readFrom
+stop-rows-are-so = refl
+
+-- an instrument that takes no kind above 17: 2 at each record of kind 18 or 19, before 3, 4, 19 and 20
+abbrev formerRows : List Row
+formerRows =
+    after 1 1 0 0 (newly (stop 0)) (2 ∷ 0 ∷ [])
+    ∷ after 0 0 0 0 (0x02 ∷ 0x06 ∷ 0x12 ∷ []) (2 ∷ 2 ∷ [])
+    ∷ after 0 0 0 0 (0x02 ∷ 0x12 ∷ []) (2 ∷ 1 ∷ [])
+    ∷ after 1 1 0 0 (method0 ++ stop 0) (2 ∷ 11 ∷ [])
+    ∷ after 1 1 1 0 (0x13 ∷ []) (2 ∷ 0 ∷ [])
+    ∷ after 1 1 0 0 (failingMethod0 ++ failingCall 0) []
+    ∷ []
+
+former-rows-are-so : map (λ x. numberAndPlace (readFrom (withKinds 17 large) (startingFrom (x .before)) (x .bytes))) formerRows ≡ map (λ x. x .refused) formerRows
+unfolding readFrom
+former-rows-are-so = refl
