@@ -1,6 +1,6 @@
 -- Records, sheets and readings by evaluation: the table of kinds, the fields of a record of each kind and what they stand for, a sheet, each limit at its
--- last and at one more, the order of sections, refusals of one record in their order, what was counted before a refusal, other instruments' limits,
--- methods with two outcomes and their calls, and sheets of the new edition.
+-- last and at one more, the order of sections, refusals of one record in their order, what was counted before a refusal, other instruments' limits, and
+-- methods with two outcomes and their calls.
 use mathlib.Core.Path.{_≡_, refl}
 use mathlib.Core.Bool.{true, false}
 use mathlib.Core.Option.{Option, none, some}
@@ -67,10 +67,10 @@ stepBytes =
     ∷ (0x13 ∷ 0x01 ∷ 0x11 ∷ [])
     ∷ []
 
-abbrev pairBytes : List ℕ
+abbrev pub pairBytes : List ℕ
 pairBytes = 0x0D ∷ 0x05 ∷ 0x01 ∷ 0x02 ∷ 0x03 ∷ 0x04 ∷ []
 
-abbrev with : ℕ → List ℕ → Record
+abbrev pub with : ℕ → List ℕ → Record
 with kind values = record { at = 0; kind = kind; values = values }
 
 fields-are-so : map (λ (s : List ℕ). recordAt s 0) (leafBytes ∷ (0x03 ∷ []) ∷ pointBytes ∷ methodBytes ∷ pairBytes ∷ [])
@@ -83,17 +83,17 @@ point-is-so : pointOf (recordAt pointBytes 0) ≡ record { past = 0x1101; own = 
 unfolding recordAt
 point-is-so = refl
 
-abbrev declared : ℕ → ℕ → Declared
+abbrev pub declared : ℕ → ℕ → Declared
 declared trace future = record { trace = trace; future = future }
 
 -- with one outcome, and with two
-abbrev oneOutcome : ℕ → Declared → Option Body → Method
+abbrev pub oneOutcome : ℕ → Declared → Option Body → Method
 oneOutcome pre normal body = record { pre = pre; normal = normal; failing = none; body = body }
 
 abbrev twoOutcomes : ℕ → Declared → Declared → Option Body → Method
 twoOutcomes pre normal failing body = record { pre = pre; normal = normal; failing = some failing; body = body }
 
-abbrev body : ℕ → ℕ → Option ℕ → Option Body
+abbrev pub body : ℕ → ℕ → Option ℕ → Option Body
 body entry exit failed-exit = some (record { entry = entry; exit = exit; failed-exit = failed-exit })
 
 methods-are-so : map (λ (s : List ℕ). methodOf (recordAt s 0)) (primitiveBytes ∷ methodBytes ∷ failingPrimitiveBytes ∷ failingMethodBytes ∷ [])
@@ -136,7 +136,7 @@ unfolding sheetOf
 small-is-so = refl
 
 -- where its conditions, points, methods, steps and certificates start
-starts : ReadResult → List (List ℕ)
+unfoldable pub starts : ReadResult → List (List ℕ)
 starts x = map (λ (k : ℕ). startsOf (stateOf x .own k)) (1 ∷ 2 ∷ 3 ∷ 4 ∷ 5 ∷ [])
 
 small-starts : starts (readSheet large small)
@@ -147,36 +147,36 @@ small-starts = refl
 -- Readings --------------------------------------------------------------------------------------------------------------
 
 -- bytes that are read behind others, and the number and the place of the refusal, neither where there is none
-record Row : Type 0 where
-  before : ℕ → List Counted
-  bytes : List ℕ
-  refused : List ℕ
+pub record Row : Type 0 where
+  pub before : ℕ → List Counted
+  pub bytes : List ℕ
+  pub refused : List ℕ
 
-abbrev numberAndPlace : ReadResult → List ℕ
+abbrev pub numberAndPlace : ReadResult → List ℕ
 numberAndPlace (whole r) = []
 numberAndPlace (refusal n at r) = n ∷ at ∷ []
 
 -- with as many conditions, points, methods and steps before
-abbrev after : ℕ → ℕ → ℕ → ℕ → List ℕ → List ℕ → Row
+abbrev pub after : ℕ → ℕ → ℕ → ℕ → List ℕ → List ℕ → Row
 after c p m t s refused = record { before = λ k. replicate (getD (0 ∷ c ∷ p ∷ m ∷ t ∷ []) k 0) one; bytes = s; refused = refused }
   where
     one : Counted
     one = record { last = with 0 []; opened = nothing }
 
-abbrev times : ℕ → List ℕ → List ℕ
+abbrev pub times : ℕ → List ℕ → List ℕ
 times zero s = []
 times (suc n) s = s ++ times n s
 
 abbrev leafOf0 : List ℕ
 leafOf0 = 0x01 ∷ 0x01 ∷ 0x00 ∷ 0x00 ∷ 0x00 ∷ []
 
-abbrev point0 : List ℕ
+abbrev pub point0 : List ℕ
 point0 = 0x07 ∷ 0 ∷ 0 ∷ 0 ∷ 0 ∷ 0 ∷ 0 ∷ []
 
-abbrev method0 : List ℕ
+abbrev pub method0 : List ℕ
 method0 = 0x09 ∷ 0 ∷ 0 ∷ 0 ∷ 0 ∷ 0 ∷ 0 ∷ 0 ∷ 0 ∷ 0 ∷ 0 ∷ []
 
-abbrev pass0 : List ℕ
+abbrev pub pass0 : List ℕ
 pass0 = 0x0C ∷ 0 ∷ 0 ∷ 0 ∷ 0 ∷ []
 
 -- a point, and a primitive, that name condition 1
@@ -351,11 +351,11 @@ entry-no-larger = record { bytes = omega arith; points = omega arith; events = r
 -- Two outcomes ----------------------------------------------------------------------------------------------------------
 
 -- a record of names below 256
-abbrev shorts : List ℕ → List ℕ
+abbrev pub shorts : List ℕ → List ℕ
 shorts [] = []
 shorts (v ∷ vs) = v ∷ 0 ∷ shorts vs
 
-abbrev naming : ℕ → List ℕ → List ℕ
+abbrev pub naming : ℕ → List ℕ → List ℕ
 naming kind names = kind ∷ shorts names
 
 -- five conditions, three points, a method and a primitive with two outcomes, a method with one, and calls of each
@@ -399,13 +399,13 @@ behind kinds s refused = record { before = counts 1 1 kinds; bytes = s; refused 
 abbrev call : ℕ → List ℕ
 call m = naming 0x0B (0 ∷ 0 ∷ m ∷ [])
 
-abbrev failingCall : ℕ → List ℕ
+abbrev pub failingCall : ℕ → List ℕ
 failingCall m = naming 0x11 (0 ∷ 0 ∷ 0 ∷ m ∷ [])
 
 abbrev failingPrimitive0 : List ℕ
 failingPrimitive0 = naming 0x0F (replicate 5 0)
 
-abbrev failingMethod0 : List ℕ
+abbrev pub failingMethod0 : List ℕ
 failingMethod0 = naming 0x10 (replicate 8 0)
 
 abbrev outcomeRows : List Row
@@ -502,116 +502,3 @@ older-no-larger = record { bytes = omega arith; points = omega arith; events = r
 
 larger-than-older : NoLarger large (withKinds 14 large) → ⊥
 larger-than-older n = omega (arith, n .kinds)
-
--- Editions --------------------------------------------------------------------------------------------------------------
-
-abbrev stop : ℕ → List ℕ
-stop p = naming 0x13 (p ∷ [])
-
--- "A sheet of the new edition begins with a record of kind 18": two conditions, two points, a method, a stop between two passes
-abbrev newSheet : List ℕ
-newSheet = 0x12 ∷ (times 2 (0x02 ∷ 0x06 ∷ []) ++ (times 2 point0 ++ (method0 ++ (pass0 ++ (stop 1 ++ pass0)))))
-
-new-sheet-is-so : sheetOf large newSheet
-    ≡ record {
-      conditions = replicate 2 empty;
-      points = replicate 2 (record { past = 0; own = 0; due = 0 });
-      methods = oneOutcome 0 (declared 0 0) (body 0 0 none) ∷ [];
-      steps = pass-step 0 0 ∷ stop-step 1 ∷ pass-step 0 0 ∷ [];
-      certificates = [];
-      new = true;
-    }
-unfolding sheetOf
-new-sheet-is-so = refl
-
--- its first condition starts behind the mark
-new-sheet-starts : starts (readSheet large newSheet) ≡ (1 ∷ 3 ∷ []) ∷ (5 ∷ 12 ∷ []) ∷ (19 ∷ []) ∷ (30 ∷ 35 ∷ 38 ∷ []) ∷ [] ∷ []
-unfolding starts readSheet
-new-sheet-starts = refl
-
--- bytes that are refused stand for an old sheet, also where they begin with the mark
-refused-is-old : sheetOf large (0x12 ∷ []) .new ≡ false
-unfolding sheetOf
-refused-is-old = refl
-
-abbrev markRows : List Row
-markRows =
-    -- alone, before a condition that is open at the end, and before a sheet
-    after 0 0 0 0 (0x12 ∷ []) (9 ∷ 1 ∷ [])
-    ∷ after 0 0 0 0 (0x12 ∷ 0x02 ∷ []) (8 ∷ 2 ∷ [])
-    ∷ after 1 1 0 0 (0x12 ∷ method0) []
-    -- "19 when kind 18 is not first": twice, between two conditions and behind the last one, also in an old sheet
-    ∷ after 0 0 0 0 (0x12 ∷ 0x12 ∷ []) (19 ∷ 1 ∷ [])
-    ∷ after 0 0 0 0 (0x12 ∷ 0x02 ∷ 0x06 ∷ 0x12 ∷ 0x02 ∷ 0x06 ∷ []) (19 ∷ 3 ∷ [])
-    ∷ after 0 0 0 0 (0x02 ∷ 0x06 ∷ 0x12 ∷ 0x02 ∷ 0x06 ∷ []) (19 ∷ 2 ∷ [])
-    ∷ after 1 0 0 0 (0x02 ∷ 0x06 ∷ 0x12 ∷ point0) (19 ∷ 2 ∷ [])
-    -- "after 4": inside a condition, and behind a point, a method, a step, a pair and a certificate
-    ∷ after 0 0 0 0 (0x12 ∷ 0x02 ∷ 0x12 ∷ []) (4 ∷ 2 ∷ [])
-    ∷ after 0 0 0 0 (0x02 ∷ 0x12 ∷ []) (4 ∷ 1 ∷ [])
-    ∷ after 1 0 0 0 (point0 ++ (0x12 ∷ [])) (4 ∷ 7 ∷ [])
-    ∷ after 1 1 0 0 (0x12 ∷ (method0 ++ (0x12 ∷ []))) (4 ∷ 12 ∷ [])
-    ∷ after 1 1 0 0 (pass0 ++ (0x12 ∷ [])) (4 ∷ 5 ∷ [])
-    ∷ after 0 0 0 0 (pairBytes ++ (0x12 ∷ [])) (4 ∷ 6 ∷ [])
-    ∷ after 0 0 0 0 (0x0E ∷ 0x12 ∷ []) (4 ∷ 1 ∷ [])
-    -- it is no condition, and no symbol or item of one
-    ∷ after 256 0 0 0 (0x12 ∷ []) (9 ∷ 1 ∷ [])
-    ∷ after 255 0 0 0 (0x12 ∷ 0x02 ∷ 0x06 ∷ []) (9 ∷ 3 ∷ [])
-    ∷ after 0 0 0 0 (0x12 ∷ replicate 96 0x02) (8 ∷ 97 ∷ [])
-    ∷ after 0 0 0 0 (0x12 ∷ 0x06 ∷ []) (5 ∷ 1 ∷ [])
-    ∷ []
-
-mark-rows-are-so : map (λ x. numberAndPlace (readFrom large (startingFrom (x .before)) (x .bytes))) markRows ≡ map (λ x. x .refused) markRows
-unfolding readFrom
-mark-rows-are-so = refl
-
--- a sheet of the new edition with a method, before what is given
-abbrev newly : List ℕ → List ℕ
-newly s = 0x12 ∷ (method0 ++ s)
-
-abbrev stopRows : List Row
-stopRows =
-    -- "20 when kind 19 stands in an old sheet, at its record"
-    after 1 1 0 0 (method0 ++ stop 0) (20 ∷ 11 ∷ [])
-    ∷ after 1 1 0 0 (newly (stop 0)) []
-    -- "a sheet of the new edition begins with a record of kind 18": a byte 18 elsewhere makes none
-    ∷ after 1 1 0 0 (0x01 ∷ 0x12 ∷ 0 ∷ 0 ∷ 0 ∷ 0x06 ∷ (method0 ++ stop 0)) (20 ∷ 17 ∷ [])
-    ∷ after 1 19 1 0 (stop 18) (20 ∷ 0 ∷ [])
-    -- 3 and 4 before 20
-    ∷ after 1 1 1 0 (0x13 ∷ 0 ∷ []) (3 ∷ 0 ∷ [])
-    ∷ after 1 1 1 0 (0x02 ∷ stop 0) (4 ∷ 1 ∷ [])
-    ∷ after 1 1 1 0 (0x0E ∷ stop 0) (4 ∷ 1 ∷ [])
-    -- 20 before 6, 7 and both, and in a new sheet 6, 7 and 6
-    ∷ after 1 1 1 512 (stop 0) (20 ∷ 0 ∷ [])
-    ∷ after 1 1 1 0 (stop 1) (20 ∷ 0 ∷ [])
-    ∷ after 1 1 1 512 (stop 1) (20 ∷ 0 ∷ [])
-    ∷ after 1 1 0 512 (newly (stop 0)) (6 ∷ 12 ∷ [])
-    ∷ after 1 1 0 0 (newly (stop 1)) (7 ∷ 12 ∷ [])
-    ∷ after 1 1 0 512 (newly (stop 1)) (6 ∷ 12 ∷ [])
-    -- "512 steps": a stop counts among them; its point is the last one
-    ∷ after 1 1 0 511 (newly (stop 0)) []
-    ∷ after 1 1 0 511 (newly (stop 0 ++ pass0)) (6 ∷ 15 ∷ [])
-    ∷ after 1 2 0 0 (newly (stop 1)) []
-    -- "among the steps", in a new sheet too
-    ∷ after 1 1 0 0 (newly (stop 0 ++ method0)) (4 ∷ 15 ∷ [])
-    ∷ after 1 1 0 0 (newly (stop 0 ++ (0x0E ∷ stop 0))) (4 ∷ 16 ∷ [])
-    ∷ after 1 1 0 0 (newly (0x13 ∷ 0 ∷ [])) (3 ∷ 12 ∷ [])
-    ∷ []
-
-stop-rows-are-so : map (λ x. numberAndPlace (readFrom large (startingFrom (x .before)) (x .bytes))) stopRows ≡ map (λ x. x .refused) stopRows
-unfolding readFrom
-stop-rows-are-so = refl
-
--- an instrument that takes no kind above 17: 2 at each record of kind 18 or 19, before 3, 4, 19 and 20
-abbrev formerRows : List Row
-formerRows =
-    after 1 1 0 0 (newly (stop 0)) (2 ∷ 0 ∷ [])
-    ∷ after 0 0 0 0 (0x02 ∷ 0x06 ∷ 0x12 ∷ []) (2 ∷ 2 ∷ [])
-    ∷ after 0 0 0 0 (0x02 ∷ 0x12 ∷ []) (2 ∷ 1 ∷ [])
-    ∷ after 1 1 0 0 (method0 ++ stop 0) (2 ∷ 11 ∷ [])
-    ∷ after 1 1 1 0 (0x13 ∷ []) (2 ∷ 0 ∷ [])
-    ∷ after 1 1 0 0 (failingMethod0 ++ failingCall 0) []
-    ∷ []
-
-former-rows-are-so : map (λ x. numberAndPlace (readFrom (withKinds 17 large) (startingFrom (x .before)) (x .bytes))) formerRows ≡ map (λ x. x .refused) formerRows
-unfolding readFrom
-former-rows-are-so = refl

@@ -8,7 +8,7 @@ use Rattle.sheet.specs.Kind.{Field, a-set, an-event, a-place, a-name, wi
 use Rattle.sheet.specs.Record.{Bytes, byteAt, numberAt, valuesAt}
 use Rattle.sheet.specs.AtOffset.{shortAt, setAt}
 -- checked before the proofs
-use Rattle.sheet.proofs.Examples
+use Rattle.sheet.proofs.EditionExamples
 
 module _ (s : List ℕ) where
   pub byte-is : (i : ℕ) → byteAt s i ≡ getD s i 0

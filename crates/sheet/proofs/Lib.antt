@@ -1,4 +1,5 @@
 pub mod Examples
+mod EditionExamples
 pub mod Each
 pub mod Fields
 pub mod Take

@@ -1,6 +1,6 @@
 -- Sheets in which a name does not exist: `NamesExist` does not hold of them. Each differs in one name from a sheet of which it holds. And a step with
--- an event that the instrument has not, a primitive, and outcomes that do not fit.
-use mathlib.Core.Path.{_≡_}
+-- an event that the instrument has not, a primitive, outcomes that do not fit, and a stop in an old sheet.
+use mathlib.Core.Path.{_≡_, refl}
 use mathlib.Core.Bool.{true, false}
 use mathlib.Core.Option.{Option, none, some}
 use mathlib.Core.List.{[], _∷_}
@@ -8,8 +8,8 @@ use Prim.Native.Nat.{ℕ}
 use native.Mathlib.Omega.{arith}
 use Rattle.condition.specs.Condition.{empty}
 use Rattle.sheet.specs.Each.{nil, cons}
-use Rattle.sheet.specs.Sheet.{Outcome, normal, failed, Point, Declared, Body, Method, Step, event-step, callFrom, failingCallFrom, pass-step, Sheet, declaredFor}
-use Rattle.sheet.specs.Names.{PointNamed, BodyNamed, DeclaredNamed, MethodNamed, StepNamed, NamesExist, HasBody, ExitsFit, TargetsFit, OutcomesFit, EventBelow}
+use Rattle.sheet.specs.Sheet.{Outcome, normal, failed, Point, Declared, Body, Method, Step, event-step, callFrom, failingCallFrom, pass-step, stop-step, Sheet, declaredFor}
+use Rattle.sheet.specs.Names.{PointNamed, BodyNamed, DeclaredNamed, MethodNamed, StepNamed, NamesExist, HasBody, ExitsFit, TargetsFit, OutcomesFit, EventBelow, StopFits}
 use Rattle.sheet.proofs.Each.{each-head}
 
 -- one condition, and the point, the method and the step that are given; so each name that exists is 0
@@ -61,12 +61,14 @@ all-exist : NamesExist (sheet (point 0 0 0) (method 0 0 0 0 0) (event-step 0 0 3
     × NamesExist (sheet (point 0 0 0) (method 0 0 0 0 0) (pass-step 0 0))
     × NamesExist (sheet (point 0 0 0) (failingMethod 0 0 0) (failingCallFrom 0 0 0 0))
     × NamesExist (sheet (point 0 0 0) (failingPrimitive 0 0) (failingCallFrom 0 0 0 0))
+    × NamesExist (sheet (point 0 0 0) (method 0 0 0 0 0) (stop-step 0))
 all-exist = (
   all-named (point 0 0 0) (method 0 0 0 0 0) (event-step 0 0 31) (omega arith) (one-outcome _ (omega arith)) (omega arith),
   all-named (point 0 0 0) (primitive 0 0 0) (callFrom 0 0 0) (omega arith) (one-outcome none tt) (omega arith),
   all-named (point 0 0 0) (method 0 0 0 0 0) (pass-step 0 0) (omega arith) (one-outcome _ (omega arith)) (omega arith),
   all-named (point 0 0 0) (failingMethod 0 0 0) (failingCallFrom 0 0 0 0) (omega arith) (two-outcomes _ (omega arith)) (omega arith),
   all-named (point 0 0 0) (failingPrimitive 0 0) (failingCallFrom 0 0 0 0) (omega arith) (two-outcomes none tt) (omega arith),
+  all-named (point 0 0 0) (method 0 0 0 0 0) (stop-step 0) (omega arith) (one-outcome _ (omega arith)) (omega arith),
 )
 
 -- one name does not
@@ -134,6 +136,9 @@ no-pass-from n = omega (arith, each-head (n .steps-named))
 no-pass-to : NamesExist (sheet (point 0 0 0) (method 0 0 0 0 0) (pass-step 0 1)) → ⊥
 no-pass-to n = omega (arith, each-head (n .steps-named))
 
+no-stop-from : NamesExist (sheet (point 0 0 0) (method 0 0 0 0 0) (stop-step 1)) → ⊥
+no-stop-from n = omega (arith, each-head (n .steps-named))
+
 -- of 32 events 31 is the last; a method has a body, and a primitive has none
 no-event : EventBelow 32 (event-step 0 0 32) → ⊥
 no-event e = omega (arith, e)
@@ -183,3 +188,12 @@ stray-exit f = each-head (f .exits-fit)
 
 no-exit-for-failing : OutcomesFit (sheet (point 0 0 0) (withExit (some (declared 0 0)) none) (pass-step 0 0)) → false ≡ true
 no-exit-for-failing f = each-head (f .exits-fit)
+
+-- Editions --------------------------------------------------------------------------------------------------------------
+
+-- what 20 is for
+stop-in-new : StopFits true (stop-step 0)
+stop-in-new = refl
+
+stop-in-old : StopFits false (stop-step 0) → false ≡ true
+stop-in-old f = f
