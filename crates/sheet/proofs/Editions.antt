@@ -1,7 +1,7 @@
 -- Editions: document 02, Ask 4. The mark, which is the record of kind 18, is taken where it is first and refused elsewhere; a sheet that is read whole is
 -- of the new edition exactly if its first byte is 18, and else has no stop.
 use mathlib.Core.Path.{_≡_, refl, sym, ap, _∙_, subst}
-use mathlib.Core.Bool.{Bool, true, false, not, cond, _&&_}
+use mathlib.Core.Bool.{Bool, true, false, not, cond}
 use mathlib.Core.Logic.{_↔_}
 use mathlib.Core.List.{List, [], _∷_}
 use Prim.Native.Nat.{ℕ, suc, _≤_, _<_}
