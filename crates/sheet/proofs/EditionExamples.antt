@@ -65,10 +65,7 @@ markRows =
     ∷ after 1 1 0 0 (pass0 ++ (0x12 ∷ [])) (4 ∷ 5 ∷ [])
     ∷ after 0 0 0 0 (pairBytes ++ (0x12 ∷ [])) (4 ∷ 6 ∷ [])
     ∷ after 0 0 0 0 (0x0E ∷ 0x12 ∷ []) (4 ∷ 1 ∷ [])
-    -- it is no condition, and no symbol or item of one
-    ∷ after 256 0 0 0 (0x12 ∷ []) (9 ∷ 1 ∷ [])
-    ∷ after 255 0 0 0 (0x12 ∷ 0x02 ∷ 0x06 ∷ []) (9 ∷ 3 ∷ [])
-    ∷ after 0 0 0 0 (0x12 ∷ replicate 96 0x02) (8 ∷ 97 ∷ [])
+    -- it is no item of a condition
     ∷ after 0 0 0 0 (0x12 ∷ 0x06 ∷ []) (5 ∷ 1 ∷ [])
     ∷ []
 
@@ -94,16 +91,9 @@ stopRows =
     ∷ after 1 1 1 0 (0x13 ∷ 0 ∷ []) (3 ∷ 0 ∷ [])
     ∷ after 1 1 1 0 (0x02 ∷ stop 0) (4 ∷ 1 ∷ [])
     ∷ after 1 1 1 0 (0x0E ∷ stop 0) (4 ∷ 1 ∷ [])
-    -- 20 before 6, 7 and both, and in a new sheet 6, 7 and 6
-    ∷ after 1 1 1 512 (stop 0) (20 ∷ 0 ∷ [])
+    -- 20 before 7, and in a new sheet 7; a stop at the last point
     ∷ after 1 1 1 0 (stop 1) (20 ∷ 0 ∷ [])
-    ∷ after 1 1 1 512 (stop 1) (20 ∷ 0 ∷ [])
-    ∷ after 1 1 0 512 (newly (stop 0)) (6 ∷ 12 ∷ [])
     ∷ after 1 1 0 0 (newly (stop 1)) (7 ∷ 12 ∷ [])
-    ∷ after 1 1 0 512 (newly (stop 1)) (6 ∷ 12 ∷ [])
-    -- "512 steps": a stop counts among them; its point is the last one
-    ∷ after 1 1 0 511 (newly (stop 0)) []
-    ∷ after 1 1 0 511 (newly (stop 0 ++ pass0)) (6 ∷ 15 ∷ [])
     ∷ after 1 2 0 0 (newly (stop 1)) []
     -- "among the steps", in a new sheet too
     ∷ after 1 1 0 0 (newly (stop 0 ++ method0)) (4 ∷ 15 ∷ [])
@@ -114,6 +104,32 @@ stopRows =
 stop-rows-are-so : map (λ x. numberAndPlace (readFrom large (startingFrom (x .before)) (x .bytes))) stopRows ≡ map (λ x. x .refused) stopRows
 unfolding readFrom
 stop-rows-are-so = refl
+
+-- Limits ----------------------------------------------------------------------------------------------------------------
+
+abbrev limitRows : List Row
+limitRows =
+    -- "256 conditions": the mark is none of them
+    after 256 0 0 0 (0x12 ∷ []) (9 ∷ 1 ∷ [])
+    ∷ after 255 0 0 0 (0x12 ∷ 0x02 ∷ 0x06 ∷ []) (9 ∷ 3 ∷ [])
+    -- "512 steps": a stop is one of them
+    ∷ after 1 1 0 511 (newly (stop 0)) []
+    ∷ after 1 1 0 511 (newly (stop 0 ++ pass0)) (6 ∷ 15 ∷ [])
+    -- 20 before 6, and before 6 and 7; in a new sheet 6
+    ∷ after 1 1 1 512 (stop 0) (20 ∷ 0 ∷ [])
+    ∷ after 1 1 1 512 (stop 1) (20 ∷ 0 ∷ [])
+    ∷ after 1 1 0 512 (newly (stop 0)) (6 ∷ 12 ∷ [])
+    ∷ after 1 1 0 512 (newly (stop 1)) (6 ∷ 12 ∷ [])
+    ∷ []
+
+limit-rows-are-so : map (λ x. numberAndPlace (readFrom large (startingFrom (x .before)) (x .bytes))) limitRows ≡ map (λ x. x .refused) limitRows
+unfolding readFrom
+limit-rows-are-so = refl
+
+-- "96 records of kinds 1-5": nor is it one of these
+symbols-behind-mark : numberAndPlace (readSheet large (0x12 ∷ replicate 96 0x02)) ≡ 8 ∷ 97 ∷ []
+unfolding readSheet
+symbols-behind-mark = refl
 
 -- Neither ---------------------------------------------------------------------------------------------------------------
 
