@@ -87,8 +87,9 @@ stopRows =
     -- "a sheet of the new edition begins with a record of kind 18": a byte 18 elsewhere makes none
     ∷ after 1 1 0 0 (0x01 ∷ 0x12 ∷ 0 ∷ 0 ∷ 0 ∷ 0x06 ∷ (method0 ++ stop 0)) (20 ∷ 17 ∷ [])
     ∷ after 1 19 1 0 (stop 18) (20 ∷ 0 ∷ [])
-    -- 3 and 4 before 20
+    -- 3 before 4 and 20, 4 before 20; 19, 5, 9 and 18 apply to no stop
     ∷ after 1 1 1 0 (0x13 ∷ 0 ∷ []) (3 ∷ 0 ∷ [])
+    ∷ after 1 1 1 0 (0x0E ∷ 0x13 ∷ 0 ∷ []) (3 ∷ 1 ∷ [])
     ∷ after 1 1 1 0 (0x02 ∷ stop 0) (4 ∷ 1 ∷ [])
     ∷ after 1 1 1 0 (0x0E ∷ stop 0) (4 ∷ 1 ∷ [])
     -- 20 before 7, and in a new sheet 7; a stop at the last point

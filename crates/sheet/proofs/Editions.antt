@@ -1,7 +1,7 @@
 -- Editions: document 02, Ask 4. The mark, which is the record of kind 18, is taken where it is first and refused elsewhere; a sheet that is read whole is
 -- of the new edition exactly if its first byte is 18, and else has no stop.
-use mathlib.Core.Path.{_≡_, refl, sym, ap, _∙_, subst}
-use mathlib.Core.Bool.{Bool, true, false, not, cond}
+use mathlib.Core.Path.{_≡_, sym, ap, _∙_, subst}
+use mathlib.Core.Bool.{true, false, not}
 use mathlib.Core.Logic.{_↔_}
 use mathlib.Core.List.{List, [], _∷_}
 use Prim.Native.Nat.{ℕ, suc, _≤_, _<_}
@@ -11,9 +11,9 @@ use lib.Dec.{T, eqb, ltb}
 use borrow.Author.Tests.{eqb-true, eq-eqb, ne-eqb, lt-ltb, le-ltb, ltb-false, not-false}
 use Rattle.sheet.specs.Model.{Model}
 use Rattle.sheet.specs.Each.{Each}
-use Rattle.sheet.specs.Sheet.{Step, event-step, call-step, callFrom, failingCallFrom, pass-step, stop-step, Sheet}
+use Rattle.sheet.specs.Sheet.{Step, event-step, call-step, pass-step, stop-step, Sheet}
 use Rattle.sheet.specs.Kind.{conditions, bodyLength, kindOf}
-use Rattle.sheet.specs.Record.{Record, byteAt, recordAt, nextAt, value}
+use Rattle.sheet.specs.Record.{byteAt, recordAt, nextAt}
 use Rattle.sheet.specs.Reading.{Opened, nothing, Counted, Reading, isNew, openedPast, ownPast, refusalOf, pastAt, whole, readSheet}
 use Rattle.sheet.specs.Decode.{stepOf, sheetOf}
 use Rattle.sheet.specs.Names.{StopFits}
@@ -22,15 +22,16 @@ use Rattle.sheet.proofs.Take.{or-false, and-false, next-is, Took}
 use Rattle.sheet.proofs.Order.{is-2, is-3, is-4, nineteen}
 use Rattle.sheet.proofs.ReadOn.{first-taken}
 use Rattle.sheet.proofs.Own.{counted, each-own}
+use Rattle.sheet.proofs.Kind.{step-cases}
 use Rattle.sheet.proofs.SheetOf.{sheet-is}
 
 -- The mark ----------------------------------------------------------------------------------------------------------------
 
 -- a byte that is not 0 is inside the sheet
-byte-inside : (s : List ℕ) → byteAt s 0 ≡ 18 → 0 < length s
+byte-inside : (s : List ℕ) → 0 < byteAt s 0 → 0 < length s
 unfolding byteAt
-byte-inside [] e = absurd (omega (arith, e))
-byte-inside (b ∷ s) e = omega arith
+byte-inside [] h = h
+byte-inside (b ∷ s) h = omega arith
 
 module _ (s : List ℕ) (at : ℕ) (mark : byteAt s at ≡ 18) where
   -- it has no body
@@ -59,7 +60,7 @@ pub mark-taken : (M : Model) (s : List ℕ) (r : Reading) → byteAt s 0 ≡ 18 
     → refusalOf M s 0 r ≡ 0
 unfolding recordAt
 mark-taken M s r mark known first closed =
-    let inside : nextAt s 0 ≤ length s = omega (arith, mark-next s 0 mark, byte-inside s mark) in
+    let inside : nextAt s 0 ≤ length s = omega (arith, mark-next s 0 mark, byte-inside s (omega (arith, mark))) in
     let none-open : eqb (r .opened .section) 1 ≡ false = ap (λ (o : Opened). eqb (o .section) 1) closed in
     rw (mark, le-ltb (M .kinds) 18 known, le-ltb (length s) (nextAt s 0) inside, le-ltb 1 (r .section) first, none-open)
 
@@ -72,26 +73,12 @@ NoStop (call-step c) = Unit {0}
 NoStop (pass-step p q) = Unit {0}
 NoStop (stop-step p) = ⊥
 
--- the step of a record, which is a stop only if its kind is 19
-stop-fits : (new : Bool) (x : Record) → (eqb (x .kind) 19 ≡ true → new ≡ true) → StopFits new (stepOf x)
-stop-fits new x = go (eqb (x .kind) 10) (eqb (x .kind) 11) (eqb (x .kind) 17) (eqb (x .kind) 19)
-  where
-    go : (b10 b11 b17 b19 : Bool) → (b19 ≡ true → new ≡ true)
-        → StopFits new
-        (cond b10 (event-step (value x 0) (value x 1) (value x 2))
-        (cond b11 (callFrom (value x 0) (value x 1) (value x 2))
-        (cond b17 (failingCallFrom (value x 0) (value x 1) (value x 2) (value x 3))
-        (cond b19 (stop-step (value x 0)) (pass-step (value x 0) (value x 1))))))
-    go true b11 b17 b19 h = tt
-    go false true b17 b19 h = tt
-    go false false true b19 h = tt
-    go false false false true h = h refl
-    go false false false false h = tt
-
 -- not 20
 fits-now : (M : Model) (s : List ℕ) (at : ℕ) (r : Reading) → Took M s at r → StopFits (isNew s) (stepOf (recordAt s at))
 unfolding recordAt
-fits-now M s at r w = stop-fits (isNew s) (recordAt s at) (λ e. not-false (isNew s) (and-false (eqb (byteAt s at) 19) (not (isNew s)) (w .stops-new) e))
+fits-now M s at r w =
+    step-cases (StopFits (isNew s)) (recordAt s at) tt (λ e. tt) (λ e. tt)
+    (λ e. not-false (isNew s) (and-false (eqb (byteAt s at) 19) (not (isNew s)) (w .stops-new) e)) tt
 
 module _ (M : Model) (s : List ℕ) (r : Reading) (h : readSheet M s ≡ whole r) where
   pub new-is : sheetOf M s .new ≡ isNew s

@@ -12,7 +12,7 @@ use Rattle.condition.specs.Condition.{Condition, join, either, star, noWord}
 use Rattle.certificate.specs.Certificate.{pair}
 use Rattle.sheet.specs.Kind.{a-set, Role, symbol, a-pair, counts, edition, Kind, a-kind, kinds, kindOf, sectionOf}
 use Rattle.sheet.specs.Record.{Record, byteAt, valuesAt, recordAt, value}
-use Rattle.sheet.specs.Sheet.{Declared, Method}
+use Rattle.sheet.specs.Sheet.{Declared, Method, Step, event-step, callFrom, failingCallFrom, pass-step, stop-step}
 use Rattle.sheet.specs.Reading.{inCondition, isLeaf, isPrimitive, hasTwoOutcomes}
 use Rattle.sheet.specs.Decode.{pointOf, declaredFrom, methodOf, stepOf}
 use Rattle.sheet.specs.AtOffset.{pointAt, declaredAt, methodAs, methodAt, stepAs, stepAt, pairAt, Symbol, leaf-symbol, empty-symbol, join-symbol, either-symbol, star-symbol, shortAt, setAt, symbolsByKind, symbolAt, postfix}
@@ -61,6 +61,27 @@ Fits s at x section (symbol takes make) = (section ≡ 1) × IsSymbol s at x tak
 Fits s at x section a-pair = (section ≡ 5) × (byteAt s at ≡ 13) × (pair (value x 0) (value x 1) ≡ pairAt s at)
 Fits s at x section counts = Counts s at x section
 Fits s at x section edition = section ≡ 1
+
+-- the step of a record, by its kind
+pub step-cases : (P : Step → Type 0) (x : Record) → P (event-step (value x 0) (value x 1) (value x 2))
+    → (eqb (x .kind) 11 ≡ true → P (callFrom (value x 0) (value x 1) (value x 2)))
+    → (eqb (x .kind) 17 ≡ true → P (failingCallFrom (value x 0) (value x 1) (value x 2) (value x 3)))
+    → (eqb (x .kind) 19 ≡ true → P (stop-step (value x 0))) → P (pass-step (value x 0) (value x 1)) → P (stepOf x)
+step-cases P x event = go (eqb (x .kind) 10) (eqb (x .kind) 11) (eqb (x .kind) 17) (eqb (x .kind) 19)
+  where
+    go : (b10 b11 b17 b19 : Bool) → (b11 ≡ true → P (callFrom (value x 0) (value x 1) (value x 2)))
+        → (b17 ≡ true → P (failingCallFrom (value x 0) (value x 1) (value x 2) (value x 3))) → (b19 ≡ true → P (stop-step (value x 0)))
+        → P (pass-step (value x 0) (value x 1))
+        → P
+        (cond b10 (event-step (value x 0) (value x 1) (value x 2))
+        (cond b11 (callFrom (value x 0) (value x 1) (value x 2))
+        (cond b17 (failingCallFrom (value x 0) (value x 1) (value x 2) (value x 3))
+        (cond b19 (stop-step (value x 0)) (pass-step (value x 0) (value x 1))))))
+    go true b11 b17 b19 call failing stop pass = event
+    go false true b17 b19 call failing stop pass = call refl
+    go false false true b19 call failing stop pass = failing refl
+    go false false false true call failing stop pass = stop refl
+    go false false false false call failing stop pass = pass
 
 -- Row by row ----------------------------------------------------------------------------------------------------------------
 

@@ -12,7 +12,7 @@ use lib.Dec.{T, eqb, ltb→lt}
 use borrow.Author.Tests.{eqb-true, not-false}
 use Rattle.sheet.specs.Model.{Model}
 use Rattle.sheet.specs.Each.{Each, nil, cons}
-use Rattle.sheet.specs.Sheet.{failed, Declared, Body, Method, event-step, callFrom, failingCallFrom, pass-step, stop-step, declaredIn}
+use Rattle.sheet.specs.Sheet.{failed, Declared, Body, Method, declaredIn}
 use Rattle.sheet.specs.Kind.{methods, kindOf, sectionOf}
 use Rattle.sheet.specs.Record.{Record, byteAt, recordAt, nextAt, value}
 use Rattle.sheet.specs.Reading.{Counted, Reading, fresh, tally, startOf, startsOf, isNew, isPrimitive, hasTwoOutcomes, allExist, methodRecord, twoOutcomesIn, wrongOutcomes, pastAt, whole, readSheet}
@@ -22,7 +22,7 @@ use Rattle.sheet.proofs.Each.{each-map, each-all, each-append, each-map
 use Rattle.sheet.proofs.Take.{or-false, and-false, Took}
 use Rattle.sheet.proofs.ReadOn.{read-keeps}
 use Rattle.sheet.proofs.Own.{counted, own-cases}
-use Rattle.sheet.proofs.Kind.{not-inside}
+use Rattle.sheet.proofs.Kind.{step-cases, not-inside}
 use Rattle.sheet.proofs.Standing.{closed, OpenIn, still-open, alone}
 use Rattle.sheet.proofs.SheetOf.{sheet-is}
 use Rattle.sheet.proofs.Named.{FieldsExist, at-exists}
@@ -117,19 +117,8 @@ exit-fits x = go (isPrimitive x) (hasTwoOutcomes x) _
     go false false d = refl
 
 target-fits : (new : Bool) (own : ℕ → List Counted) (x : Record) → CallFits (own 3) x → TargetsFit (sheetRead new own) (stepOf x)
-target-fits new own x h = go (eqb (x .kind) 10) (eqb (x .kind) 11) (eqb (x .kind) 17) (eqb (x .kind) 19) (h .of-11) (h .of-17)
-  where
-    go : (b10 b11 b17 b19 : Bool) → (b11 ≡ true → Calls false (own 3) (value x 2)) → (b17 ≡ true → Calls true (own 3) (value x 3))
-        → TargetsFit (sheetRead new own)
-        (cond b10 (event-step (value x 0) (value x 1) (value x 2))
-        (cond b11 (callFrom (value x 0) (value x 1) (value x 2))
-        (cond b17 (failingCallFrom (value x 0) (value x 1) (value x 2) (value x 3))
-        (cond b19 (stop-step (value x 0)) (pass-step (value x 0) (value x 1))))))
-    go true b11 b17 b19 n f = tt
-    go false true b17 b19 n f = sym (fails-as (n refl))
-    go false false true b19 n f = sym (fails-as (f refl))
-    go false false false true n f = tt
-    go false false false false n f = tt
+target-fits new own x h =
+    step-cases (TargetsFit (sheetRead new own)) x tt (λ e. sym (fails-as (h .of-11 e))) (λ e. sym (fails-as (h .of-17 e))) (λ e. tt) tt
 
 pub outcomes-fit : (M : Model) (s : List ℕ) (r : Reading) → readSheet M s ≡ whole r → OutcomesFit (sheetOf M s)
 outcomes-fit M s r h =
