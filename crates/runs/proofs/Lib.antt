@@ -3,6 +3,7 @@ pub mod Amiss
 pub mod Unsafe
 pub mod Rules
 pub mod Count
+pub mod Earlier
 pub mod Adds
 pub mod Methods
 pub mod Moves
