@@ -109,6 +109,12 @@ module _ (S : Sheet) where
   unfolding run
   run-append m xs ys = run-on-append (start S m) xs ys
 
+  -- "any move after the end, changes nothing"
+  pub after-end : (s : State) → s .ended ≡ true → (ms : List Move) → runOn S s ms ≡ s
+  unfolding runOn move
+  after-end s e [] = refl
+  after-end s e (m ∷ ms) = ap (λ (t : State). runOn S t ms) (ap (λ (b : Bool). cond b s (tryMove S s m)) e) ∙ after-end s e ms
+
   -- what holds at the start, and is kept by each move that is made, holds after every list of moves
   module _ (P : State → Type 0) (kept : (s t : State) → s .ended ≡ false → Makes s t → P s → P t) where
     pub run-on-keeps : (s : State) (ms : List Move) → P s → P (runOn S s ms)
@@ -119,7 +125,7 @@ module _ (S : Sheet) where
     pub run-keeps : (m : ℕ) → P (start S m) → (ms : List Move) → P (run S m ms)
     run-keeps m h ms = subst P (run-is m ms) (run-on-keeps (start S m) ms h)
 
--- A step that starts where control is, and a primitive's step, which is made with exactly the words of the outcome's trace ------
+-- A step that starts where control is, a stop in a new sheet, and a primitive's step, which is made with exactly the words of the outcome's trace ---
 
 module _ (S : Sheet) (s : State) (i : ℕ) (o : Outcome) (w : Word) (going : s .ended ≡ false) where
   pub step-made : (t : Step) → getElem? (S .steps) i ≡ some t → s .point ≡ fromOf t → move S s (by-step i o w) ≡ makeStep S s i o w t
@@ -128,6 +134,10 @@ module _ (S : Sheet) (s : State) (i : ℕ) (o : Outcome) (w : Word) (going : s .
       ap (λ (b : Bool). cond b s (tryMove S s (by-step i o w))) going
       ∙ (ap (tryStep S s i o w) found
       ∙ ap (λ (b : Bool). cond b (makeStep S s i o w t) s) (subst (λ x. eqb (s .point) x ≡ true) at (T-true _ (eqb-refl (s .point)))))
+
+  -- a stop, whatever the outcome and the word
+  pub stop-in-new : getElem? (S .steps) i ≡ some (stop-step (s .point)) → S .new ≡ true → move S s (by-step i o w) ≡ stop s
+  stop-in-new found marked = step-made (stop-step (s .point)) found refl ∙ ap (λ (b : Bool). cond b (stop s) s) marked
 
   module _ (t : CallStep) (found : getElem? (S .steps) i ≡ some (call-step t)) (at : s .point ≡ t .from) (primitive : body S (t .method) ≡ none)
       {q : ℕ} (to : targetFor o t ≡ some q) where
@@ -147,21 +157,27 @@ module _ (S : Sheet) (s : State) (i : ℕ) (o : Outcome) (w : Word) (going : s .
           not-made = λ n. by-trace false (T-false (accepts T w) (λ a. n (words T w .0 a)));
         }
 
--- Without a target for the outcome a primitive's step changes nothing, and without an exit or a target for it a return --------------
+-- What changes nothing: without a target for the outcome a primitive's step, a stop in an old sheet, and without an exit or a target a return ------
 
 module _ (S : Sheet) (s : State) (o : Outcome) where
-  pub step-without-target : (i : ℕ) (w : Word) {t : CallStep} → getElem? (S .steps) i ≡ some (call-step t) → body S (t .method) ≡ none
-      → targetFor o t ≡ none → move S s (by-step i o w) ≡ s
-  unfolding move
-  step-without-target i w {t} found primitive nowhere =
-      ap (λ (x : Option Step). cond (s .ended) s (tryStep S s i o w x)) found
-      ∙ (ap (λ (x : State). cond (s .ended) s (cond (eqb (s .point) (t .from)) x s)) stays
-      ∙ (ap (cond (s .ended) s) (either-way (eqb (s .point) (t .from)) s) ∙ either-way (s .ended) s))
-    where
-      stays : makeStep S s i o w (call-step t) ≡ s
-      stays =
-          ap (makeCall S s (newCall s i t) o w (targetFor o t)) primitive
-          ∙ ap (makeReturn s (newCall s i t) o w (traceOf S (newCall s i t) o)) nowhere
+  module _ (i : ℕ) (w : Word) where
+    -- a step that would change nothing from its from
+    step-stays : {t : Step} → getElem? (S .steps) i ≡ some t → makeStep S s i o w t ≡ s → move S s (by-step i o w) ≡ s
+    unfolding move
+    step-stays {t} found stays =
+        ap (λ (x : Option Step). cond (s .ended) s (tryStep S s i o w x)) found
+        ∙ (ap (λ (x : State). cond (s .ended) s (cond (eqb (s .point) (fromOf t)) x s)) stays
+        ∙ (ap (cond (s .ended) s) (either-way (eqb (s .point) (fromOf t)) s) ∙ either-way (s .ended) s))
+
+    pub step-without-target : {t : CallStep} → getElem? (S .steps) i ≡ some (call-step t) → body S (t .method) ≡ none → targetFor o t ≡ none
+        → move S s (by-step i o w) ≡ s
+    step-without-target {t} found primitive nowhere =
+        step-stays found
+        (ap (makeCall S s (newCall s i t) o w (targetFor o t)) primitive
+        ∙ ap (makeReturn s (newCall s i t) o w (traceOf S (newCall s i t) o)) nowhere)
+
+    pub stop-in-old : {p : ℕ} → getElem? (S .steps) i ≡ some (stop-step p) → S .new ≡ false → move S s (by-step i o w) ≡ s
+    stop-in-old found unmarked = step-stays found (ap (λ (b : Bool). cond b (stop s) s) unmarked)
 
   module _ (c : Call) (cs : List Call) (opened : s .open-calls ≡ c ∷ cs) where
     abbrev exit : Option ℕ
