@@ -315,13 +315,13 @@ gateWith failed-future = record {
 abbrev gate : Sheet
 gate = gateWith 0
 
-same : (c : Condition) → c ⊆ c
+pub same : (c : Condition) → c ⊆ c
 same c w h = h
 
-first : (a b : Condition) → a ⊆ either a b
+pub first : (a b : Condition) → a ⊆ either a b
 first a b w h = inl h
 
-second : (a b : Condition) → b ⊆ either a b
+pub second : (a b : Condition) → b ⊆ either a b
 second a b w h = inr h
 
 -- 1 to 6 of the method; 10, 11 to 14 and 18 to 21 of the call; 7 to 9 of the close

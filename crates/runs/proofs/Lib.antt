@@ -17,6 +17,7 @@ pub mod Safe
 pub mod Owing
 pub mod Examples
 pub mod Failing
+pub mod Stopping
 pub mod Loop
 mod Nouns
 mod Refuted
