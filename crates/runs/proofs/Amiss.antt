@@ -1,6 +1,6 @@
 -- Runs in which a future that is owed is not met: what is owed, as defined, does not hold of them.
 use mathlib.Core.Path.{_≡_, refl, subst}
-use mathlib.Core.Bool.{false}
+use mathlib.Core.Bool.{true, false}
 use mathlib.Core.List.{List, [], _∷_, _++_, List·Memᴰ·head, List·Memᴰ·tail}
 use lib.Dec.{T}
 use Rattle.condition.specs.Condition.{Word, Condition, empty, join, either, star, Holds, event, any}
@@ -8,7 +8,7 @@ use Rattle.condition.specs.Places.{accepts}
 use Rattle.condition.proofs.Words.{words}
 use Rattle.sheet.specs.Each.{nil, cons}
 use Rattle.sheet.proofs.Each.{each-head, each-tail}
-use Rattle.sheet.specs.Sheet.{normal, failed, event-step, callFrom, failingCallFrom, Sheet}
+use Rattle.sheet.specs.Sheet.{normal, failed, event-step, callFrom, failingCallFrom, stop-step, Sheet}
 use Rattle.runs.specs.Runs.{Move, return, by-step, run}
 use Rattle.runs.specs.Owing.{Owing}
 use Rattle.runs.proofs.Methods.{primitive, withBody, failingPrimitive, failingWithBody}
@@ -94,3 +94,18 @@ unmet-of-failed-body o = lacks asked (0 ∷ []) refl (each-head o (List·Memᴰ�
 pub met-of-normal : Owing failing (run failing 0 (by-step 3 normal (1 ∷ []) ∷ []))
 unfolding run
 met-of-normal = cons (λ i v h. h) nil
+
+-- A run that stops: as `opening`, where there is a stop at point 1. Control is still in the activation that made the call, and open is due.
+abbrev stopping : Sheet
+stopping = record {
+  conditions = opening .conditions;
+  points = opening .points;
+  methods = opening .methods;
+  steps = callFrom 0 1 2 ∷ stop-step 1 ∷ [];
+  certificates = [];
+  new = true;
+}
+
+pub unmet-at-stop : Owing stopping (run stopping 0 (by-step 0 normal (1 ∷ []) ∷ by-step 1 normal [] ∷ [])) → ⊥
+unfolding run
+unmet-at-stop o = lacks asked (0 ∷ []) refl (each-head o (List·Memᴰ·head refl) (0 ∷ []) (0, tt, refl))

@@ -253,6 +253,14 @@ closed-runs ms = runs-are-safe (gate 1 5) (0 ∷ []) closed-rules 0 (List·Mem�
 abbrev to-gate-stop : List Move
 to-gate-stop = by-step 0 normal (0 ∷ []) ∷ by-step 1 normal [] ∷ by-step 3 normal [] ∷ by-step 4 normal [] ∷ []
 
+-- such a run: the gate is closed, and both methods are still open
+pub stops-closed :
+    (run (gate 1 5) 0 to-gate-stop .ended ≡ true)
+    × (run (gate 1 5) 0 to-gate-stop .history ≡ 0 ∷ 1 ∷ [])
+    × (map (λ c. c .method) (run (gate 1 5) 0 to-gate-stop .open-calls) ≡ 1 ∷ 0 ∷ [])
+unfolding run
+stops-closed = (refl, refl, refl)
+
 -- Where the last event is 2, only 26 is not true: the run stops in method 1 with the gate open, which the primitive that method 0 called does not allow.
 pub left-open-rules : MetBut 26 (rulesFrom (0 ∷ []) (gate 2 5))
 left-open-rules = gate-rules 2 5 (λ x. (x .number ≡ 26 → ⊥) → Met (x .claim)) (λ x h n. h) (λ n. absurd (n refl)) (λ n. refl)
