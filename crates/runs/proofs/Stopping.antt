@@ -1,11 +1,11 @@
 -- Runs that stop, by evaluation, move by move; rules 25 and 26 in their order; and the gate, which a stop would leave open if 25 or 26 were not asked.
 use mathlib.Core.Path.{_≡_, refl, sym, _∙_}
-use mathlib.Core.Logic.{inl, inr, ⊎-elim}
+use mathlib.Core.Logic.{inl, inr}
 use mathlib.Core.Bool.{Bool, true, false, false≢true}
 use mathlib.Core.Option.{some}
 use mathlib.Core.List.{List, [], _∷_, _++_, map, List·Memᴰ·head}
 use Prim.Native.Nat.{ℕ}
-use Rattle.condition.specs.Condition.{Word, Condition, empty, join, either, star, event, any, _⊆_}
+use Rattle.condition.specs.Condition.{Condition, empty, join, either, star, event, any, _⊆_}
 use Rattle.condition.specs.Places.{accepts}
 use Rattle.condition.proofs.Words.{words}
 use Rattle.sheet.specs.Each.{Each, nil, cons}
