@@ -59,13 +59,17 @@ read-by-large : numberAndPlace (readSheet (modelOf Large) (withPoints 65)) ≡ [
 unfolding readSheet
 read-by-large = refl
 
--- both take kinds up to 17: a condition, a point, a method and a primitive with two outcomes, and a call of each; and none above
+-- both take kinds up to 19: a condition, a point, a method and a primitive with two outcomes, and a call of each, and as a sheet of the new edition with a
+-- stop behind them; and none above
 abbrev withFailing : List ℕ
 withFailing =
     (0x02 ∷ 0x06 ∷ []) ++ (points 1 ++ ((0x10 ∷ replicate 16 0) ++ ((0x0F ∷ replicate 10 0) ++ ((0x11 ∷ replicate 8 0) ++ (0x11 ∷ 0 ∷ 0 ∷ 0 ∷ 0 ∷ 0 ∷ 0 ∷ 1 ∷ 0 ∷ [])))))
 
-kinds-read : map (λ i. map (λ s. numberAndPlace (readSheet (modelOf i) s)) (withFailing ∷ (0x0F ∷ []) ∷ (0x12 ∷ []) ∷ [])) (Large ∷ Entry ∷ [])
-    ≡ replicate 2 ([] ∷ (3 ∷ 0 ∷ []) ∷ (2 ∷ 0 ∷ []) ∷ [])
+abbrev withStop : List ℕ
+withStop = (0x12 ∷ withFailing) ++ (0x13 ∷ 0 ∷ 0 ∷ [])
+
+kinds-read : map (λ i. map (λ s. numberAndPlace (readSheet (modelOf i) s)) (withFailing ∷ withStop ∷ (0x13 ∷ []) ∷ (0x14 ∷ []) ∷ [])) (Large ∷ Entry ∷ [])
+    ≡ replicate 2 ([] ∷ [] ∷ (3 ∷ 0 ∷ []) ∷ (2 ∷ 0 ∷ []) ∷ [])
 unfolding readSheet
 kinds-read = refl
 
