@@ -1,14 +1,14 @@
 -- The table of kinds, row by row: what the code's tables and tests say of a kind.
 use mathlib.Core.Path.{_≡_, refl, ap}
-use mathlib.Core.Bool.{Bool, true, false, not, cond, _||_}
+use mathlib.Core.Bool.{Bool, true, false, not, cond, _&&_, _||_}
 use mathlib.Core.List.{List, [], _∷_}
 use Prim.Native.Nat.{ℕ, suc, _+_, _≤_, _<_}
 use native.Mathlib.Omega.{arith}
 use lib.ListN.{getD}
 use lib.Dec.{eqb, ltb, lit≤}
-use borrow.Author.Tests.{eqb-true, eqb-false, ne-eqb}
-use Rattle.sheet.specs.Kind.{conditions, points, methods, steps, certificates, a-set, a-place, Role, symbol, a-pair, counts, Kind, a-kind, kinds, kindOf, sectionOf, widths, bodyLength}
-use Rattle.sheet.specs.Reading.{allExist}
+use borrow.Author.Tests.{le-ltb, eqb-true, eqb-false, ne-eqb}
+use Rattle.sheet.specs.Kind.{conditions, points, methods, steps, certificates, a-set, a-place, Role, symbol, a-pair, counts, edition, Kind, a-kind, kinds, kindOf, sectionOf, widths, bodyLength}
+use Rattle.sheet.specs.Reading.{inCondition, allExist}
 use Rattle.sheet.proofs.Kind.{_and_, Numbered, numbered}
 use Rattle.format.specs.Kinds.{lastKind, countsOne, takesItems, primitiveKind}
 
@@ -20,26 +20,27 @@ by-rows P rows = numbered P kinds (a-kind 0 counts []) rows
 
 -- body lengths from kind 1 on, as the code's table has them
 abbrev pub bodies : List ℕ
-bodies = 4 ∷ 0 ∷ 0 ∷ 0 ∷ 0 ∷ 0 ∷ 6 ∷ 6 ∷ 10 ∷ 5 ∷ 6 ∷ 4 ∷ 5 ∷ 0 ∷ 10 ∷ 16 ∷ 8 ∷ []
+bodies = 4 ∷ 0 ∷ 0 ∷ 0 ∷ 0 ∷ 0 ∷ 6 ∷ 6 ∷ 10 ∷ 5 ∷ 6 ∷ 4 ∷ 5 ∷ 0 ∷ 10 ∷ 16 ∷ 8 ∷ 0 ∷ 2 ∷ []
 
 pub body-is : (k : ℕ) → getD (0 ∷ bodies) k 0 ≡ bodyLength k
 body-is =
     by-rows (λ k x. getD (0 ∷ bodies) k 0 ≡ widths (x .fields))
     (refl and refl and refl and refl and refl and refl and refl and refl and refl and refl and refl and refl and refl and refl and refl
-    and refl and refl and refl and (λ i. refl))
+    and refl and refl and refl and refl and refl and (λ i. refl))
 
 pub body-le : (k : ℕ) → bodyLength k ≤ 16
 body-le =
     by-rows (λ k x. widths (x .fields) ≤ 16)
     (lit≤ tt and lit≤ tt and lit≤ tt and lit≤ tt and lit≤ tt and lit≤ tt and lit≤ tt and lit≤ tt
-    and lit≤ tt and lit≤ tt and lit≤ tt and lit≤ tt and lit≤ tt and lit≤ tt and lit≤ tt and lit≤ tt and lit≤ tt and lit≤ tt and (λ i. lit≤ tt))
+    and lit≤ tt and lit≤ tt and lit≤ tt and lit≤ tt and lit≤ tt and lit≤ tt and lit≤ tt and lit≤ tt and lit≤ tt and lit≤ tt
+    and lit≤ tt and lit≤ tt and (λ i. lit≤ tt))
 
 -- of the kinds of conditions, a leaf alone has a body
 pub no-body : (k : ℕ) → sectionOf k ≡ conditions → (k ≡ 1 → ⊥) → bodyLength k ≡ 0
 no-body =
     by-rows (λ k x. x .section ≡ conditions → (k ≡ 1 → ⊥) → widths (x .fields) ≡ 0)
     ((λ e n. refl) and (λ e n. absurd (n refl)) and none and none and none and none and none
-    and other and other and other and other and other and other and other and other and other and other and other
+    and other and other and other and other and other and other and other and other and other and other and other and none and other
     and (λ i e n. refl))
   where
     none : {A B : Type 0} → A → B → _≡_ {A = ℕ} 0 0
@@ -53,13 +54,13 @@ abbrev pub sectionByTests : ℕ → ℕ
 sectionByTests k =
     cond (ltb k 7) conditions
     (cond (ltb k 13) (cond (ltb k 8) points (cond (ltb k 10) methods steps))
-    (cond (ltb k 15) certificates (cond (ltb k 17) methods steps)))
+    (cond (ltb k 15) certificates (cond (ltb k 17) methods (cond (eqb k 18) conditions steps))))
 
 pub section-is : (k : ℕ) → 1 ≤ k → k ≤ lastKind → sectionByTests k ≡ sectionOf k
 section-is =
     by-rows (λ k x. 1 ≤ k → k ≤ lastKind → sectionByTests k ≡ x .section)
     ((λ low high. absurd (omega arith)) and same and same and same and same and same and same and same and same and same and same and same and same and same and same
-    and same and same and same
+    and same and same and same and same and same
     and (λ i low high. absurd (omega arith)))
   where
     same : {n : ℕ} {A B : Type 0} → A → B → n ≡ n
@@ -69,7 +70,7 @@ section-is =
 pub section-low : (k : ℕ) → 1 ≤ k → k ≤ lastKind → 1 ≤ sectionOf k
 section-low =
     by-rows (λ k x. 1 ≤ k → k ≤ lastKind → 1 ≤ x .section)
-    ((λ low high. low) and one and one and one and one and one and one and one and one and one and one and one and one and one and one and one and one and one
+    ((λ low high. low) and one and one and one and one and one and one and one and one and one and one and one and one and one and one and one and one and one and one and one
     and (λ i low high. absurd (omega arith)))
   where
     one : {n : ℕ} {A B : Type 0} → A → B → 1 ≤ suc n
@@ -79,61 +80,78 @@ pub section-high : (k : ℕ) → sectionOf k ≤ 5
 section-high =
     by-rows (λ k x. x .section ≤ 5)
     (lit≤ tt and lit≤ tt and lit≤ tt and lit≤ tt and lit≤ tt and lit≤ tt and lit≤ tt and lit≤ tt
-    and lit≤ tt and lit≤ tt and lit≤ tt and lit≤ tt and lit≤ tt and lit≤ tt and lit≤ tt and lit≤ tt and lit≤ tt and lit≤ tt and (λ i. lit≤ tt))
+    and lit≤ tt and lit≤ tt and lit≤ tt and lit≤ tt and lit≤ tt and lit≤ tt and lit≤ tt and lit≤ tt and lit≤ tt and lit≤ tt
+    and lit≤ tt and lit≤ tt and (λ i. lit≤ tt))
 
 -- Roles ---------------------------------------------------------------------------------------------------------------
 
--- kinds 1 to 5 and 13 do not count
+-- kinds 1 to 5, 13 and 18 do not count
 pub low-counts : (k : ℕ) → 1 ≤ k → k < 6 → countsOne (kindOf k .role) ≡ false
 low-counts =
     by-rows (λ k x. 1 ≤ k → k < 6 → countsOne (x .role) ≡ false)
     ((λ low high. absurd (omega arith)) and (λ low high. refl) and (λ low high. refl) and (λ low high. refl) and (λ low high. refl) and (λ low high. refl)
-    and out 0 and out 1 and out 2 and out 3 and out 4 and out 5 and out 6 and out 7 and out 8 and out 9 and out 10 and out 11
+    and out 0 and out 1 and out 2 and out 3 and out 4 and out 5 and out 6 and out 7 and out 8 and out 9 and out 10 and out 11 and out 12 and out 13
     and (λ i low high. absurd (omega arith)))
   where
     out : (n : ℕ) {A B : Type 0} → A → 6 + n < 6 → B
     out n low high = absurd (omega arith)
 
-all-but-pairs : (k : ℕ) → 6 ≤ k → (k ≡ 13 → ⊥) → countsOne (kindOf k .role) ≡ true
-all-but-pairs =
-    by-rows (λ k x. 6 ≤ k → (k ≡ 13 → ⊥) → countsOne (x .role) ≡ true)
+others-count : (k : ℕ) → 6 ≤ k → (k ≡ 13 → ⊥) → (k ≡ 18 → ⊥) → countsOne (kindOf k .role) ≡ true
+others-count =
+    by-rows (λ k x. 6 ≤ k → (k ≡ 13 → ⊥) → (k ≡ 18 → ⊥) → countsOne (x .role) ≡ true)
     (low 0 (lit≤ tt) and low 1 (lit≤ tt) and low 2 (lit≤ tt) and low 3 (lit≤ tt) and low 4 (lit≤ tt) and low 5 (lit≤ tt) and same and same and same and same and same and same and same
-    and (λ h ne. absurd (ne refl)) and same and same and same and same and (λ i. same))
+    and (λ h ne me. absurd (ne refl)) and same and same and same and same and (λ h ne me. absurd (me refl)) and same and (λ i. same))
   where
     low : (n : ℕ) {A : Type 0} → n ≤ 5 → 6 ≤ n → A
     low n g h = absurd (omega arith)
 
-    same : {A B : Type 0} → A → B → true ≡ true
-    same h ne = refl
+    same : {A B C : Type 0} → A → B → C → true ≡ true
+    same h ne me = refl
 
-pub high-counts : (k : ℕ) → 6 ≤ k → countsOne (kindOf k .role) ≡ not (eqb k 13)
-high-counts k h = go (eqb k 13) refl
+pub high-counts : (k : ℕ) → 6 ≤ k → countsOne (kindOf k .role) ≡ (not (eqb k 13) && not (eqb k 18))
+high-counts k h = go (eqb k 13) refl (eqb k 18) refl
   where
-    go : (b : Bool) → eqb k 13 ≡ b → countsOne (kindOf k .role) ≡ not b
-    go true e = ap (λ (k : ℕ). countsOne (kindOf k .role)) (eqb-true k 13 e)
-    go false e = all-but-pairs k h (eqb-false k 13 e)
+    go : (b : Bool) → eqb k 13 ≡ b → (d : Bool) → eqb k 18 ≡ d → countsOne (kindOf k .role) ≡ (not b && not d)
+    go true e d f = ap (λ (k : ℕ). countsOne (kindOf k .role)) (eqb-true k 13 e)
+    go false e true f = ap (λ (k : ℕ). countsOne (kindOf k .role)) (eqb-true k 18 f)
+    go false e false f = others-count k h (eqb-false k 13 e) (eqb-false k 18 f)
+
+-- kinds 1 to 6 stand in conditions
+pub in-condition-is : (k : ℕ) → 1 ≤ k → ltb k 7 ≡ inCondition (sectionOf k) (kindOf k .role)
+in-condition-is =
+    by-rows (λ k x. 1 ≤ k → ltb k 7 ≡ inCondition (x .section) (x .role))
+    ((λ low. absurd (omega arith)) and same and same and same and same and same and same and same and same and same and same and same and same and same and same
+    and same and same and same and same and same
+    and (λ i low. later low))
+  where
+    same : {b : Bool} {A : Type 0} → A → b ≡ b
+    same low = refl
+
+    later : {n : ℕ} → 1 ≤ suc (suc (suc (suc (suc (suc (suc n)))))) → ltb (suc (suc (suc (suc (suc (suc (suc n))))))) 7 ≡ false
+    later {n} low = le-ltb (suc (suc (suc (suc (suc (suc (suc n))))))) 7 (omega arith)
 
 -- no kind but 3, 4 and 5 takes items
 pub none-taken : (k : ℕ) → (k ≡ 3 → ⊥) → (k ≡ 4 → ⊥) → (k ≡ 5 → ⊥) → takesItems (kindOf k .role) ≡ 0
 none-taken =
     by-rows (λ k x. (k ≡ 3 → ⊥) → (k ≡ 4 → ⊥) → (k ≡ 5 → ⊥) → takesItems (x .role) ≡ 0)
     (same and same and same and (λ a b c. absurd (a refl)) and (λ a b c. absurd (b refl)) and (λ a b c. absurd (c refl))
-    and same and same and same and same and same and same and same and same and same and same and same and same and (λ i. same))
+    and same and same and same and same and same and same and same and same and same and same and same and same and same and same and (λ i. same))
   where
     same : {A B C : Type 0} → A → B → C → _≡_ {A = ℕ} 0 0
     same a b c = refl
 
--- the symbols are of section 1, the pairs of section 5
+-- the symbols and the mark of the edition are of section 1, the pairs of section 5
 abbrev pub Suits : ℕ → Role → Type 0
 Suits section (symbol takes make) = section ≡ conditions
 Suits section a-pair = section ≡ certificates
 Suits section counts = Unit {0}
+Suits section edition = section ≡ conditions
 
 pub suits : (k : ℕ) → Suits (sectionOf k) (kindOf k .role)
 suits =
     by-rows (λ k x. Suits (x .section) (x .role))
     (tt and refl and refl and refl and refl and refl and tt and tt and tt and tt and tt and tt and tt and refl and tt
-    and tt and tt and tt and (λ i. tt))
+    and tt and tt and tt and refl and tt and (λ i. tt))
 
 -- a primitive is a method
 pub primitive-section : (k : ℕ) → primitiveKind k ≡ true → sectionOf k ≡ methods
@@ -156,7 +174,8 @@ names-nothing events counted =
     and (λ h. named (h (lit≤ tt) (lit≤ tt))) and (λ h. named (h (lit≤ tt) (lit≤ tt))) and (λ h. named (h (lit≤ tt) (lit≤ tt)))
     and (λ h. named (h (lit≤ tt) (lit≤ tt))) and (λ h. named (h (lit≤ tt) (lit≤ tt))) and (λ h. named (h (lit≤ tt) (lit≤ tt)))
     and (λ h. pair-fields) and none
-    and (λ h. named (h (lit≤ tt) (lit≤ tt))) and (λ h. named (h (lit≤ tt) (lit≤ tt))) and (λ h. named (h (lit≤ tt) (lit≤ tt))) and (λ i. none))
+    and (λ h. named (h (lit≤ tt) (lit≤ tt))) and (λ h. named (h (lit≤ tt) (lit≤ tt))) and (λ h. named (h (lit≤ tt) (lit≤ tt))) and none
+    and (λ h. named (h (lit≤ tt) (lit≤ tt))) and (λ i. none))
   where
     none : {A : Type 0} → A → (vs : List ℕ) → true ≡ true
     none h vs = refl

@@ -1,4 +1,5 @@
-use mathlib.Core.Path.{sym}
+use mathlib.Core.Path.{sym, _∙_}
+use borrow.Author.Needs.{needs}
 use Rattle.format.proofs.Table.{low-counts, high-counts}
 use Rattle.format.proofs.kinds.counts.Statement.{statement}
 use Rattle.format.proofs.kinds.counts.Tie as tie
@@ -6,8 +7,11 @@ use Rattle.format.proofs.kinds.counts.Tie as tie
 returns : tie.Need-returns
 returns c = sym (low-counts (c .before .args .kind) (c .before .pre) (c .if1 .taken))
 
+both-requires : tie.Need-both-requires
+both-requires c κs = search needs
+
 returns-2 : tie.Need-returns-2
-returns-2 c = sym (high-counts (c .before .args .kind) (c .if1 .left))
+returns-2 c = c .both .ensures ∙ sym (high-counts (c .before .before .args .kind) (c .before .if1 .left))
 
 pub counts-spec : {M : Type 1} → statement M
-counts-spec = tie.close (tie.spec returns returns-2)
+counts-spec = tie.close (tie.spec returns both-requires returns-2)

@@ -1,6 +1,6 @@
 -- The tests are those of `section-is`, in its order.
 use native.Mathlib.Omega.{arith}
-use borrow.Author.Tests.{lt-ltb, le-ltb}
+use borrow.Author.Tests.{lt-ltb, le-ltb, eq-eqb, ne-eqb}
 use Rattle.format.proofs.Table.{section-is}
 use Rattle.format.proofs.kinds.section_of.Statement.{statement}
 use Rattle.format.proofs.kinds.section_of.Tie as tie
@@ -43,10 +43,16 @@ returns-6 c =
 
 returns-7 : tie.Need-returns-7
 returns-7 c =
-    let k = c .before .before .before .before .args .kind in
-    simp (le-ltb k 7 (omega arith), le-ltb k 13 (omega arith), le-ltb k 15 (omega arith), le-ltb k 17 (omega arith))
+    let k = c .before .before .before .before .before .args .kind in
+    simp (le-ltb k 7 (omega arith), le-ltb k 13 (omega arith), le-ltb k 15 (omega arith), le-ltb k 17 (omega arith), eq-eqb k 18 (omega arith))
+    at (section-is k (omega arith) (omega arith))
+
+returns-8 : tie.Need-returns-8
+returns-8 c =
+    let k = c .before .before .before .before .before .args .kind in
+    simp (le-ltb k 7 (omega arith), le-ltb k 13 (omega arith), le-ltb k 15 (omega arith), le-ltb k 17 (omega arith), ne-eqb k 18 (c .if7 .left))
     at (section-is k (omega arith) (omega arith))
 
 pub section-of-spec : {M : Type 1} → statement M
 section-of-spec =
-    tie.close (tie.spec returns returns-2 returns-3 returns-4 returns-5 returns-6 returns-7)
+    tie.close (tie.spec returns returns-2 returns-3 returns-4 returns-5 returns-6 returns-7 returns-8)

@@ -80,14 +80,21 @@ returns-3 c =
 returns-4 : tie.Need-returns-4
 unfolding stepAt
 returns-4 c =
-    let read = c .before .before .before in
+    let read = c .before .before .before .before in
+    simp (read .before .short-at .ensures, sym (read .before .before .byte-at .ensures) ∙ c .if4 .taken)
+
+returns-5 : tie.Need-returns-5
+unfolding stepAt
+returns-5 c =
+    let read = c .before .before .before .before in
     let is = read .before .before .byte-at .ensures in
     simp (
       read .before .short-at .ensures,
       read .short-at2 .ensures,
-      ne-eqb _ _ (λ e. c .before .before .if1 .left (is ∙ e)),
-      ne-eqb _ _ (λ e. c .before .if2 .left (is ∙ e)),
-      ne-eqb _ _ (λ e. c .if3 .left (is ∙ e)),
+      ne-eqb _ _ (λ e. c .before .before .before .if1 .left (is ∙ e)),
+      ne-eqb _ _ (λ e. c .before .before .if2 .left (is ∙ e)),
+      ne-eqb _ _ (λ e. c .before .if3 .left (is ∙ e)),
+      ne-eqb _ _ (λ e. c .if4 .left (is ∙ e)),
     )
 
 pub step-at-spec : {M : Type 1} → statement M
@@ -111,4 +118,5 @@ step-at-spec =
     add-short-at-5
     short-at-requires-5
     returns-3
-    returns-4)
+    returns-4
+    returns-5)
