@@ -80,7 +80,7 @@ two fs = a-name points ∷ a-name points ∷ fs
 abbrev three : List Field → List Field
 three fs = a-name conditions ∷ a-name conditions ∷ a-name conditions ∷ fs
 
--- behind the three conditions of a point or a method, and behind the two points of a step
+-- behind the three conditions of a point or a method, and behind the two points of a step that is no stop
 abbrev declaredBehind : ℕ → List Field
 declaredBehind k =
     cond (eqb k 9) (two [])
@@ -91,15 +91,19 @@ abbrev stepBehind : ℕ → List Field
 stepBehind k =
     cond (eqb k 10) (an-event ∷ []) (cond (eqb k 11) (a-name methods ∷ []) (cond (eqb k 17) (a-name points ∷ a-name methods ∷ []) []))
 
+abbrev stepFields : ℕ → List Field
+stepFields k = cond (eqb k 19) (a-name points ∷ []) (two (stepBehind k))
+
 fields-are : (k : ℕ) → points ≤ sectionOf k → sectionOf k ≤ steps
-    → (1 ≤ k) × (k ≤ lastKind) × (kindOf k .fields ≡ cond (ltb (sectionOf k) steps) (three (declaredBehind k)) (two (stepBehind k)))
+    → (1 ≤ k) × (k ≤ lastKind) × (kindOf k .fields ≡ cond (ltb (sectionOf k) steps) (three (declaredBehind k)) (stepFields k))
 fields-are =
     by-rows (λ k x. points ≤ x .section → x .section ≤ steps
-    → (1 ≤ k) × (k ≤ lastKind) × (x .fields ≡ cond (ltb (x .section) steps) (three (declaredBehind k)) (two (stepBehind k))))
+    → (1 ≤ k) × (k ≤ lastKind) × (x .fields ≡ cond (ltb (x .section) steps) (three (declaredBehind k)) (stepFields k)))
     (none and low and low and low and low and low and low
     and (λ g h. (lit≤ tt, lit≤ tt, refl)) and (λ g h. (lit≤ tt, lit≤ tt, refl)) and (λ g h. (lit≤ tt, lit≤ tt, refl))
     and (λ g h. (lit≤ tt, lit≤ tt, refl)) and (λ g h. (lit≤ tt, lit≤ tt, refl)) and (λ g h. (lit≤ tt, lit≤ tt, refl)) and high and high
-    and (λ g h. (lit≤ tt, lit≤ tt, refl)) and (λ g h. (lit≤ tt, lit≤ tt, refl)) and (λ g h. (lit≤ tt, lit≤ tt, refl)) and (λ i. none))
+    and (λ g h. (lit≤ tt, lit≤ tt, refl)) and (λ g h. (lit≤ tt, lit≤ tt, refl)) and (λ g h. (lit≤ tt, lit≤ tt, refl)) and low
+    and (λ g h. (lit≤ tt, lit≤ tt, refl)) and (λ i. none))
   where
     none : {A : Type 0} → 2 ≤ 0 → A
     none g = absurd (omega arith)
@@ -141,7 +145,7 @@ module _ {s : List ℕ} {at kind : ℕ} (w : Named s at kind) where
     declares : (fs : List Field) → declaredBehind kind ≡ fs → kindOf kind .fields ≡ three fs
     declares fs e =
         fields-are kind (w .low) (w .high) .2
-        ∙ ap (λ (b : Bool). cond b (three (declaredBehind kind)) (two (stepBehind kind))) (lt-ltb (sectionOf kind) steps early) ∙ ap three e
+        ∙ ap (λ (b : Bool). cond b (three (declaredBehind kind)) (stepFields kind)) (lt-ltb (sectionOf kind) steps early) ∙ ap three e
 
     pub three-inside : at + 7 ≤ length s
     three-inside = omega (arith, inside (three (declaredBehind kind)) (declares (declaredBehind kind) refl))
@@ -176,39 +180,55 @@ module _ {s : List ℕ} {at kind : ℕ} (w : Named s at kind) where
   -- Steps -------------------------------------------------------------------------------------------------------------
 
   module _ (late : steps ≤ sectionOf kind) where
-    goes : (fs : List Field) → stepBehind kind ≡ fs → kindOf kind .fields ≡ two fs
-    goes fs e =
+    step-fields : kindOf kind .fields ≡ stepFields kind
+    step-fields =
         fields-are kind (w .low) (w .high) .2
-        ∙ ap (λ (b : Bool). cond b (three (declaredBehind kind)) (two (stepBehind kind))) (le-ltb (sectionOf kind) steps late) ∙ ap two e
+        ∙ ap (λ (b : Bool). cond b (three (declaredBehind kind)) (stepFields kind)) (le-ltb (sectionOf kind) steps late)
 
-    pub two-inside : at + 5 ≤ length s
-    two-inside = omega (arith, inside (two (stepBehind kind)) (goes (stepBehind kind) refl))
+    -- a stop
+    module _ (stops : kind ≡ 19) where
+      stop-fields : kindOf kind .fields ≡ a-name points ∷ []
+      stop-fields = step-fields ∙ ap stepFields stops
 
-    -- .. of the kind k
-    pub step-inside : (k : ℕ) → kind ≡ k → at + 5 + widths (stepBehind k) ≤ length s
-    step-inside k e = omega (arith, inside (two (stepBehind k)) (goes (stepBehind k) (ap stepBehind e)))
+      pub one-inside : at + 3 ≤ length s
+      one-inside = omega (arith, inside (a-name points ∷ []) stop-fields)
 
-    module _ (events : ℕ) (t : Tally) {a : Bool} (first : a ≡ twoBelow s (at + 1) (t .points)) where
-      step-exist : (k : ℕ) → kind ≡ k → {b r : Bool} → b ≡ All s events (countOf t) (stepBehind k) (at + 5) → r ≡ (a && b) → r ≡ Exist events t
-      step-exist k e second both = both-are both first second (of-points events t (stepBehind k) (goes (stepBehind k) (ap stepBehind e)))
+      pub exist-19 : (events : ℕ) (t : Tally) {r : Bool} → r ≡ ltb (shortAt s (at + 1)) (t .points) → r ≡ Exist events t
+      exist-19 events t first = first ∙ sym (of-fields events t (a-name points ∷ []) stop-fields ∙ name-last s events (countOf t) 2 (at + 1))
 
-      pub exist-10 : kind ≡ 10 → {k : ℕ} {r : Bool} → k ≡ getD s (at + 5) 0 → r ≡ (a && ltb k events) → r ≡ Exist events t
-      unfolding byteAt
-      exist-10 e second both = step-exist 10 e (ap (λ (k : ℕ). ltb k events) second ∙ sym (event-last s events (countOf t) (at + 5))) both
+    -- another step
+    module _ (goes-on : kind ≡ 19 → ⊥) where
+      goes : (fs : List Field) → stepBehind kind ≡ fs → kindOf kind .fields ≡ two fs
+      goes fs e = step-fields ∙ ap (λ (b : Bool). cond b (a-name points ∷ []) (two (stepBehind kind))) (ne-eqb kind 19 goes-on) ∙ ap two e
 
-      pub exist-11 : kind ≡ 11 → {b r : Bool} → b ≡ ltb (shortAt s (at + 5)) (t .methods) → r ≡ (a && b) → r ≡ Exist events t
-      exist-11 e second both = step-exist 11 e (second ∙ sym (name-last s events (countOf t) 3 (at + 5))) both
+      pub two-inside : at + 5 ≤ length s
+      two-inside = omega (arith, inside (two (stepBehind kind)) (goes (stepBehind kind) refl))
 
-      pub exist-17 : kind ≡ 17 → {b c ab r : Bool} → b ≡ ltb (shortAt s (at + 5)) (t .points) → ab ≡ (a && b)
-          → c ≡ ltb (shortAt s (at + 7)) (t .methods) → r ≡ (ab && c) → r ≡ Exist events t
-      exist-17 e {b} {c} target first-three method all =
-          let seven : at + 5 + 2 ≡ at + 7 = omega arith in
-          let last = name-last s events (countOf t) 3 (at + 7) in
-          let behind = name-then s events (countOf t) 2 (a-name methods ∷ []) (at + 5)
-          ∙ ap (λ (i : ℕ). ltb (shortAt s (at + 5)) (t .points) && All s events (countOf t) (a-name methods ∷ []) i) seven in
-          step-exist 17 e (both-are refl target (method ∙ sym last) behind) (all ∙ ap (λ (ab : Bool). ab && c) first-three ∙ sym (and-assoc a b c))
+      -- .. of the kind k
+      pub step-inside : (k : ℕ) → kind ≡ k → at + 5 + widths (stepBehind k) ≤ length s
+      step-inside k e = omega (arith, inside (two (stepBehind k)) (goes (stepBehind k) (ap stepBehind e)))
 
-      pub exist-two : (kind ≡ 10 → ⊥) → (kind ≡ 11 → ⊥) → (kind ≡ 17 → ⊥) → a ≡ Exist events t
-      exist-two a10 a11 a17 =
-          let none : stepBehind kind ≡ [] = simp (ne-eqb kind 10 a10, ne-eqb kind 11 a11, ne-eqb kind 17 a17) in
-          first ∙ sym (of-points events t [] (goes [] none) ∙ and-true (twoBelow s (at + 1) (t .points)))
+      module _ (events : ℕ) (t : Tally) {a : Bool} (first : a ≡ twoBelow s (at + 1) (t .points)) where
+        step-exist : (k : ℕ) → kind ≡ k → {b r : Bool} → b ≡ All s events (countOf t) (stepBehind k) (at + 5) → r ≡ (a && b) → r ≡ Exist events t
+        step-exist k e second both = both-are both first second (of-points events t (stepBehind k) (goes (stepBehind k) (ap stepBehind e)))
+
+        pub exist-10 : kind ≡ 10 → {k : ℕ} {r : Bool} → k ≡ getD s (at + 5) 0 → r ≡ (a && ltb k events) → r ≡ Exist events t
+        unfolding byteAt
+        exist-10 e second both = step-exist 10 e (ap (λ (k : ℕ). ltb k events) second ∙ sym (event-last s events (countOf t) (at + 5))) both
+
+        pub exist-11 : kind ≡ 11 → {b r : Bool} → b ≡ ltb (shortAt s (at + 5)) (t .methods) → r ≡ (a && b) → r ≡ Exist events t
+        exist-11 e second both = step-exist 11 e (second ∙ sym (name-last s events (countOf t) 3 (at + 5))) both
+
+        pub exist-17 : kind ≡ 17 → {b c ab r : Bool} → b ≡ ltb (shortAt s (at + 5)) (t .points) → ab ≡ (a && b)
+            → c ≡ ltb (shortAt s (at + 7)) (t .methods) → r ≡ (ab && c) → r ≡ Exist events t
+        exist-17 e {b} {c} target first-three method all =
+            let seven : at + 5 + 2 ≡ at + 7 = omega arith in
+            let last = name-last s events (countOf t) 3 (at + 7) in
+            let behind = name-then s events (countOf t) 2 (a-name methods ∷ []) (at + 5)
+            ∙ ap (λ (i : ℕ). ltb (shortAt s (at + 5)) (t .points) && All s events (countOf t) (a-name methods ∷ []) i) seven in
+            step-exist 17 e (both-are refl target (method ∙ sym last) behind) (all ∙ ap (λ (ab : Bool). ab && c) first-three ∙ sym (and-assoc a b c))
+
+        pub exist-two : (kind ≡ 10 → ⊥) → (kind ≡ 11 → ⊥) → (kind ≡ 17 → ⊥) → a ≡ Exist events t
+        exist-two a10 a11 a17 =
+            let none : stepBehind kind ≡ [] = simp (ne-eqb kind 10 a10, ne-eqb kind 11 a11, ne-eqb kind 17 a17) in
+            first ∙ sym (of-points events t [] (goes [] none) ∙ and-true (twoBelow s (at + 1) (t .points)))
