@@ -1,11 +1,11 @@
 -- The table of kinds, row by row: what the code's tables and tests say of a kind.
-use mathlib.Core.Path.{_≡_, refl, ap}
+use mathlib.Core.Path.{_≡_, refl, ap, subst}
 use mathlib.Core.Bool.{Bool, true, false, not, cond, _&&_, _||_}
 use mathlib.Core.List.{List, [], _∷_}
 use Prim.Native.Nat.{ℕ, suc, _+_, _≤_, _<_}
 use native.Mathlib.Omega.{arith}
 use lib.ListN.{getD}
-use lib.Dec.{eqb, ltb, lit≤}
+use lib.Dec.{T, eqb, ltb, lit≤}
 use borrow.Author.Tests.{le-ltb, eqb-true, eqb-false, ne-eqb}
 use Rattle.sheet.specs.Kind.{conditions, points, methods, steps, certificates, a-set, a-place, Role, symbol, a-pair, counts, edition, Kind, a-kind, kinds, kindOf, sectionOf, widths, bodyLength}
 use Rattle.sheet.specs.Reading.{inCondition, allExist}
@@ -129,6 +129,21 @@ in-condition-is =
 
     later : {n : ℕ} → 1 ≤ suc (suc (suc (suc (suc (suc (suc n)))))) → ltb (suc (suc (suc (suc (suc (suc (suc n))))))) 7 ≡ false
     later {n} low = le-ltb (suc (suc (suc (suc (suc (suc (suc n))))))) 7 (omega arith)
+
+-- .. and of the others the mark of the edition alone is of their section
+pub past-conditions : (k : ℕ) → 1 ≤ k → k ≤ lastKind → inCondition (sectionOf k) (kindOf k .role) ≡ false → (k ≡ 18 → ⊥) → points ≤ sectionOf k
+past-conditions =
+    by-rows (λ k x. 1 ≤ k → k ≤ lastKind → inCondition (x .section) (x .role) ≡ false → (k ≡ 18 → ⊥) → points ≤ x .section)
+    ((λ low. absurd (omega arith)) and inside and inside and inside and inside and inside and inside
+    and later and later and later and later and later and later and later and later and later and later and later
+    and (λ low high out ne. absurd (ne refl)) and later
+    and (λ i low high. absurd (omega arith)))
+  where
+    inside : {A B C : Type 0} → A → B → true ≡ false → C
+    inside low high out = absurd (subst T out tt)
+
+    later : {n : ℕ} {A B C D : Type 0} → A → B → C → D → 2 ≤ suc (suc n)
+    later low high out ne = omega arith
 
 -- no kind but 3, 4 and 5 takes items
 pub none-taken : (k : ℕ) → (k ≡ 3 → ⊥) → (k ≡ 4 → ⊥) → (k ≡ 5 → ⊥) → takesItems (kindOf k .role) ≡ 0

@@ -5,15 +5,15 @@ use mathlib.Core.List.{List, [], _++_, map}
 use Prim.Native.Nat.{ℕ, zero, suc, _+_, _≤_, _<_}
 use native.Mathlib.Omega.{arith}
 use lib.ListN.{length, length-append, getElem?, set}
-use lib.Dec.{T, eqb, eqb·suc-zero, ltb, leb}
+use lib.Dec.{T, eqb, eqb·suc-zero, leb}
 use borrow.Author.Tests.{ne-eqb, eq-eqb}
 use Rattle.sheet.specs.Model.{Model}
-use Rattle.sheet.specs.Kind.{Role, symbol, a-pair, counts, methods, steps, kindOf, sectionOf}
+use Rattle.sheet.specs.Kind.{Role, symbol, a-pair, counts, edition, methods, steps, kindOf, sectionOf}
 use Rattle.sheet.specs.Record.{byteAt, recordAt}
-use Rattle.sheet.specs.Reading.{Opened, Counted, Reading, tally, startOf, startsOf, wrongItems, full, overLimit, allExist, twoOutcomesIn, pastAt, ReadResult}
-use Rattle.sheet.proofs.Order.{is-4, is-5, is-6, all-named, is-9, is-18, six, seven, nine, eighteen, takes}
+use Rattle.sheet.specs.Reading.{Opened, Counted, Reading, tally, startOf, startsOf, wrongItems, full, overLimit, inCondition, allExist, twoOutcomesIn, pastAt, ReadResult}
+use Rattle.sheet.proofs.Order.{is-4, is-19, is-20, is-5, is-6, all-named, is-9, is-18, twenty, six, seven, nine, eighteen, takes}
 use Rattle.format.specs.declared.Refusal.{Refusal}
-use Rattle.format.specs.declared.Refusal.the-variants.{WrongSection, OverLimit, UnknownName, NoFirstBody, WrongOutcomes}
+use Rattle.format.specs.declared.Refusal.the-variants.{WrongSection, StopInOldSheet, OverLimit, UnknownName, NoFirstBody, WrongOutcomes}
 use Rattle.format.specs.Kinds.{primitiveKind, twoOutcomeKind}
 use Rattle.format.proofs.Table.{Suits, suits, primitive-section}
 use Rattle.format.proofs.Laws.{Stood, Refuses}
@@ -21,6 +21,7 @@ use Rattle.instrument.specs.declared.Limits.{Limits}
 use Rattle.instrument.specs.Model.{modelWith}
 use Rattle.tally.specs.declared.Tally.{Tally}
 use Rattle.tally.specs.Tally.{countOf, tallyAfter}
+use Rattle.refusals.specs.Editions.{stopFits}
 use Rattle.refusals.specs.Outcomes.{kindListed, wrongOutcomesAt}
 use Rattle.sections.specs.declared.Section.{Section}
 use Rattle.sections.specs.declared.Section.the-variants.{Done, Refused}
@@ -28,7 +29,7 @@ use Rattle.sections.specs.Sections.{Counts, Between, Told, overwrittenFr
 use Rattle.sections.proofs.Comes.{refuses, taken-on}
 use Rattle.sections.proofs.Overwritten.{none-written}
 use Rattle.sections.proofs.Counted.{closed, counts-more, grown-more}
-use Rattle.sections.proofs.Tests.{and-left, and-right, section-is, not-3, early, in-order, names-are, primitive-is}
+use Rattle.sections.proofs.Tests.{and-left, and-right, section-is, not-3, early, in-order, no-mark, stop-is, names-are, primitive-is}
 use Rattle.sections.proofs.Outcomes.{outcomes-are}
 
 and-true : (b : Bool) → b ≡ (b && true)
@@ -58,6 +59,7 @@ stands-alone k low high = go (kindOf k .role) (suits k)
     go (symbol takes make) e = absurd (omega arith)
     go a-pair e = absurd (omega arith)
     go counts e = refl
+    go edition e = absurd (omega arith)
 
 -- a section that begins has no offsets yet
 pub begin : {k : ℕ} {r : Reading} (table : List ℕ) → r .own k ≡ [] → Extended k r r table table
@@ -161,7 +163,14 @@ module _ {l : Limits} {s : List ℕ} {o : ReadResult} {k at limit : ℕ} {t : Ta
         not-4 : is-4 M s at u ≡ false
         not-4 =
             in-order w u (omega (arith, b .section))
-            (ap (λ (o : Opened). eqb (o .section) 1 && ltb 1 (sectionOf (byteAt s at))) (b .closed))
+            (ap (λ (o : Opened). eqb (o .section) 1 && not (inCondition (sectionOf (byteAt s at)) (kindOf (byteAt s at) .role))) (b .closed))
+
+        not-19 : is-19 M s at u ≡ false
+        not-19 = no-mark w u (λ e. omega (arith, ap sectionOf e, a .low))
+
+        -- 20
+        pub old-stop : stopFits s kind ≡ false → Filled M s o (suc k) (Refused (StopInOldSheet at)) k r table₀ table
+        old-stop e = ends (StopInOldSheet at) (twenty M s at u (w .not-2) (not-3 w u) not-4 not-19 (stop-is w u ∙ ap not e), refl)
 
         not-5 : is-5 M s at u ≡ false
         not-5 =
@@ -173,66 +182,70 @@ module _ {l : Limits} {s : List ℕ} {o : ReadResult} {k at limit : ℕ} {t : Ta
             ap (λ (y : Role). overLimit M u (recordAt s at) (sectionOf (byteAt s at)) y) role
             ∙ ap (λ (j : ℕ). full M j (tally u j)) here ∙ ap (full M k) (h .told .1 k) ∙ a .limited (countOf t k)
 
-        -- 6
-        pub over-limit : leb limit (countOf t k) ≡ true → Filled M s o (suc k) (Refused (OverLimit at)) k r table₀ table
-        over-limit e = ends (OverLimit at) (six M s at u (w .not-2) (not-3 w u) not-4 not-5 (limit-is ∙ e), refl)
+        module _ (fits : stopFits s kind ≡ true) where
+          not-20 : is-20 M s at u ≡ false
+          not-20 = stop-is w u ∙ ap not fits
 
-        module _ (within : leb limit (countOf t k) ≡ false) where
-          -- 7
-          pub unnamed : allExist (l .events) (countOf t) (kindOf kind .fields) (recordAt s at .values) ≡ false
-              → Filled M s o (suc k) (Refused (UnknownName at)) k r table₀ table
-          unnamed e =
-              ends (UnknownName at) (seven M s at u (w .not-2) (not-3 w u) not-4 not-5 (limit-is ∙ within) (names-are w u (h .told .1) ∙ e), refl)
+          -- 6
+          pub over-limit : leb limit (countOf t k) ≡ true → Filled M s o (suc k) (Refused (OverLimit at)) k r table₀ table
+          over-limit e = ends (OverLimit at) (six M s at u (w .not-2) (not-3 w u) not-4 not-19 not-20 not-5 (limit-is ∙ e), refl)
 
-          module _ (names : allExist (l .events) (countOf t) (kindOf kind .fields) (recordAt s at .values) ≡ true) {t₀ : Tally} (counts₀ : Counts r t₀) (none : r .own k ≡ []) where
-            named : all-named M s at u ≡ true
-            named = names-are w u (h .told .1) ∙ names
+          module _ (within : leb limit (countOf t k) ≡ false) where
+            -- 7
+            pub unnamed : allExist (l .events) (countOf t) (kindOf kind .fields) (recordAt s at .values) ≡ false
+                → Filled M s o (suc k) (Refused (UnknownName at)) k r table₀ table
+            unnamed e =
+                ends (UnknownName at) (seven M s at u (w .not-2) (not-3 w u) not-4 not-19 not-20 not-5 (limit-is ∙ within) (names-are w u (h .told .1) ∙ e), refl)
 
-            first-is : is-9 M s at u ≡ (eqb (countOf t k) (countOf t₀ k) && primitiveKind kind)
-            first-is =
-                ap (λ (b : Bool). b && eqb (length (u .own 3)) 0) (primitive-is w u) ∙ go (primitiveKind kind) refl
-              where
-                go : (b : Bool) → primitiveKind kind ≡ b → (b && eqb (length (u .own 3)) 0) ≡ (eqb (countOf t k) (countOf t₀ k) && b)
-                go true e =
-                    let three : k ≡ 3 = sym same ∙ primitive-section kind e in
-                    ap (λ (j : ℕ). eqb (length (u .own j)) 0) (sym three) ∙ none-yet k r u t₀ t (h .grown .same) none counts₀ (h .told .1)
-                    ∙ and-true (eqb (countOf t k) (countOf t₀ k))
-                go false e = sym (and-right (eqb (countOf t k) (countOf t₀ k)) false refl)
+            module _ (names : allExist (l .events) (countOf t) (kindOf kind .fields) (recordAt s at .values) ≡ true) {t₀ : Tally} (counts₀ : Counts r t₀) (none : r .own k ≡ []) where
+              named : all-named M s at u ≡ true
+              named = names-are w u (h .told .1) ∙ names
 
-            -- 9
-            pub primitive-first : (eqb (countOf t k) (countOf t₀ k) && primitiveKind kind) ≡ true → Filled M s o (suc k) (Refused (NoFirstBody at)) k r table₀ table
-            primitive-first e =
-                ends (NoFirstBody at) (nine M s at u (w .not-2) (not-3 w u) not-4 not-5 (limit-is ∙ within) named (first-is ∙ e), refl)
+              first-is : is-9 M s at u ≡ (eqb (countOf t k) (countOf t₀ k) && primitiveKind kind)
+              first-is =
+                  ap (λ (b : Bool). b && eqb (length (u .own 3)) 0) (primitive-is w u) ∙ go (primitiveKind kind) refl
+                where
+                  go : (b : Bool) → primitiveKind kind ≡ b → (b && eqb (length (u .own 3)) 0) ≡ (eqb (countOf t k) (countOf t₀ k) && b)
+                  go true e =
+                      let three : k ≡ 3 = sym same ∙ primitive-section kind e in
+                      ap (λ (j : ℕ). eqb (length (u .own j)) 0) (sym three) ∙ none-yet k r u t₀ t (h .grown .same) none counts₀ (h .told .1)
+                      ∙ and-true (eqb (countOf t k) (countOf t₀ k))
+                  go false e = sym (and-right (eqb (countOf t k) (countOf t₀ k)) false refl)
 
-            module _ (first : (eqb (countOf t k) (countOf t₀ k) && primitiveKind kind) ≡ false) (ms : List ℕ) (listed : MethodsListed s ms k r) where
-              outcomes-is : is-18 M s at u ≡ wrongOutcomesAt s at kind ms
-              outcomes-is =
-                  outcomes-are (l .events) s at u (subst T (sym named) tt) ms (λ e. still-listed s ms (h .grown) listed (sym here ∙ e)) (w .kind)
+              -- 9
+              pub primitive-first : (eqb (countOf t k) (countOf t₀ k) && primitiveKind kind) ≡ true → Filled M s o (suc k) (Refused (NoFirstBody at)) k r table₀ table
+              primitive-first e =
+                  ends (NoFirstBody at) (nine M s at u (w .not-2) (not-3 w u) not-4 not-19 not-20 not-5 (limit-is ∙ within) named (first-is ∙ e), refl)
 
-              -- 18
-              pub wrong-outcomes : wrongOutcomesAt s at kind ms ≡ true → Filled M s o (suc k) (Refused (WrongOutcomes at)) k r table₀ table
-              wrong-outcomes e =
-                  ends (WrongOutcomes at)
-                  (eighteen M s at u (w .not-2) (not-3 w u) not-4 not-5 (limit-is ∙ within) named (first-is ∙ first) (outcomes-is ∙ e), refl)
+              module _ (first : (eqb (countOf t k) (countOf t₀ k) && primitiveKind kind) ≡ false) (ms : List ℕ) (listed : MethodsListed s ms k r) where
+                outcomes-is : is-18 M s at u ≡ wrongOutcomesAt s at kind ms
+                outcomes-is =
+                    outcomes-are (l .events) s at u (subst T (sym named) tt) ms (λ e. still-listed s ms (h .grown) listed (sym here ∙ e)) (w .kind)
 
-              -- the record is taken
-              pub again : {n : ℕ} {t′ : Tally} → wrongOutcomesAt s at kind ms ≡ false → n ≡ countOf t k → t′ ≡ tallyAfter t k
-                  → Filled M s o k (Done q t′) k r table₀ (set table n at)
-              again {n} {t′} fit n-is after =
-                  let taken = takes M s at u (w .not-2) (not-3 w u) not-4 not-5 (limit-is ∙ within) named (first-is ∙ first) (outcomes-is ∙ fit) in
-                  let t-is : Counts (pastAt s at u) t′ = subst (Counts (pastAt s at u)) (sym after) (counts-more s at u role k here (omega (arith, a .low)) (omega (arith, a .high)) (h .told .1)) in
-                  let here-starts : startOf (u .opened) at ≡ at = ap (λ (o : Opened). startOf o at) (b .closed) in
-                  record {
-                    state = pastAt s at u;
-                    told = (
-                      record {
-                        comes = taken-on (b .comes) before w taken;
-                        section = omega (arith, here);
-                        closed = closed s at u role k here;
-                        begun = λ inside low. absurd (omega (arith, here));
-                      },
-                      t-is,
-                    );
-                    grown =
-                        subst (λ (i : ℕ). Extended k r (pastAt s at u) table₀ (set table n i)) here-starts (grown-more s at u role k here (h .told .1) n-is (h .grown));
-                  }
+                -- 18
+                pub wrong-outcomes : wrongOutcomesAt s at kind ms ≡ true → Filled M s o (suc k) (Refused (WrongOutcomes at)) k r table₀ table
+                wrong-outcomes e =
+                    ends (WrongOutcomes at)
+                    (eighteen M s at u (w .not-2) (not-3 w u) not-4 not-19 not-20 not-5 (limit-is ∙ within) named (first-is ∙ first) (outcomes-is ∙ e), refl)
+
+                -- the record is taken
+                pub again : {n : ℕ} {t′ : Tally} → wrongOutcomesAt s at kind ms ≡ false → n ≡ countOf t k → t′ ≡ tallyAfter t k
+                    → Filled M s o k (Done q t′) k r table₀ (set table n at)
+                again {n} {t′} fit n-is after =
+                    let taken = takes M s at u (w .not-2) (not-3 w u) not-4 not-19 not-20 not-5 (limit-is ∙ within) named (first-is ∙ first) (outcomes-is ∙ fit) in
+                    let t-is : Counts (pastAt s at u) t′ = subst (Counts (pastAt s at u)) (sym after) (counts-more s at u role k here (omega (arith, a .low)) (omega (arith, a .high)) (h .told .1)) in
+                    let here-starts : startOf (u .opened) at ≡ at = ap (λ (o : Opened). startOf o at) (b .closed) in
+                    record {
+                      state = pastAt s at u;
+                      told = (
+                        record {
+                          comes = taken-on (b .comes) before w taken;
+                          section = omega (arith, here);
+                          closed = closed s at u role k here;
+                          begun = λ inside low. absurd (omega (arith, here));
+                        },
+                        t-is,
+                      );
+                      grown =
+                          subst (λ (i : ℕ). Extended k r (pastAt s at u) table₀ (set table n i)) here-starts (grown-more s at u role k here (h .told .1) n-is (h .grown));
+                    }

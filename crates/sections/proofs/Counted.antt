@@ -7,7 +7,7 @@ use native.Mathlib.Omega.{arith}
 use lib.ListN.{length, length-append, set}
 use lib.Dec.{T, eqb}
 use borrow.Author.Tests.{eq-eqb, ne-eqb, eqb-true, eqb-false}
-use Rattle.sheet.specs.Kind.{Role, symbol, a-pair, counts, kindOf, sectionOf}
+use Rattle.sheet.specs.Kind.{Role, symbol, a-pair, counts, edition, kindOf, sectionOf}
 use Rattle.sheet.specs.Record.{byteAt, recordAt}
 use Rattle.sheet.specs.Reading.{nothing, Counted, Reading, tally, startOf, startsOf, openedPast, ownPast, pastAt}
 use Rattle.sheet.proofs.Certified.{starts-more}
@@ -43,6 +43,7 @@ module _ (s : List ℕ) (at : ℕ) (u : Reading) where
         go (symbol takes make) e = refl
         go a-pair e = refl
         go counts e = absurd (subst T e tt)
+        go edition e = refl
 
     pub counts-same : {t : Tally} → Counts u t → Counts pastIt t
     counts-same h j = ap (λ (own : ℕ → List Counted). length (u .before j ++ own j)) own-same ∙ h j

@@ -8,7 +8,7 @@ use lib.ListN.{length, getD}
 use lib.Dec.{T, eqb, ltb}
 use borrow.Author.Tests.{ne-eqb, eq-eqb, ltb-false}
 use Rattle.sheet.specs.Model.{Model}
-use Rattle.sheet.specs.Kind.{Role, symbol, a-pair, counts, kindOf, sectionOf}
+use Rattle.sheet.specs.Kind.{Role, symbol, a-pair, counts, edition, kindOf, sectionOf}
 use Rattle.sheet.specs.Record.{byteAt, recordAt}
 use Rattle.sheet.specs.Reading.{Opened, Counted, Reading, tally, startOf, startsOf, wrongItems, full, overLimit, refusalOf, openedPast, pastAt, ReadResult, whole, refusal}
 use Rattle.sheet.proofs.Order.{is-4, is-5, is-6, takes}
@@ -25,7 +25,7 @@ use Rattle.sections.specs.declared.Read.the-variants.{Whole, Refused}
 use Rattle.sections.specs.Sections.{Counts, Comes, Told, Answers, Concluded}
 use Rattle.sections.proofs.Comes.{ended, refuses, taken-on}
 use Rattle.sections.proofs.Counted.{at-is, own-same, counts-same, closed, others, starts, counts-more}
-use Rattle.sections.proofs.Tests.{and-left, section-is, not-3, early, in-order, no-method, no-call}
+use Rattle.sections.proofs.Tests.{and-left, section-is, not-3, early, in-order, no-mark, no-stop, no-method, no-call}
 
 -- what the loop keeps: whether a certificate is open, and that the first one starts where the section does
 pub record Ending (M : Model) (s : List ℕ) (o : ReadResult) (r : Reading) (from at : ℕ) (t : Tally) (inside : Bool) : Type 0 where
@@ -100,10 +100,12 @@ module _ {M : Model} {s : List ℕ} {o : ReadResult} {r : Reading} {from at : �
               and-left (eqb (sectionOf (byteAt s at)) 1) _ (ne-eqb _ 1 (λ (e : sectionOf (byteAt s at) ≡ 1). omega (arith, here))),
               ap (λ (k : ℕ). full M k (tally u k)) here,
             )
+            go edition suit = absurd (omega (arith, here))
 
         taken : refusalOf M s at u ≡ 0
         taken =
-            takes M s at u (w .not-2) (not-3 w u) not-4 (no-limit .0) (no-limit .1)
+            takes M s at u (w .not-2) (not-3 w u) not-4 (no-mark w u (λ e. omega (arith, ap sectionOf e, same))) (no-stop w u (λ e. omega (arith, ap sectionOf e, same)))
+            (no-limit .0) (no-limit .1)
             (names-nothing (M .events) (tally u) (byteAt s at) (λ low high. omega (arith, here)) (recordAt s at .values)) (no-method w u (λ e. omega (arith, same)))
             (no-call w u (λ e. omega (arith, same)))
 
@@ -139,6 +141,7 @@ module _ {M : Model} {s : List ℕ} {o : ReadResult} {r : Reading} {from at : �
             by-role (symbol takes make) suit e = absurd (omega (arith, here))
             by-role a-pair suit e = ap (λ (k : ℕ). openedPast (u .opened) (recordAt s at) k a-pair) here
             by-role counts suit e = absurd (subst T e tt)
+            by-role edition suit e = absurd (omega (arith, here))
 
             opened-past : countsOne (kindOf (byteAt s at) .role) ≡ false → pastAt s at u .opened ≡ openedPast (u .opened) (recordAt s at) 5 a-pair
             opened-past e = by-role (kindOf (byteAt s at) .role) (suits (byteAt s at)) e
@@ -167,6 +170,7 @@ module _ {M : Model} {s : List ℕ} {o : ReadResult} {r : Reading} {from at : �
             by-role (symbol takes make) e = absurd (subst T (sym e) tt)
             by-role a-pair e = absurd (subst T (sym e) tt)
             by-role counts e = refl
+            by-role edition e = absurd (subst T (sym e) tt)
 
   -- The end of the sheet ----------------------------------------------------------------------------------------------
 

@@ -5,4 +5,5 @@ pub mod Tests
 pub mod Outcomes
 pub mod Alone
 pub mod Opening
+pub mod Marked
 pub mod Ending

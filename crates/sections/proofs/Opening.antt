@@ -2,34 +2,35 @@
 use mathlib.Core.Path.{_≡_, refl, sym, ap, _∙_, subst}
 use mathlib.Core.Bool.{Bool, true, false, not, cond, _&&_, _||_}
 use mathlib.Core.List.{List, []}
-use Prim.Native.Nat.{ℕ, _+_, _-_, _≤_, _<_}
+use Prim.Native.Nat.{ℕ, zero, suc, _+_, _-_, _≤_, _<_}
 use native.Mathlib.Omega.{arith}
 use lib.ListN.{length, length-drop, set}
 use lib.Dec.{T, eqb, ltb, leb}
-use borrow.Author.Tests.{lt-ltb, le-ltb, ltb-false}
+use borrow.Author.Tests.{lt-ltb, le-ltb, ltb-false, le-leb, leb-true, eq-eqb, eqb-true}
 use Rattle.condition.specs.Condition.{Condition}
 use Rattle.sheet.specs.Model.{Model, conditionLimit, symbolLimit, leafLimit}
-use Rattle.sheet.specs.Kind.{Role, symbol, a-pair, counts, kindOf, sectionOf}
-use Rattle.sheet.specs.Record.{byteAt, recordAt}
-use Rattle.sheet.specs.Reading.{Opened, nothing, Reading, tally, startOf, wrongItems, isLeaf, full, overLimit, refusalOf, openedPast, pastAt, ReadResult, whole, refusal}
-use Rattle.sheet.proofs.Order.{is-4, is-5, is-6, all-named, is-9, is-18, four, five, six, takes}
+use Rattle.sheet.specs.Kind.{Role, symbol, a-pair, counts, edition, kindOf, sectionOf, bodyLength}
+use Rattle.sheet.specs.Record.{byteAt, recordAt, nextAt}
+use Rattle.sheet.specs.Reading.{Opened, nothing, Reading, tally, startOf, inCondition, isNew, wrongItems, isLeaf, full, overLimit, refusalOf, openedPast, pastAt, ReadResult, whole, refusal}
+use Rattle.sheet.proofs.Take.{next-is, next-lt}
+use Rattle.sheet.proofs.Order.{is-4, is-19, is-20, is-5, is-6, all-named, is-9, is-18, four, nineteen, five, six, takes}
 use Rattle.format.specs.declared.Refusal.{Refusal}
-use Rattle.format.specs.declared.Refusal.the-variants.{WrongSection, Unfinished}
+use Rattle.format.specs.declared.Refusal.the-variants.{WrongSection, Unfinished, EditionNotFirst}
 use Rattle.format.specs.Kinds.{lastKind, countsOne, takesItems, leafKind}
-use Rattle.format.proofs.Table.{section-low, Suits, suits, names-nothing}
-use Rattle.format.proofs.Laws.{cond-by, kind-there, Stood, Refuses}
+use Rattle.format.proofs.Table.{past-conditions, Suits, suits, names-nothing}
+use Rattle.format.proofs.Laws.{cond-by, inside, kind-there, Stood, Refuses}
 use Rattle.refusals.specs.declared.Begun.{Begun}
 use Rattle.refusals.specs.declared.Stepped.{Stepped}
 use Rattle.refusals.specs.declared.Stepped.the-variants as stepped
 use Rattle.refusals.specs.Step.{nothingBegun, itemsOfKind, leavesOfKind, symbolStep, endStep, endsOne, conditionStep}
+use Rattle.refusals.specs.Editions.{pastMark}
 use Rattle.tally.specs.declared.Tally.{Tally}
 use Rattle.tally.specs.Tally.{countOf, tallyAfter}
 use Rattle.sections.specs.declared.Section.the-variants.{Done, Refused}
 use Rattle.sections.specs.Sections.{Counts, Comes, Told, Extended, Filled}
 use Rattle.sections.proofs.Comes.{ended, refuses, taken-on}
 use Rattle.sections.proofs.Counted.{at-is, counts-same, grown-same, closed, counts-more, grown-more}
-use Rattle.sections.proofs.Tests.{or-right, and-right, section-is, not-3, in-order, no-method, no-call}
-use Rattle.sections.proofs.Alone as alone
+use Rattle.sections.proofs.Tests.{or-right, and-right, section-is, not-3, in-order, no-mark, no-stop, no-method, no-call}
 
 -- what is open is what the code has begun, from the offset `start` on; if nothing is, the next condition would start here
 pub record Matches (o : Opened) (at start : ℕ) (b : Begun) : Type 0 where
@@ -40,7 +41,7 @@ pub record Matches (o : Opened) (at start : ℕ) (b : Begun) : Type 0 where
   pub closed : b .symbols ≤ 0 → o ≡ nothing
   pub opened : 0 < b .symbols → o .section ≡ 1
 
-nothing-matches : (at : ℕ) → Matches nothing at at nothingBegun
+pub nothing-matches : (at : ℕ) → Matches nothing at at nothingBegun
 nothing-matches at =
     record { items = refl; symbols = refl; leaves = refl; starts = refl; closed = λ e. refl; opened = λ e. absurd (omega arith) }
 
@@ -52,20 +53,7 @@ pub record Opening (M : Model) (s : List ℕ) (o : ReadResult) (r : Reading) (at
   pub counts : Counts state t
   pub grown : Extended 1 r state table₀ table
   pub matches : Matches (state .opened) at start b
-
-pub begin : {M : Model} {s : List ℕ} {o : ReadResult} {r : Reading} {t : Tally} {b : Begun} (table : List ℕ) → Told M s o 0 (Done 0 t) r → r .own 1 ≡ [] → b ≡ nothingBegun
-    → Opening M s o r 0 0 b t table table
-begin {r = r} table told none is =
-    record {
-      state = r;
-      comes = told .0 .comes;
-      section = omega (arith, told .0 .section);
-      counts = told .1;
-      grown = alone.begin table none;
-      matches =
-          subst (λ (b : Begun). Matches (r .opened) 0 0 b) (sym is)
-          (subst (λ (o : Opened). Matches o 0 0 nothingBegun) (sym (told .0 .closed)) (nothing-matches 0));
-    }
+  pub marked : pastMark (M .kinds) s ≤ at
 
 module _ {M : Model} {s : List ℕ} {o : ReadResult} {r : Reading} {at start : ℕ} {b : Begun} {t : Tally} {table₀ table : List ℕ}
     (h : Opening M s o r at start b t table₀ table) where
@@ -108,29 +96,66 @@ module _ {M : Model} {s : List ℕ} {o : ReadResult} {r : Reading} {at start : �
     ends x e = record { state = u; told = refuses (h .comes) before e; grown = h .grown }
 
     module _ {kind q : ℕ} (w : Stood M s at kind q) where
-      pub later-section : b .symbols ≤ 0 → 1 < sectionOf kind → Filled M s o 2 (Done at t) 1 r table₀ table
-      later-section none high = done none (λ before. omega (arith, section-is w))
+      module _ (outside : inCondition (sectionOf kind) (kindOf kind .role) ≡ false) where
+        -- 4
+        pub still-open : 0 < b .symbols → Filled M s o 2 (Refused (WrongSection at)) 1 r table₀ table
+        still-open some =
+            let cannot-stand = ap (λ (k : ℕ). not (inCondition (sectionOf k) (kindOf k .role))) (w .kind) ∙ ap not outside in
+            let is-open : (eqb (u .opened .section) 1 && not (inCondition (sectionOf (byteAt s at)) (kindOf (byteAt s at) .role))) ≡ true =
+            ap (λ (k : ℕ). eqb k 1 && not (inCondition (sectionOf (byteAt s at)) (kindOf (byteAt s at) .role))) (h .matches .opened some) ∙ cannot-stand in
+            ends (WrongSection at) (four M s at u (w .not-2) (not-3 w u) (or-right (ltb (sectionOf (byteAt s at)) (u .section)) _ is-open), refl)
 
-      -- 4
-      pub still-open : 0 < b .symbols → 1 < sectionOf kind → Filled M s o 2 (Refused (WrongSection at)) 1 r table₀ table
-      still-open some high =
-          let later : ltb 1 (sectionOf (byteAt s at)) ≡ true = lt-ltb 1 (sectionOf (byteAt s at)) (omega (arith, section-is w)) in
-          let is-open : (eqb (u .opened .section) 1 && ltb 1 (sectionOf (byteAt s at))) ≡ true =
-          ap (λ (k : ℕ). eqb k 1 && ltb 1 (sectionOf (byteAt s at))) (h .matches .opened some) ∙ later in
-          ends (WrongSection at) (four M s at u (w .not-2) (not-3 w u) (or-right (ltb (sectionOf (byteAt s at)) (u .section)) _ is-open), refl)
+        module _ (none : b .symbols ≤ 0) where
+          -- 19
+          pub second-mark : kind ≡ 18 → Filled M s o 2 (Refused (EditionNotFirst at)) 1 r table₀ table
+          second-mark is =
+              let here : byteAt s at ≡ 18 = w .kind ∙ is in
+              let order = in-order w u (omega (arith, h .section, ap sectionOf is))
+              (ap (λ (o : Opened). eqb (o .section) 1 && not (inCondition (sectionOf (byteAt s at)) (kindOf (byteAt s at) .role))) (h .matches .closed none)) in
+              let test : is-19 M s at u ≡ true = ap (λ (b : Bool). b && ltb 0 at) (eq-eqb (byteAt s at) 18 here) ∙ lt-ltb 0 at (behind at here (h .marked)) in
+              ends (EditionNotFirst at) (nineteen M s at u (w .not-2) (not-3 w u) order test, refl)
+            where
+              behind : (at : ℕ) → byteAt s at ≡ 18 → pastMark (M .kinds) s ≤ at → 0 < at
+              behind zero here marked =
+                  let one : pastMark (M .kinds) s ≡ 1 = simp (eq-eqb (byteAt s 0) 18 here, le-leb 18 (M .kinds) (omega (arith, w .high))) in
+                  absurd (omega arith)
+              behind (suc i) here marked = omega arith
+
+          pub later-section : M .kinds ≤ lastKind → (kind ≡ 18 → ⊥) → Filled M s o 2 (Done at t) 1 r table₀ table
+          later-section highest ne =
+              done none (λ before. omega (arith, section-is w, past-conditions kind (w .low) (omega (arith, w .high)) outside ne))
 
       -- a record of a condition
-      module _ (highest : M .kinds ≤ lastKind) (low : sectionOf kind ≤ 1) where
+      module _ (stands : inCondition (sectionOf kind) (kindOf kind .role) ≡ true) where
         one : sectionOf kind ≡ 1
-        one = omega (arith, section-low kind (w .low) (omega (arith, w .high)))
+        one = go (kindOf kind .role) (suits kind) stands
+          where
+            go : (y : Role) → Suits (sectionOf kind) y → inCondition (sectionOf kind) y ≡ true → sectionOf kind ≡ 1
+            go (symbol takes-n make) suit e = suit
+            go a-pair suit e = absurd (subst T (sym e) tt)
+            go counts suit e = eqb-true (sectionOf kind) 1 e
+            go edition suit e = suit
 
         here : sectionOf (byteAt s at) ≡ 1
         here = section-is w ∙ one
 
+        stands-here : inCondition (sectionOf (byteAt s at)) (kindOf (byteAt s at) .role) ≡ true
+        stands-here = ap (λ (k : ℕ). inCondition (sectionOf k) (kindOf k .role)) (w .kind) ∙ stands
+
+        -- a kind that stands in no condition
+        other : (k : ℕ) → inCondition (sectionOf k) (kindOf k .role) ≡ false → kind ≡ k → ⊥
+        other k out is = subst T (sym stands ∙ ap (λ (k : ℕ). inCondition (sectionOf k) (kindOf k .role)) is ∙ out) tt
+
+        not-19 : is-19 M s at u ≡ false
+        not-19 = no-mark w u (other 18 refl)
+
+        not-20 : is-20 M s at u ≡ false
+        not-20 = no-stop w u (other 19 refl)
+
         not-4 : is-4 M s at u ≡ false
         not-4 =
             in-order w u (omega (arith, one, h .section))
-            (and-right (eqb (u .opened .section) 1) _ (le-ltb 1 (sectionOf (byteAt s at)) (omega (arith, here))))
+            (and-right (eqb (u .opened .section) 1) _ (ap not stands-here))
 
         names : all-named M s at u ≡ true
         names = names-nothing (M .events) _ (byteAt s at) (λ low high. omega (arith, here)) (recordAt s at .values)
@@ -190,13 +215,13 @@ module _ {M : Model} {s : List ℕ} {o : ReadResult} {r : Reading} {at start : �
           symbol-tells : Tells (symbolStep b (byteAt s at) at)
           symbol-tells =
               cond-by Tells (ltb (b .items) (itemsOfKind (byteAt s at)))
-              (λ e. (five M s at u (w .not-2) (not-3 w u) not-4 (items-is ∙ e), refl))
+              (λ e. (five M s at u (w .not-2) (not-3 w u) not-4 not-19 not-20 (items-is ∙ e), refl))
               (λ e. cond-by Tells (leb symbolLimit (b .symbols))
-              (λ f. (six M s at u (w .not-2) (not-3 w u) not-4 (items-is ∙ e) (limit-is ∙ simp f), refl))
+              (λ f. (six M s at u (w .not-2) (not-3 w u) not-4 not-19 not-20 (items-is ∙ e) (limit-is ∙ simp f), refl))
               (λ f. cond-by Tells (leafKind (byteAt s at) && leb leafLimit (b .leaves))
-              (λ g. (six M s at u (w .not-2) (not-3 w u) not-4 (items-is ∙ e) (limit-is ∙ simp (f, g)), refl))
+              (λ g. (six M s at u (w .not-2) (not-3 w u) not-4 not-19 not-20 (items-is ∙ e) (limit-is ∙ simp (f, g)), refl))
               (λ g. (
-                takes M s at u (w .not-2) (not-3 w u) not-4 (items-is ∙ e) (limit-is ∙ simp (f, g)) names no-first not-wrong,
+                takes M s at u (w .not-2) (not-3 w u) not-4 not-19 not-20 (items-is ∙ e) (limit-is ∙ simp (f, g)) names no-first not-wrong,
                 λ true-is. absurd (subst T (sym true-is ∙ ap countsOne role) tt),
                 λ false-is. subst (λ (x : Opened). Matches x q start next-begun) (sym opened-is) (more (omega (arith, ltb-false (b .items) (itemsOfKind (byteAt s at)) e, taken-is))),
               ))))
@@ -216,13 +241,13 @@ module _ {M : Model} {s : List ℕ} {o : ReadResult} {r : Reading} {at start : �
           end-tells =
               cond-by Tells (eqb (b .items) 1)
               (λ e. cond-by Tells (leb conditionLimit (countOf t 1))
-              (λ f. (six M s at u (w .not-2) (not-3 w u) not-4 (one-item-is ∙ ap not e) (full-is ∙ f), refl))
+              (λ f. (six M s at u (w .not-2) (not-3 w u) not-4 not-19 not-20 (one-item-is ∙ ap not e) (full-is ∙ f), refl))
               (λ f. (
-                takes M s at u (w .not-2) (not-3 w u) not-4 (one-item-is ∙ ap not e) (full-is ∙ f) names no-first not-wrong,
+                takes M s at u (w .not-2) (not-3 w u) not-4 not-19 not-20 (one-item-is ∙ ap not e) (full-is ∙ f) names no-first not-wrong,
                 λ true-is. (role, refl),
                 λ false-is. absurd (subst T (sym (ap countsOne role) ∙ false-is) tt),
               )))
-              (λ e. (five M s at u (w .not-2) (not-3 w u) not-4 (one-item-is ∙ ap not e), refl))
+              (λ e. (five M s at u (w .not-2) (not-3 w u) not-4 not-19 not-20 (one-item-is ∙ ap not e), refl))
 
         abbrev step : Bool → Stepped
         step ends = cond ends (endStep b (countOf t 1) at) (symbolStep b (byteAt s at) at)
@@ -234,6 +259,7 @@ module _ {M : Model} {s : List ℕ} {o : ReadResult} {r : Reading} {at start : �
             go (symbol takes-n make) e suit = subst Tells (sym (ap step (ap countsOne e))) (symbol-tells takes-n make e)
             go a-pair e suit = absurd (omega (arith, here))
             go counts e suit = subst Tells (sym (ap step (ap countsOne e))) (end-tells e)
+            go edition e suit = absurd (subst T (sym stands-here ∙ ap (inCondition (sectionOf (byteAt s at))) e) tt)
 
         module _ {g : Stepped} (is : g ≡ conditionStep b kind (countOf t 1) at) where
           by-code : Tells g
@@ -250,6 +276,9 @@ module _ {M : Model} {s : List ℕ} {o : ReadResult} {r : Reading} {at start : �
             beyond : Comes M s o q (pastAt s at u)
             beyond = taken-on (h .comes) before w (goes .0)
 
+            beyond-mark : pastMark (M .kinds) s ≤ q
+            beyond-mark = omega (arith, h .marked, w .next, next-lt s at)
+
             ends-is : endsOne kind ≡ endsOne (byteAt s at)
             ends-is = ap endsOne (sym (w .kind))
 
@@ -263,6 +292,7 @@ module _ {M : Model} {s : List ℕ} {o : ReadResult} {r : Reading} {at start : �
                   counts = counts-same s at u open-still (h .counts);
                   grown = grown-same s at u open-still (h .grown);
                   matches = goes .2 open-still;
+                  marked = beyond-mark;
                 }
 
             pub past-end : {t′ : Tally} → endsOne kind ≡ true → t′ ≡ tallyAfter t 1 → Opening M s o r q q b′ t′ table₀ (set table (countOf t 1) start)
@@ -279,4 +309,5 @@ module _ {M : Model} {s : List ℕ} {o : ReadResult} {r : Reading} {at start : �
                   matches =
                       subst (λ (b : Begun). Matches (pastAt s at u .opened) q q b) (sym none)
                       (subst (λ (o : Opened). Matches o q q nothingBegun) (sym (closed s at u role 1 here)) (nothing-matches q));
+                  marked = beyond-mark;
                 }

@@ -1,6 +1,6 @@
 -- The tests of a record that stands where reading has come to: what each refusal asks, in the code's terms.
 use mathlib.Core.Path.{_≡_, refl, sym, ap, _∙_, subst}
-use mathlib.Core.Bool.{Bool, true, false, _&&_, _||_}
+use mathlib.Core.Bool.{Bool, true, false, not, cond, _&&_, _||_}
 use mathlib.Core.List.{List}
 use Prim.Native.Nat.{ℕ, _≤_, _<_}
 use native.Mathlib.Omega.{arith, by-contra}
@@ -10,8 +10,8 @@ use borrow.Author.Tests.{lt-ltb, le-ltb, ne-eqb}
 use Rattle.sheet.specs.Model.{Model}
 use Rattle.sheet.specs.Kind.{kindOf, sectionOf}
 use Rattle.sheet.specs.Record.{byteAt, recordAt, nextAt}
-use Rattle.sheet.specs.Reading.{Reading, tally, allExist, isPrimitive}
-use Rattle.sheet.proofs.Order.{is-3, is-4, all-named, is-9, is-18, four}
+use Rattle.sheet.specs.Reading.{Reading, tally, inCondition, isNew, allExist, isPrimitive}
+use Rattle.sheet.proofs.Order.{is-3, is-4, is-19, is-20, all-named, is-9, is-18, four}
 use Rattle.sheet.proofs.Outcomes.{never-wrong}
 use Rattle.format.specs.declared.Refusal.the-variants.{WrongSection}
 use Rattle.format.specs.Kinds.{primitiveKind}
@@ -19,6 +19,7 @@ use Rattle.format.proofs.Table.{not-primitive}
 use Rattle.format.proofs.Laws.{kind-there, Stood, Refuses}
 use Rattle.tally.specs.declared.Tally.{Tally}
 use Rattle.tally.specs.Tally.{countOf}
+use Rattle.refusals.specs.Editions.{stopFits}
 use Rattle.sections.specs.Sections.{Counts}
 
 pub or-left : (a b : Bool) → a ≡ true → (a || b) ≡ true
@@ -57,10 +58,25 @@ module _ {M : Model} {s : List ℕ} {at kind q : ℕ} (w : Stood M s at kind q) 
         (four M s at u (w .not-2) not-3 (or-left (ltb (sectionOf (byteAt s at)) (u .section)) _ (lt-ltb (sectionOf (byteAt s at)) (u .section) less)), refl)
 
     -- not 4
-    pub in-order : u .section ≤ sectionOf kind → (eqb (u .opened .section) 1 && ltb 1 (sectionOf (byteAt s at))) ≡ false → is-4 M s at u ≡ false
+    pub in-order : u .section ≤ sectionOf kind → (eqb (u .opened .section) 1 && not (inCondition (sectionOf (byteAt s at)) (kindOf (byteAt s at) .role))) ≡ false → is-4 M s at u ≡ false
     in-order low free =
         let le : u .section ≤ sectionOf (byteAt s at) = omega (arith, section-is) in
         or-both (ltb (sectionOf (byteAt s at)) (u .section)) _ (le-ltb (sectionOf (byteAt s at)) (u .section) le) free
+
+    -- not 19: no mark of the edition
+    pub no-mark : (kind ≡ 18 → ⊥) → is-19 M s at u ≡ false
+    no-mark ne = and-left (eqb (byteAt s at) 18) (ltb 0 at) (ne-eqb (byteAt s at) 18 (λ (e : byteAt s at ≡ 18). ne (sym (w .kind) ∙ e)))
+
+    -- 20 is the code's test, turned round; not 20: no stop
+    pub stop-is : is-20 M s at u ≡ not (stopFits s kind)
+    stop-is = ap (λ (k : ℕ). eqb k 19 && not (isNew s)) (w .kind) ∙ go (eqb kind 19)
+      where
+        go : (b : Bool) → (b && not (isNew s)) ≡ not (cond b (isNew s) true)
+        go true = refl
+        go false = refl
+
+    pub no-stop : (kind ≡ 19 → ⊥) → is-20 M s at u ≡ false
+    no-stop ne = and-left (eqb (byteAt s at) 19) (not (isNew s)) (ne-eqb (byteAt s at) 19 (λ (e : byteAt s at ≡ 19). ne (sym (w .kind) ∙ e)))
 
     -- 7 asks whether the names exist by the code's tally
     pub names-are : {t : Tally} → Counts u t → all-named M s at u ≡ allExist (M .events) (countOf t) (kindOf kind .fields) (recordAt s at .values)

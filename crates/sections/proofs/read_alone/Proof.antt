@@ -16,11 +16,12 @@ use Rattle.format.specs.declared.Refusal.{Refusal}
 use Rattle.format.specs.Kinds.{primitiveKind}
 use Rattle.format.proofs.Laws.{Stood, stood, Refuses, refused}
 use Rattle.instrument.specs.Model.{modelWith}
+use Rattle.refusals.specs.Editions.{stopFits}
 use Rattle.tally.specs.Tally.{countOf}
 use Rattle.sections.specs.declared.Section.{Section}
 use Rattle.sections.specs.declared.Section.the-variants.{Done}
 use Rattle.sections.specs.Sections.{Told, Filled, MethodsListed}
-use Rattle.sections.proofs.Alone.{begin, passes, no-more, no-record, too-early, later-section, over-limit, unnamed, first-test, primitive-first, wrong-if, fit-if, wrong-outcomes, again}
+use Rattle.sections.proofs.Alone.{begin, passes, no-more, no-record, too-early, later-section, old-stop, over-limit, unnamed, first-test, primitive-first, wrong-if, fit-if, wrong-outcomes, again}
 use Rattle.sections.proofs.read_alone.Statement.{statement}
 use Rattle.sections.proofs.read_alone.Tie as tie
 
@@ -43,17 +44,23 @@ of-turn c = entry (c .before .before)
 abbrev turn : tie.After-known-told2 Inv-loop μ-loop → tie.In-loop Inv-loop μ-loop
 turn c = c .before .before .before .before
 
--- past the count, the test of the limit, the test of names, and the test for a first primitive
-abbrev read : tie.After-count2 Inv-loop μ-loop → tie.After-known-told2 Inv-loop μ-loop
-read c = c .before .before .before .before
+-- past the test of stops, the count, the test of the limit, the test of names, and the test for a first primitive
+abbrev judged : tie.After-stop-fits Inv-loop μ-loop → tie.After-known-told2 Inv-loop μ-loop
+judged c = c .before .before .before .before
 
-abbrev roomy : tie.Else3 Inv-loop μ-loop → tie.After-count2 Inv-loop μ-loop
+abbrev fitting : tie.After-count2 Inv-loop μ-loop → tie.After-stop-fits Inv-loop μ-loop
+fitting c = c .before .before
+
+abbrev read : tie.After-count2 Inv-loop μ-loop → tie.After-known-told2 Inv-loop μ-loop
+read c = judged (fitting c)
+
+abbrev roomy : tie.Else4 Inv-loop μ-loop → tie.After-count2 Inv-loop μ-loop
 roomy c = c .before
 
-abbrev existing : tie.After-both Inv-loop μ-loop → tie.Else4 Inv-loop μ-loop
+abbrev existing : tie.After-both Inv-loop μ-loop → tie.Else5 Inv-loop μ-loop
 existing c = c .before .before
 
-abbrev tested : tie.After-both Inv-loop μ-loop → tie.Else3 Inv-loop μ-loop
+abbrev tested : tie.After-both Inv-loop μ-loop → tie.Else4 Inv-loop μ-loop
 tested c = existing c .before .before
 
 enum-known-reached : tie.Need-enum-known-reached Inv-loop μ-loop
@@ -135,53 +142,69 @@ returns-4 c = λ o u told none listed.
     let t = turn (c .before .before .before) in
     later-section (of-turn t .pre .0) (kept t o u told none listed) (t .loop-test .taken) (standing (c .before .before .before)) (omega (arith, c .if2 .taken, c .before .before .section-of .ensures))
 
-count-requires-2 : tie.Need-count-requires-2 Inv-loop μ-loop
-count-requires-2 c κs = search needs
-
 -- the record is of the section
-same : (c : tie.After-count2 Inv-loop μ-loop) → sectionOf (read c .before .got .given .0 .0) ≡ of-turn (turn (read c)) .args .section
+same : (c : tie.After-stop-fits Inv-loop μ-loop) → sectionOf (judged c .before .got .given .0 .0) ≡ of-turn (turn (judged c)) .args .section
 same c = omega (arith, c .before .if2 .left, c .before .before .if1 .left, c .before .before .before .section-of .ensures)
 
+stop-fits-requires : tie.Need-stop-fits-requires Inv-loop μ-loop
+stop-fits-requires c κs = search needs
+
 same-length-4 : tie.Need-same-length-4 Inv-loop μ-loop
-same-length-4 c = turn (read (c .before)) .before .loop .inv .0
+same-length-4 c = turn (judged (c .before)) .before .loop .inv .0
 
 returns-5 : tie.Need-returns-5 Inv-loop μ-loop
 returns-5 c = λ o u told none listed.
+    let t = turn (judged (c .before)) in
+    old-stop (of-turn t .pre .0) (kept t o u told none listed) (t .loop-test .taken) (standing (judged (c .before))) (same (c .before))
+    (sym (c .before .stop-fits .ensures) ∙ not-true (c .before .stop-fits .result) (c .if3 .taken))
+
+count-requires-2 : tie.Need-count-requires-2 Inv-loop μ-loop
+count-requires-2 c κs = search needs
+
+-- it is no stop of an old sheet
+stops : (c : tie.After-count2 Inv-loop μ-loop) → stopFits (of-turn (turn (read c)) .args .s .now) (read c .before .got .given .0 .0) ≡ true
+stops c = sym (fitting c .stop-fits .ensures) ∙ not-false (fitting c .stop-fits .result) (c .before .if3 .left)
+
+same-length-5 : tie.Need-same-length-5 Inv-loop μ-loop
+same-length-5 c = turn (read (c .before)) .before .loop .inv .0
+
+returns-6 : tie.Need-returns-6 Inv-loop μ-loop
+returns-6 c = λ o u told none listed.
     let t = turn (read (c .before)) in
     let start = of-turn t in
-    over-limit (start .pre .0) (kept t o u told none listed) (t .loop-test .taken) (standing (read (c .before))) (same (c .before))
-    (le-leb (start .args .limit) (countOf (t .before .loop .tally) (start .args .section)) (omega (arith, c .if3 .taken, c .before .count2 .ensures)))
+    over-limit (start .pre .0) (kept t o u told none listed) (t .loop-test .taken) (standing (read (c .before))) (same (fitting (c .before))) (stops (c .before))
+    (le-leb (start .args .limit) (countOf (t .before .loop .tally) (start .args .section)) (omega (arith, c .if4 .taken, c .before .count2 .ensures)))
 
 names-exist-requires : tie.Need-names-exist-requires Inv-loop μ-loop
 names-exist-requires c κs =
-    let is = same (c .before) in
+    let is = same (fitting (c .before)) in
     let a = of-turn (turn (read (c .before))) .pre .0 in
     let w = standing (read (c .before)) in
     record { is = w .kind; low = omega (arith, a .low); high = omega (arith, a .high); inside = w .inside }
 
 -- there is room for one more
-within : (c : tie.Else3 Inv-loop μ-loop)
+within : (c : tie.Else4 Inv-loop μ-loop)
     → leb (of-turn (turn (read (roomy c))) .args .limit) (countOf (turn (read (roomy c)) .before .loop .tally) (of-turn (turn (read (roomy c))) .args .section)) ≡ false
 within c =
     lt-leb (of-turn (turn (read (roomy c))) .args .limit) (countOf (turn (read (roomy c)) .before .loop .tally) (of-turn (turn (read (roomy c))) .args .section))
-    (omega (arith, c .if3 .left, c .before .count2 .ensures))
+    (omega (arith, c .if4 .left, c .before .count2 .ensures))
 
-same-length-5 : tie.Need-same-length-5 Inv-loop μ-loop
-same-length-5 c = turn (read (roomy (c .before .before))) .before .loop .inv .0
+same-length-6 : tie.Need-same-length-6 Inv-loop μ-loop
+same-length-6 c = turn (read (roomy (c .before .before))) .before .loop .inv .0
 
-returns-6 : tie.Need-returns-6 Inv-loop μ-loop
-returns-6 c = λ o u told none listed.
+returns-7 : tie.Need-returns-7 Inv-loop μ-loop
+returns-7 c = λ o u told none listed.
     let counted = roomy (c .before .before) in
     let t = turn (read counted) in
-    unnamed (of-turn t .pre .0) (kept t o u told none listed) (t .loop-test .taken) (standing (read counted)) (same counted) (within (c .before .before))
-    (sym (c .before .names-exist .ensures) ∙ not-true (c .before .names-exist .result) (c .if4 .taken))
+    unnamed (of-turn t .pre .0) (kept t o u told none listed) (t .loop-test .taken) (standing (read counted)) (same (fitting counted)) (stops counted) (within (c .before .before))
+    (sym (c .before .names-exist .ensures) ∙ not-true (c .before .names-exist .result) (c .if5 .taken))
 
 -- what the record names exists
-named : (c : tie.Else4 Inv-loop μ-loop)
+named : (c : tie.Else5 Inv-loop μ-loop)
     → allExist (of-turn (turn (read (roomy (c .before .before)))) .args .limits .events) (countOf (turn (read (roomy (c .before .before))) .before .loop .tally))
     (kindOf (read (roomy (c .before .before)) .before .got .given .0 .0) .fields)
     (recordAt (of-turn (turn (read (roomy (c .before .before)))) .args .s .now) (turn (read (roomy (c .before .before))) .before .loop .at) .values) ≡ true
-named c = sym (c .before .names-exist .ensures) ∙ not-false (c .before .names-exist .result) (c .if4 .left)
+named c = sym (c .before .names-exist .ensures) ∙ not-false (c .before .names-exist .result) (c .if5 .left)
 
 is-primitive-requires : tie.Need-is-primitive-requires Inv-loop μ-loop
 is-primitive-requires c κs = search needs
@@ -197,31 +220,31 @@ first-primitive : (c : tie.After-both Inv-loop μ-loop)
 first-primitive c =
     first-test (c .both .ensures) (c .before .is-primitive .ensures) (roomy (tested c) .count2 .ensures) (turn (read (roomy (tested c))) .before .before .count .ensures)
 
-same-length-6 : tie.Need-same-length-6 Inv-loop μ-loop
-same-length-6 c = turn (read (roomy (tested (c .before)))) .before .loop .inv .0
+same-length-7 : tie.Need-same-length-7 Inv-loop μ-loop
+same-length-7 c = turn (read (roomy (tested (c .before)))) .before .loop .inv .0
 
-returns-7 : tie.Need-returns-7 Inv-loop μ-loop
-returns-7 c = λ o u told none listed.
+returns-8 : tie.Need-returns-8 Inv-loop μ-loop
+returns-8 c = λ o u told none listed.
     let room = tested (c .before) in
     let counted = roomy room in
     let t = turn (read counted) in
-    primitive-first (of-turn t .pre .0) (kept t o u told none listed) (t .loop-test .taken) (standing (read counted)) (same counted) (within room)
-    (named (existing (c .before))) (given (t .before .before) o u told .1) none (first-primitive (c .before) ∙ c .if5 .taken)
+    primitive-first (of-turn t .pre .0) (kept t o u told none listed) (t .loop-test .taken) (standing (read counted)) (same (fitting counted)) (stops counted) (within room)
+    (named (existing (c .before))) (given (t .before .before) o u told .1) none (first-primitive (c .before) ∙ c .if6 .taken)
 
 outcomes-fit-requires : tie.Need-outcomes-fit-requires Inv-loop μ-loop
 outcomes-fit-requires c κs = turn (read (roomy (tested (c .before)))) .loop-test .taken
 
-same-length-7 : tie.Need-same-length-7 Inv-loop μ-loop
-same-length-7 c = turn (read (roomy (tested (c .before .before .before)))) .before .loop .inv .0
+same-length-8 : tie.Need-same-length-8 Inv-loop μ-loop
+same-length-8 c = turn (read (roomy (tested (c .before .before .before)))) .before .loop .inv .0
 
-returns-8 : tie.Need-returns-8 Inv-loop μ-loop
-returns-8 c = λ o u told none listed.
+returns-9 : tie.Need-returns-9 Inv-loop μ-loop
+returns-9 c = λ o u told none listed.
     let room = tested (c .before .before .before) in
     let counted = roomy room in
     let t = turn (read counted) in
-    wrong-outcomes (of-turn t .pre .0) (kept t o u told none listed) (t .loop-test .taken) (standing (read counted)) (same counted) (within room)
-    (named (existing (c .before .before .before))) (given (t .before .before) o u told .1) none (first-primitive (c .before .before .before) ∙ c .before .before .if5 .left) (of-turn t .args .methods .now)
-    listed (wrong-if (c .before .outcomes-fit .ensures) (c .if6 .taken))
+    wrong-outcomes (of-turn t .pre .0) (kept t o u told none listed) (t .loop-test .taken) (standing (read counted)) (same (fitting counted)) (stops counted) (within room)
+    (named (existing (c .before .before .before))) (given (t .before .before) o u told .1) none (first-primitive (c .before .before .before) ∙ c .before .before .if6 .left) (of-turn t .args .methods .now)
+    listed (wrong-if (c .before .outcomes-fit .ensures) (c .if7 .taken))
 
 cast-table : tie.Need-cast-table Inv-loop μ-loop
 cast-table c = let t = turn (read (roomy (tested (c .before .before .before)))) in omega (arith, t .loop-test .taken, of-turn t .pre .1)
@@ -230,19 +253,19 @@ mul-table : tie.Need-mul-table Inv-loop μ-loop
 mul-table c =
     let room = tested (c .before .before .before) in
     let start = of-turn (turn (read (roomy room))) in
-    omega (arith, room .if3 .left, start .pre .0 .room, start .good)
+    omega (arith, room .if4 .left, start .pre .0 .room, start .good)
 
 slice-write-table : tie.Need-slice-write-table Inv-loop μ-loop
 slice-write-table c =
     let room = tested (c .before .before .before) in
     let t = turn (read (roomy room)) in
-    omega (arith, room .if3 .left, of-turn t .pre .0 .room, t .before .loop .inv .0)
+    omega (arith, room .if4 .left, of-turn t .pre .0 .room, t .before .loop .inv .0)
 
 past-requires : tie.Need-past-requires Inv-loop μ-loop
 past-requires c κs =
     let room = tested (c .before .before .before) in
     let start = of-turn (turn (read (roomy room))) in
-    omega (arith, room .if3 .left, roomy room .count2 .ensures, start .pre .0 .room, start .good)
+    omega (arith, room .if4 .left, roomy room .count2 .ensures, start .pre .0 .room, start .good)
 
 loop-less : tie.Need-loop-less Inv-loop μ-loop
 loop-less c =
@@ -257,18 +280,18 @@ loop-again c =
     let t = turn (read counted) in (
       length-set (t .before .loop .table) (counted .count2 .result) (t .before .loop .at) ∙ t .before .loop .inv .0,
       λ o u told none listed.
-          again (of-turn t .pre .0) (t .before .loop .inv .1 o u told none listed) (t .loop-test .taken) (standing (read counted)) (same counted) (within room)
+          again (of-turn t .pre .0) (t .before .loop .inv .1 o u told none listed) (t .loop-test .taken) (standing (read counted)) (same (fitting counted)) (stops counted) (within room)
           (named (existing (c .before .before .before .before))) (told .1) none
-          (first-primitive (c .before .before .before .before) ∙ c .before .before .before .if5 .left) (of-turn t .args .methods .now)
-          listed (fit-if (c .before .before .outcomes-fit .ensures) (c .before .if6 .left))
+          (first-primitive (c .before .before .before .before) ∙ c .before .before .before .if6 .left) (of-turn t .args .methods .now)
+          listed (fit-if (c .before .before .outcomes-fit .ensures) (c .before .if7 .left))
           (counted .count2 .ensures) (c .past .ensures),
     )
 
-same-length-8 : tie.Need-same-length-8 Inv-loop μ-loop
-same-length-8 c = c .before .loop .inv .0
+same-length-9 : tie.Need-same-length-9 Inv-loop μ-loop
+same-length-9 c = c .before .loop .inv .0
 
-returns-9 : tie.Need-returns-9 Inv-loop μ-loop
-returns-9 c = λ o u told none listed. no-more (entry (c .before .before) .pre .0) (c .before .loop .inv .1 o u (given (c .before .before) o u told) none listed) (c .loop-test .left)
+returns-10 : tie.Need-returns-10 Inv-loop μ-loop
+returns-10 c = λ o u told none listed. no-more (entry (c .before .before) .pre .0) (c .before .loop .inv .1 o u (given (c .before .before) o u told) none listed) (c .loop-test .left)
 
 pub read-alone-spec : {M : Type 1} → statement M
 read-alone-spec =
@@ -292,24 +315,27 @@ read-alone-spec =
     returns-3
     same-length-3
     returns-4
-    count-requires-2
+    stop-fits-requires
     same-length-4
     returns-5
-    names-exist-requires
+    count-requires-2
     same-length-5
     returns-6
-    is-primitive-requires
-    both-requires
+    names-exist-requires
     same-length-6
     returns-7
-    outcomes-fit-requires
+    is-primitive-requires
+    both-requires
     same-length-7
     returns-8
+    outcomes-fit-requires
+    same-length-8
+    returns-9
     cast-table
     mul-table
     slice-write-table
     past-requires
     loop-less
     loop-again
-    same-length-8
-    returns-9)
+    same-length-9
+    returns-10)

@@ -1,0 +1,102 @@
+-- The start of the section of conditions: behind the mark of the edition, if there is one.
+use mathlib.Core.Path.{_≡_, refl, sym, ap, _∙_, subst}
+use mathlib.Core.Bool.{Bool, true, false, not, cond, _&&_, _||_}
+use mathlib.Core.List.{List, []}
+use Prim.Native.Nat.{ℕ, _+_, _≤_}
+use native.Mathlib.Omega.{arith}
+use lib.ListN.{length}
+use lib.Dec.{eqb, ltb, leb}
+use borrow.Author.Tests.{le-ltb, leb-true, eqb-true}
+use Rattle.sheet.specs.Model.{Model}
+use Rattle.sheet.specs.Kind.{Role, edition, kindOf, sectionOf, bodyLength}
+use Rattle.sheet.specs.Record.{byteAt, recordAt, nextAt}
+use Rattle.sheet.specs.Reading.{Opened, nothing, Reading, tally, inCondition, isNew, wrongItems, overLimit, refusalOf, openedPast, pastAt, ReadResult}
+use Rattle.sheet.proofs.Take.{next-is}
+use Rattle.sheet.proofs.Order.{takes}
+use Rattle.format.specs.Kinds.{countsOne}
+use Rattle.format.proofs.Table.{names-nothing}
+use Rattle.format.proofs.Laws.{inside, Stood}
+use Rattle.refusals.specs.declared.Begun.{Begun}
+use Rattle.refusals.specs.Step.{nothingBegun}
+use Rattle.refusals.specs.Editions.{pastMark}
+use Rattle.tally.specs.declared.Tally.{Tally}
+use Rattle.sections.specs.declared.Section.the-variants.{Done}
+use Rattle.sections.specs.Sections.{Told}
+use Rattle.sections.proofs.Comes.{taken-on}
+use Rattle.sections.proofs.Counted.{counts-same, grown-same}
+use Rattle.sections.proofs.Tests.{and-right, not-3, in-order, no-stop, no-method, no-call}
+use Rattle.sections.proofs.Alone as alone
+use Rattle.sections.proofs.Opening.{Matches, nothing-matches, Opening}
+
+module _ {M : Model} {s : List ℕ} {o : ReadResult} {r : Reading} {t : Tally} (table : List ℕ) (told : Told M s o 0 (Done 0 t) r) (none : r .own 1 ≡ []) where
+  abbrev Starts : ℕ → Type 0
+  Starts at = Opening M s o r at at nothingBegun t table table
+
+  unmarked : pastMark (M .kinds) s ≤ 0 → Starts 0
+  unmarked no-mark =
+      record {
+        state = r;
+        comes = told .0 .comes;
+        section = omega (arith, told .0 .section);
+        counts = told .1;
+        grown = alone.begin table none;
+        matches = subst (λ (o : Opened). Matches o 0 0 nothingBegun) (sym (told .0 .closed)) (nothing-matches 0);
+        marked = no-mark;
+      }
+
+  module _ (new : isNew s ≡ true) (known : leb 18 (M .kinds) ≡ true) where
+    here : byteAt s 0 ≡ 18
+    here = eqb-true (byteAt s 0) 18 new
+
+    mark : Stood M s 0 18 1
+    mark =
+        let next : nextAt s 0 ≡ 1 = next-is s 0 ∙ ap (λ (k : ℕ). 0 + 1 + bodyLength k) here in
+        let high = leb-true 18 (M .kinds) known in
+        record {
+          kind = here;
+          next = next;
+          low = omega arith;
+          high = high;
+          inside = omega (arith, inside s 0 (omega (arith, here)));
+          not-2 = ap (λ (k : ℕ). eqb k 0 || ltb (M .kinds) k) here ∙ le-ltb (M .kinds) 18 high;
+        }
+
+    role : kindOf (byteAt s 0) .role ≡ edition
+    role = ap (λ (k : ℕ). kindOf k .role) here
+
+    taken : refusalOf M s 0 r ≡ 0
+    taken =
+        takes M s 0 r (mark .not-2) (not-3 mark r)
+        (in-order mark r (omega (arith, told .0 .section))
+        (ap (λ (o : Opened). eqb (o .section) 1 && not (inCondition (sectionOf (byteAt s 0)) (kindOf (byteAt s 0) .role))) (told .0 .closed)))
+        (and-right (eqb (byteAt s 0) 18) (ltb 0 0) refl) (no-stop mark r (λ e. omega arith))
+        (ap (λ (y : Role). wrongItems (sectionOf (byteAt s 0)) y (length (r .opened .items))) role)
+        (ap (λ (y : Role). overLimit M r (recordAt s 0) (sectionOf (byteAt s 0)) y) role)
+        (names-nothing (M .events) (tally r) (byteAt s 0) (λ low high. omega (arith, ap sectionOf here)) (recordAt s 0 .values))
+        (no-method mark r (λ e. omega arith)) (no-call mark r (λ e. omega arith))
+
+    past-mark : pastMark (M .kinds) s ≤ 1 → Starts 1
+    past-mark one =
+        let no-count = ap countsOne role in
+        let nothing-open : pastAt s 0 r .opened ≡ nothing = ap (λ (y : Role). openedPast (r .opened) (recordAt s 0) (sectionOf (byteAt s 0)) y) role in
+        record {
+          state = pastAt s 0 r;
+          comes = taken-on (told .0 .comes) (inside s 0 (omega (arith, here))) mark taken;
+          section = omega (arith, ap sectionOf here);
+          counts = counts-same s 0 r no-count (told .1);
+          grown = grown-same s 0 r no-count (alone.begin table none);
+          matches = subst (λ (o : Opened). Matches o 1 1 nothingBegun) (sym nothing-open) (nothing-matches 1);
+          marked = one;
+        }
+
+  mark-is : {new known : Bool} → isNew s ≡ new → leb 18 (M .kinds) ≡ known → pastMark (M .kinds) s ≡ cond (new && known) 1 0
+  mark-is e f = simp (e, f)
+
+  starts : (new known : Bool) → isNew s ≡ new → leb 18 (M .kinds) ≡ known → Starts (cond (new && known) 1 0)
+  starts true true e f = past-mark e f (omega (arith, mark-is e f))
+  starts true false e f = unmarked (omega (arith, mark-is e f))
+  starts false known e f = unmarked (omega (arith, mark-is e f))
+
+  pub begin : {b : Begun} {at : ℕ} → b ≡ nothingBegun → at ≡ pastMark (M .kinds) s → Opening M s o r at at b t table table
+  begin {at = at} nothing-begun is =
+      subst (λ (b : Begun). Opening M s o r at at b t table table) (sym nothing-begun) (subst Starts (sym is) (starts (isNew s) (leb 18 (M .kinds)) refl refl))
