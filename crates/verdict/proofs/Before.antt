@@ -42,7 +42,7 @@ abbrev sheets : List Both
 sheets =
     -- "The sheet 0F now gives `refused 3 at 0`"; the first kind that is still unknown
     both (0x0F ∷ []) (refused 2 (some 0)) (refused 3 (some 0))
-    ∷ both (0x12 ∷ []) (refused 2 (some 0)) (refused 2 (some 0))
+    ∷ both (0x14 ∷ []) (refused 2 (some 0)) (refused 2 (some 0))
     -- a record of a kind of Ask 2 further on
     ∷ both (allEmpty method16 (ones 5)) (refused 2 (some 9)) (accepted 9)
     ∷ both (allEmpty withPrimitive (ones 12)) (refused 2 (some 20)) (accepted 15)
@@ -160,8 +160,8 @@ at-former-kind : AsBefore replyOf 14 large (14 ∷ []) (refused 2 (some 0)) (acc
 at-former-kind (of-new-kind above taken e) = omega (arith, above, only-byte 14 e)
 at-former-kind (the-same-answer e) = omega (arith, same-number (ap replyOf e))
 
-at-unknown-kind : AsBefore replyOf 14 large (18 ∷ []) (refused 2 (some 0)) (accepted 6) → ⊥
-at-unknown-kind (of-new-kind above taken e) = omega (arith, taken, only-byte 18 e)
+at-unknown-kind : AsBefore replyOf 14 large (20 ∷ []) (refused 2 (some 0)) (accepted 6) → ⊥
+at-unknown-kind (of-new-kind above taken e) = omega (arith, taken, only-byte 20 e)
 at-unknown-kind (the-same-answer e) = omega (arith, same-number (ap replyOf e))
 
 -- another refusal than 2, at a record of a kind of Ask 2

@@ -6,13 +6,14 @@ use Rattle.sheet.proofs.Standing.{conditions-in-postfix}
 use Rattle.sheet.proofs.Named.{names-exist, events-below}
 use Rattle.sheet.proofs.First.{first-has-body}
 use Rattle.sheet.proofs.Outcomes.{outcomes-fit}
+use Rattle.sheet.proofs.Editions.{edition, stops-fit}
 use Rattle.runs.specs.Rules.{rules}
 use Rattle.runs.proofs.Count.{counted}
 use Rattle.runs.proofs.Moves.{made-by-trace}
 use Rattle.runs.proofs.Grow.{histories-grow}
 use Rattle.verdict.specs.Facts.{FactsHold}
 use Rattle.verdict.proofs.Loads.{loads, promised-when-open}
-use Rattle.verdict.proofs.Former.{one-outcome}
+use Rattle.verdict.proofs.Former.{old-edition, one-outcome}
 use Rattle.verdict.proofs.Witnesses.{exact-exist}
 
 pub facts : (M : Model) → FactsHold M
@@ -25,6 +26,9 @@ facts M wide s bytes =
       events-below = events-below M s;
       first-has-body = first-has-body M s;
       outcomes-fit = outcomes-fit M s;
+      edition = edition M s;
+      stops-fit = stops-fit M s;
+      old-edition = λ former r read. old-edition M s r read former;
       one-outcome = λ former r read. one-outcome M s r read former;
       counted = counted (sheetOf M s);
       made-by-trace = λ u i t o q w going found at primitive to. made-by-trace (sheetOf M s) u i o w going t found at primitive to;

@@ -1,30 +1,32 @@
--- What an instrument that takes document 01's kinds alone judges by: the sheets that it reads have no second outcome, so their rules are document 01's
--- seventeen, and the count is its formula.
+-- What an instrument that takes fewer kinds judges by. Without the kinds 18 and 19 the sheets that it reads are of the old edition, so none of their rules is
+-- 25 or 26. With document 01's kinds alone they have no second outcome either, so their rules are that document's seventeen, and the count is its formula.
 use mathlib.Core.Path.{_≡_, refl, sym, ap, _∙_, subst}
 use mathlib.Core.Bool.{Bool, true, false, cond}
 use mathlib.Core.Logic.{_⊎_, inl, inr}
 use mathlib.Core.Option.{Option, none, some}
 use mathlib.Core.List.{List, [], _∷_}
-use Prim.Native.Nat.{ℕ, suc, _+_, _*_, _≤_, _<_}
+use Prim.Native.Nat.{ℕ, _<_}
 use native.Mathlib.Omega.{arith}
 use lib.ListN.{getElem?}
-use lib.Dec.{T, eqb, ltb, leb}
-use borrow.Author.Tests.{leb-true, ltb-false, ne-eqb}
+use lib.Dec.{T, eqb, ltb}
+use borrow.Author.Tests.{ltb-false, ne-eqb}
 use Rattle.condition.specs.Condition.{Word}
 use Rattle.sheet.specs.Model.{Model}
-use Rattle.sheet.specs.Each.{Each, nil, cons}
-use Rattle.sheet.specs.Sheet.{Outcome, normal, failed, Body, Method, CallStep, Step, event-step, callFrom, failingCallFrom, call-step, pass-step, Sheet, bodyIn, body, exitIn, targetFor}
+use Rattle.sheet.specs.Each.{Each}
+use Rattle.sheet.specs.Sheet.{Outcome, normal, failed, Body, Method, CallStep, Step, event-step, callFrom, failingCallFrom, call-step, pass-step, stop-step, Sheet, bodyIn, body, exitIn, targetFor}
 use Rattle.sheet.specs.Record.{Record, byteAt, recordAt, value}
 use Rattle.sheet.specs.Reading.{Counted, Reading, isPrimitive, hasTwoOutcomes, whole, readSheet}
 use Rattle.sheet.specs.Decode.{methodOf, stepOf, sheetOf}
-use Rattle.sheet.proofs.Each.{each-map, each-append, each-mapped, each-get}
+use Rattle.sheet.proofs.Each.{each-map, each-mapped, each-get}
 use Rattle.sheet.proofs.Take.{or-false}
 use Rattle.sheet.proofs.Own.{each-own}
 use Rattle.sheet.proofs.SheetOf.{sheet-is}
-use Rattle.verdict.specs.Facts.{OneOutcome}
+use Rattle.sheet.proofs.Editions.{NoStop, no-stops, old-edition as unmarked}
+use Rattle.verdict.specs.Facts.{OldEdition, OneOutcome}
 use Rattle.runs.specs.Runs.{Call, State, return, by-step, newCall, openCall, makeCall, tryStep, tryReturn, move}
+use Rattle.runs.specs.Rules.{howMany, failedExits, failedExitCount, failedCallCount, stopCount}
 use Rattle.runs.proofs.Moves.{step-without-target, return-without-exit}
-use Rattle.runs.specs.Rules.{Rule, ifAny, firstsRules, methodRules, methodsRules, stepRules, stepsRules, rules, howMany, bodyCount, eventCount, callCount, passCount, failedExits, failedExitCount, failedCallCount, isAmong, failedExitRules, total, failingStarts, count}
+use Rattle.runs.proofs.Earlier.{twenty-four, seventeen, formula}
 
 -- no method has a failed exit, and no call a failed target
 pub record NoFailing (S : Sheet) : Type 0 where
@@ -48,17 +50,19 @@ module _ (x : Record) (former : x .kind < 15) where
       go false false e = refl
 
   no-failed-target : failedCallCount (stepOf x) ≡ 0
-  no-failed-target = go (eqb (x .kind) 10) (eqb (x .kind) 11) (eqb (x .kind) 17) (ne-eqb (x .kind) 17 (λ e. omega (arith, e, former)))
+  no-failed-target = go (eqb (x .kind) 10) (eqb (x .kind) 11) (eqb (x .kind) 17) (eqb (x .kind) 19) (ne-eqb (x .kind) 17 (λ e. omega (arith, e, former)))
     where
-      go : (b10 b11 b17 : Bool) → b17 ≡ false
+      go : (b10 b11 b17 b19 : Bool) → b17 ≡ false
           → failedCallCount
           (cond b10 (event-step (value x 0) (value x 1) (value x 2))
           (cond b11 (callFrom (value x 0) (value x 1) (value x 2))
-          (cond b17 (failingCallFrom (value x 0) (value x 1) (value x 2) (value x 3)) (pass-step (value x 0) (value x 1))))) ≡ 0
-      go true b11 b17 e = refl
-      go false true b17 e = refl
-      go false false true e = absurd (subst T e tt)
-      go false false false e = refl
+          (cond b17 (failingCallFrom (value x 0) (value x 1) (value x 2) (value x 3))
+          (cond b19 (stop-step (value x 0)) (pass-step (value x 0) (value x 1)))))) ≡ 0
+      go true b11 b17 b19 e = refl
+      go false true b17 b19 e = refl
+      go false false true b19 e = absurd (subst T e tt)
+      go false false false true e = refl
+      go false false false false e = refl
 
 module _ (M : Model) (s : List ℕ) (r : Reading) (read : readSheet M s ≡ whole r) (former : M .kinds < 15) where
   known : (k : ℕ) → Each (λ (c : Counted). c .last .kind < 15) (r .own k)
@@ -78,82 +82,40 @@ module _ (M : Model) (s : List ℕ) (r : Reading) (read : readSheet M s ≡ whol
         targets = each-mapped (λ (t : Step). failedCallCount t ≡ 0) (λ (c : Counted). stepOf (c .last)) (each-map (λ (c : Counted). no-failed-target (c .last)) (known 4));
       })
 
+-- The old edition ---------------------------------------------------------------------------------------------------------------
+
+-- a sheet that is not marked as new has no stop
+not-stopping : (t : Step) → NoStop t → stopCount t ≡ 0
+not-stopping (event-step p q a) h = refl
+not-stopping (call-step t) h = refl
+not-stopping (pass-step p q) h = refl
+not-stopping (stop-step p) h = absurd h
+
+module _ (M : Model) (s : List ℕ) (r : Reading) (read : readSheet M s ≡ whole r) where
+  pub old-edition : M .kinds < 18 → OldEdition (sheetOf M s)
+  old-edition former =
+      let old = unmarked M s r read former in
+      let none = each-map not-stopping (no-stops M s r read old) in
+      record { unmarked = old; no-stops = none; twenty-four = twenty-four (sheetOf M s) old none }
+
+  -- and with one outcome it is a sheet of document 01
+  pub one-outcome : M .kinds < 15 → OneOutcome (sheetOf M s)
+  one-outcome former =
+      let old = old-edition (omega (arith, former)) in
+      let one = no-failing M s r read former in
+      record {
+        exits = one .exits;
+        targets = one .targets;
+        seventeen = seventeen (sheetOf M s) (old .unmarked) (old .no-stops) (one .exits) (one .targets);
+        formula = formula (sheetOf M s) (old .unmarked) (old .no-stops) (one .exits) (one .targets);
+      }
+
+-- Runs without a second outcome: a failing move changes nothing, or its outcome is not read ------------------------------------------
+
 -- what is not there
 nothing : {A : Type 0} (x : Option A) → howMany x ≡ 0 → x ≡ none
 nothing none e = refl
 nothing (some a) e = absurd (omega (arith, e))
-
--- Their count ---------------------------------------------------------------------------------------------------------------------
-
-no-total : {A : Type 0} (f : A → ℕ) {xs : List A} → Each (λ (x : A). f x ≡ 0) xs → total f xs ≡ 0
-unfolding total
-no-total f nil = refl
-no-total f (cons h t) = omega (arith, h, no-total f t)
-
-no-starts : (starts : List ℕ) (k : ℕ) {ms : List Method} → Each (λ (x : Method). failedExitCount x ≡ 0) ms → failingStarts starts k ms ≡ 0
-unfolding failingStarts
-no-starts starts k nil = refl
-no-starts starts k (cons {x = x} h t) = omega (arith, either-way (isAmong starts k), no-starts starts (suc k) t)
-  where
-    either-way : (b : Bool) → cond b (failedExitCount x) 0 ≡ 0
-    either-way true = h
-    either-way false = refl
-
--- "2 + 4b + 3e + 5c + 3p for b methods with body, e event, c call and p pass steps"
-pub former-count : (S : Sheet) → NoFailing S
-    → count S ≡ 2 + 4 * total bodyCount (S .methods) + 3 * total eventCount (S .steps) + 5 * total callCount (S .steps) + 3 * total passCount (S .steps)
-unfolding count
-former-count S one =
-    omega (arith, no-total failedExitCount (one .exits), no-starts (0 ∷ []) 0 (one .exits), no-total failedCallCount (one .targets))
-
--- Their rules ---------------------------------------------------------------------------------------------------------------------
-
--- document 01's
-abbrev Former : List Rule → Type 0
-Former = Each (λ (x : Rule). leb (x .number) 17 ≡ true)
-
-none-there : {A : Type 0} (x : Option A) (f : A → List Rule) → howMany x ≡ 0 → Former (ifAny x f)
-none-there x f e = subst (λ (x : Option _). Former (ifAny x f)) (sym (nothing x e)) nil
-
-module _ (S : Sheet) where
-  of-method : (starts : List ℕ) (m : ℕ) (b : Option Body) → failedExits b ≡ 0 → Former (methodRules S starts m b)
-  of-method starts m none e = nil
-  of-method starts m (some b) e =
-      cons refl (cons refl (cons refl (cons refl (none-there (b .failed-exit) (failedExitRules S starts m) e))))
-
-  of-step : (i : ℕ) (t : Step) → failedCallCount t ≡ 0 → Former (stepRules S i t)
-  of-step i (event-step p q a) e = cons refl (cons refl (cons refl nil))
-  of-step i (call-step t) e =
-      cons refl (cons refl (cons refl (cons refl (cons refl (none-there (t .failed-to) _ e)))))
-  of-step i (pass-step p q) e = cons refl (cons refl (cons refl nil))
-
-  of-firsts : (ms : List ℕ) → Former (firstsRules S ms)
-  unfolding firstsRules
-  of-firsts [] = nil
-  of-firsts (m ∷ ms) = cons refl (cons refl (of-firsts ms))
-
-  of-methods : (starts : List ℕ) (k : ℕ) {ms : List Method} → Each (λ (x : Method). failedExitCount x ≡ 0) ms → Former (methodsRules S starts k ms)
-  unfolding methodsRules
-  of-methods starts k nil = nil
-  of-methods starts k (cons {x = m} h t) = each-append (of-method starts k (m .body) h) (of-methods starts (suc k) t)
-
-  of-steps : (k : ℕ) {ts : List Step} → Each (λ (t : Step). failedCallCount t ≡ 0) ts → Former (stepsRules S k ts)
-  unfolding stepsRules
-  of-steps k nil = nil
-  of-steps k (cons {x = t} h r) = each-append (of-step k t h) (of-steps (suc k) r)
-
-  pub former-rules : NoFailing S → Each (λ (x : Rule). x .number ≤ 17) (rules S)
-  unfolding rules
-  former-rules one =
-      each-map (λ (x : Rule). leb-true (x .number) 17)
-      (each-append (of-firsts (0 ∷ [])) (each-append (of-methods (0 ∷ []) 0 (one .exits)) (of-steps 0 (one .targets))))
-
-pub one-outcome : (M : Model) (s : List ℕ) (r : Reading) → readSheet M s ≡ whole r → M .kinds < 15 → OneOutcome (sheetOf M s)
-one-outcome M s r read former =
-    let one = no-failing M s r read former in
-    record { exits = one .exits; targets = one .targets; seventeen = former-rules (sheetOf M s) one; formula = former-count (sheetOf M s) one }
-
--- Their runs: a failing move changes nothing, or its outcome is not read -----------------------------------------------------------
 
 no-exit : (b : Option Body) → failedExits b ≡ 0 → exitIn failed b ≡ none
 no-exit none e = refl
@@ -216,3 +178,4 @@ module _ (S : Sheet) (one : NoFailing S) (s : State) where
         go (some (event-step p q a)) found = alike (some (event-step p q a)) found refl
         go (some (call-step t)) found = call t found (body S (t .method)) refl
         go (some (pass-step p q)) found = alike (some (pass-step p q)) found refl
+        go (some (stop-step p)) found = alike (some (stop-step p)) found refl

@@ -14,10 +14,10 @@ use Rattle.certificate.proofs.Findings.{fine-is, is-fine, unless-out, unless-in
 use Rattle.certificate.proofs.Sound.{sound}
 use Rattle.certificate.proofs.Complete.{complete}
 use Rattle.sheet.specs.Each.{Each, nil, cons}
-use Rattle.sheet.specs.Sheet.{Outcome, normal, failed, Point, Declared, Body, Method, CallStep, Step, event-step, call-step, pass-step, Sheet, condition, conditionNamed, past, own, due, declaredIn, pre, trace, future}
+use Rattle.sheet.specs.Sheet.{Outcome, normal, failed, Point, Declared, Body, Method, CallStep, Step, event-step, call-step, pass-step, stop-step, Sheet, condition, conditionNamed, past, own, due, declaredIn, pre, trace, future}
 use Rattle.sheet.proofs.Each.{each-head, each-tail, each-append}
 use Rattle.sheet.specs.Names.{EventBelow}
-use Rattle.runs.specs.Rules.{Claim, _isIn_, holdsEmpty, Met, Rule, _of_says_, isAmong, ifAny, exitRules, failedExitRules, methodRules, returnRules, stepRules, firstsRules, methodsRules, stepsRules, rulesFrom, AllMet}
+use Rattle.runs.specs.Rules.{Claim, _isIn_, holdsEmpty, Met, Rule, _of_says_, isAmong, ifAny, exitRules, failedExitRules, methodRules, returnRules, entryAsked, entryRules, stepRules, firstsRules, methodsRules, stepsRules, rulesFrom, AllMet}
 use Rattle.verdict.specs.Promise.{EachCertified, done, bare, certified, Passes, ExactFor}
 
 -- the left side of a claim has only events below n
@@ -115,8 +115,13 @@ module _ (n : ℕ) (S : Sheet) (below : (c : ℕ) → EventsBelow n (condition S
       (cons (joined (event a) (due S q) (pow-lt h) (due-below q)) nil))
   step-below k (call-step t) h =
       cons (past-below (t .from))
-      (each-append (return-below 11 k t normal (t .to)) (if-any (t .failed-to) (returnRules S 18 k t failed) (return-below 18 k t failed)))
+      (each-append (return-below 11 k t normal (t .to))
+      (each-append
+      (if-any (t .failed-to) (returnRules S 18 k t failed) (return-below 18 k t failed))
+      (if-any (entryAsked S (t .method)) (entryRules S k t) (λ e. cons (due-below e) nil))))
   step-below k (pass-step p q) h = cons (past-below p) (cons (own-below p) (cons (due-below q) nil))
+  -- 25 is about the empty word
+  step-below k (stop-step p) h = cons tt nil
 
   firsts-below : (ms : List ℕ) → Below (firstsRules S ms)
   unfolding firstsRules
