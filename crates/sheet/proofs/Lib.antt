@@ -18,6 +18,7 @@ pub mod Named
 pub mod First
 pub mod Outcomes
 pub mod Editions
+pub mod Before
 pub mod Narrow
 pub mod Located
 mod Unnamed

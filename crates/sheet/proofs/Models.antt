@@ -69,7 +69,7 @@ module _ (M M′ : Model) (N : NoLarger M M′) (s : List ℕ) where
     b = byteAt s at
 
     -- the numbers of its refusals
-    data Beside : ℕ → ℕ → Type 0 where
+    pub data Beside : ℕ → ℕ → Type 0 where
       two : {n : ℕ} → M .kinds < b → b ≤ M′ .kinds → Beside 2 n
       six : {n : ℕ} → M .points < M′ .points → Beside 6 n
       same : {n : ℕ} → Beside n n
@@ -116,7 +116,7 @@ module _ (M M′ : Model) (N : NoLarger M M′) (s : List ℕ) where
         absurd (subst T (sym h′ ∙ within-limit M M″ (N .points) r (recordAt s at) (kindOf b .section) (kindOf b .role) h) tt)
     by-6 false false n h h′ = same
 
-    numbers : Beside (refusalOf M s at r) (refusalOf M′ s at r)
+    pub numbers : Beside (refusalOf M s at r) (refusalOf M′ s at r)
     numbers =
         subst (λ (events : ℕ). Beside (refusalOf M s at r) (refusalOf (with events) s at r)) (N .events)
         (by-2 (is2For M) (is2For M′) refl refl
