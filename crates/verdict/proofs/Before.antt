@@ -1,16 +1,21 @@
--- "judged as before": document 01's kinds, 1 to 14, and those of Ask 2, 15 to 17. Sheets and words by evaluation, with each of the two cases; what the
--- promise alone says of a sheet; and answers that break it.
-use mathlib.Core.Path.{_≡_, refl, sym, ap}
+-- "judged as before": document 01's kinds, 1 to 14, those of Ask 2, 15 to 17, and those of Ask 4, 18 and 19. Sheets and words by evaluation, with each of
+-- the two cases; sheets without the kinds of a request; what the promise alone says of a sheet; and answers that break it.
+use mathlib.Core.Path.{_≡_, refl, sym, ap, _∙_}
 use mathlib.Core.Bool.{true, false}
+use mathlib.Core.Logic.{⊎-elim}
 use mathlib.Core.Option.{some}
 use mathlib.Core.List.{List, [], _∷_, map}
 use Prim.Native.Nat.{ℕ, _≤_}
+use native.Mathlib.Nat.{eq-or-lt-of-le, le-of-suc-le-suc}
 use native.Mathlib.Omega.{arith}
 use lib.ListN.{take}
+use Rattle.condition.specs.Condition.{Word}
 use Rattle.certificate.specs.Certificate.{Fault}
 use Rattle.sheet.specs.Model.{Model, large, entry, NoLarger, withKinds}
 use Rattle.sheet.specs.Record.{byteAt}
-use Rattle.sheet.specs.Reading.{ReadResult, whole, refusal, readSheet}
+use Rattle.sheet.specs.Reading.{Reading, ReadResult, whole, refusal, readSheet}
+use Rattle.sheet.proofs.Outcomes.{Reached}
+use Rattle.sheet.proofs.Before.{WithoutKindsAbove, fewer-kinds}
 use Rattle.verdict.specs.Verdict.{Report, accepted, refused, unproved, verdictOf}
 use Rattle.verdict.specs.WordTest.{Answer, tested, untested, wordTest}
 use Rattle.verdict.specs.Reply.{Reply, _giving_, replyOf, answerReply}
@@ -18,7 +23,8 @@ use Rattle.verdict.specs.Promise.{RefusedFor, while-reading, wrong-count
 use Rattle.verdict.specs.Cases.{M, M′, W}
 use Rattle.verdict.proofs.Parts.{ones, allEmpty, withPrimitive, method16}
 use Rattle.verdict.proofs.Reply.{orZero, same-number, same-value}
-use Rattle.verdict.proofs.Models.{fewer-kinds}
+use Rattle.verdict.proofs.Models.{judged-the-same, tested-the-same}
+use Rattle.verdict.proofs.Bytes.{allBelow, none-above}
 
 -- By evaluation -------------------------------------------------------------------------------------------------------------
 
@@ -67,9 +73,44 @@ at-new-kind : AsBefore replyOf 14 large (0x0F ∷ []) (verdictOf (former large) 
 unfolding verdictOf byteAt
 at-new-kind = of-new-kind {at = 0} (omega arith) (omega arith) refl
 
+at-edition : AsBefore replyOf 17 large (0x12 ∷ []) (verdictOf (withKinds 17 large) (0x12 ∷ [])) (verdictOf large (0x12 ∷ []))
+unfolding verdictOf byteAt
+at-edition = of-new-kind {at = 0} (omega arith) (omega arith) refl
+
 without-new-kinds : AsBefore replyOf 14 large M (verdictOf (former large) M) (verdictOf large M)
 unfolding verdictOf
 without-new-kinds = the-same-answer refl
+
+-- Sheets without the kinds of a request ---------------------------------------------------------------------------------------
+
+-- "sheets without kinds 18 and 19 are judged as before": where no record that reading comes to is of one of these kinds, an instrument that takes the kinds
+-- up to 19 gives the verdict, and the answer of the word test, that it gave when it took those up to 17
+module _ (I : Model) (kinds : I .kinds ≡ 19) (s : List ℕ)
+    (none : (at : ℕ) (r : Reading) → Reached I s at r → (byteAt s at ≡ 18 → ⊥) × (byteAt s at ≡ 19 → ⊥)) where
+  neither : WithoutKindsAbove 17 I s
+  neither at r h above taken =
+      let (not18, not19) = none at r h in
+      let within : byteAt s at ≤ 19 = omega (arith, taken, kinds) in
+      ⊎-elim not19 (λ below. not18 (omega (arith, above, below))) (eq-or-lt-of-le within)
+
+  pub judged-without-18-and-19 : verdictOf (withKinds 17 I) s ≡ verdictOf I s
+  judged-without-18-and-19 = judged-the-same I s 17 (omega (arith, kinds)) neither
+
+  pub tested-without-18-and-19 : (c : ℕ) (w : Word) → wordTest (withKinds 17 I) s c w ≡ wordTest I s c w
+  tested-without-18-and-19 = tested-the-same I s 17 (omega (arith, kinds)) neither
+
+-- whatever keeps the promise gives a sheet without the kinds above k the verdict that it had
+pub keeps-without : {I : Model} {s : List ℕ} {answer : Report} → Loads I s answer → (k : ℕ) → k ≤ I .kinds → WithoutKindsAbove k I s
+    → answer ≡ verdictOf (withKinds k I) s
+keeps-without {I} {s} l k few without = l .stated ∙ sym (judged-the-same I s k few without)
+
+-- such a sheet is one that has no byte above k, as document 01's sheet M
+no-byte-above : (k : ℕ) (I : Model) (s : List ℕ) → ((i : ℕ) → byteAt s i ≤ k) → WithoutKindsAbove k I s
+no-byte-above k I s none at r h above taken = omega (arith, above, none at)
+
+M-without : WithoutKindsAbove 14 large M
+unfolding allBelow byteAt
+M-without = no-byte-above 14 large M (λ i. le-of-suc-le-suc (none-above 14 M tt i))
 
 -- What the promise says -------------------------------------------------------------------------------------------------------
 

@@ -1,14 +1,14 @@
 -- Request 8: what an instrument answers, beside one that is no smaller. An answer depends on the instrument by what is read and by the number of events
--- alone. And "judged as before": beside the same instrument with more kinds.
+-- alone. And "judged as before": beside the same instrument with more kinds, of which a sheet may have none.
 use mathlib.Core.Path.{_≡_, refl, sym, ap, _∙_, subst}
 use mathlib.Core.List.{List}
 use Prim.Native.Nat.{ℕ, _≤_}
-use native.Mathlib.Nat.{le-refl}
 use native.Mathlib.Omega.{arith}
 use Rattle.condition.specs.Condition.{Word}
 use Rattle.sheet.specs.Model.{Model, NoLarger, withKinds}
-use Rattle.sheet.specs.Reading.{fresh, ReadResult, whole, refusal}
+use Rattle.sheet.specs.Reading.{fresh, ReadResult, whole, refusal, readSheet}
 use Rattle.sheet.proofs.Models.{ReadsLike, too-long as reads-too-long, over-limit as reads-over-limit, unknown-kind as reads-unknown-kind, the-same as reads-the-same, reads-like}
+use Rattle.sheet.proofs.Before.{WithoutKindsAbove, fewer-kinds, reads-as-before}
 use Rattle.verdict.specs.Verdict.{Report, accepted, verdictAfter, verdictOf}
 use Rattle.verdict.specs.WordTest.{testedAfter, wordTest}
 use Rattle.verdict.specs.Reply.{Reply, _giving_, replyOf, answerReply}
@@ -30,10 +30,6 @@ module _ (M M′ : Model) (s : List ℕ) (a b : Report) where
   refused-too (over-limit fewer e) n values h not1 not6 kinds = absurd (not6 (same-number (sym h ∙ e)))
   refused-too (unknown-kind above taken e) n values h not1 not6 kinds = absurd (omega (arith, above, taken, kinds (same-number (sym h ∙ e))))
   refused-too (the-same e) n values h not1 not6 kinds = ap replyOf (sym e) ∙ h
-
--- an instrument that took the kinds up to k only is no larger
-pub fewer-kinds : (k : ℕ) (M : Model) → k ≤ M .kinds → NoLarger (withKinds k M) M
-fewer-kinds k M l = record { bytes = le-refl _; points = le-refl _; events = refl; kinds = l }
 
 -- as many bytes and points: 1 and 6 are the same answer
 pub as-before : {A : Type 0} (reply : A → Reply) (k : ℕ) (M : Model) (s : List ℕ) {a b : A} → LikeLarger reply (withKinds k M) M s a b
@@ -102,3 +98,15 @@ module _ (M : Model) (s : List ℕ) (k : ℕ) (l : k ≤ M .kinds) where
 
   pub tested-as-before : (c : ℕ) (w : Word) → AsBefore answerReply k M s (wordTest (withKinds k M) s c w) (wordTest M s c w)
   tested-as-before c w = as-before answerReply k M s (word-on-larger (withKinds k M) M (fewer-kinds k M l) s c w)
+
+  -- SHEETS WITHOUT THE KINDS ABOVE k ARE JUDGED AS BEFORE: the same verdict, and the same answer of the word test
+  module _ (without : WithoutKindsAbove k M s) where
+    pub judged-the-same : verdictOf (withKinds k M) s ≡ verdictOf M s
+    unfolding verdictOf
+    judged-the-same =
+        ap (verdictAfter (withKinds k M) s) (reads-as-before k M l s without) ∙ same-verdict (withKinds k M) M (fewer-kinds k M l) s (readSheet M s)
+
+    pub tested-the-same : (c : ℕ) (w : Word) → wordTest (withKinds k M) s c w ≡ wordTest M s c w
+    unfolding wordTest
+    tested-the-same c w =
+        ap (testedAfter (withKinds k M) s c w) (reads-as-before k M l s without) ∙ same-tested (withKinds k M) M (fewer-kinds k M l) s c w (readSheet M s)
