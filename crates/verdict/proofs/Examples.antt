@@ -81,9 +81,11 @@ nouns =
     ∷ "unproved rule 21 step 3 clause 1 pair 0 event 0 place 0"
     ∷ "unproved rule 22 method 3 clause 1 pair 0 event 0 place 0"
     ∷ "unproved rule 24 method 3 clause 1 pair 0 event 0 place 0"
+    ∷ "unproved rule 25 step 3 clause 1 pair 0 event 0 place 0"
+    ∷ "unproved rule 26 step 3 clause 1 pair 0 event 0 place 0"
     ∷ []
 
-nouns-print : map (λ (rule : ℕ). line (unproved rule 3 (record { clause = 1; pair = 0; event = 0; place = 0 }))) (6 ∷ 7 ∷ 21 ∷ 22 ∷ 24 ∷ []) ≡ map ascii nouns
+nouns-print : map (λ (rule : ℕ). line (unproved rule 3 (record { clause = 1; pair = 0; event = 0; place = 0 }))) (6 ∷ 7 ∷ 21 ∷ 22 ∷ 24 ∷ 25 ∷ 26 ∷ []) ≡ map ascii nouns
 unfolding nouns line
 nouns-print = refl
 

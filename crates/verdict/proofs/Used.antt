@@ -1,6 +1,6 @@
 -- The facts of the definitions, used: what each of them alone says of document 01's sheet M, or of every sheet.
 use mathlib.Core.Path.{_≡_, refl, subst}
-use mathlib.Core.Bool.{false}
+use mathlib.Core.Bool.{true, false}
 use mathlib.Core.Option.{none, some}
 use mathlib.Core.List.{List, [], _∷_, List·Memᴰ}
 use Prim.Native.Nat.{ℕ, _≤_, _<_}
@@ -10,14 +10,15 @@ use Rattle.condition.specs.Condition.{Word, empty, event, Holds}
 use Rattle.condition.specs.Places.{nullable, accepts}
 use Rattle.certificate.specs.Certificate.{Certificate, Exact}
 use Rattle.sheet.specs.Model.{Model, large, withKinds}
-use Rattle.sheet.specs.Sheet.{Outcome, failed, Body, Method, CallStep, event-step, call-step, declaredIn, body, trace, targetFor}
+use Rattle.sheet.specs.Sheet.{Outcome, failed, Body, Method, CallStep, Step, event-step, call-step, stop-step, declaredIn, body, trace, targetFor}
 use Rattle.sheet.specs.Each.{Each}
+use Rattle.sheet.specs.Record.{byteAt}
 use Rattle.sheet.specs.Reading.{Reading, whole, readSheet}
-use Rattle.sheet.specs.Names.{HasBody, isSome, ExitsFit, TargetsFit, EventBelow}
+use Rattle.sheet.specs.Names.{HasBody, isSome, ExitsFit, TargetsFit, EventBelow, StopFits}
 use Rattle.sheet.specs.Decode.{sheetOf}
 use Rattle.sheet.specs.AtOffset.{empty-symbol, symbolsAt, postfix}
 use Rattle.sheet.proofs.Each.{each-head, each-member}
-use Rattle.runs.specs.Rules.{Rule, rules, total, count}
+use Rattle.runs.specs.Rules.{Rule, rules, stopCount, total, count}
 use Rattle.runs.specs.Runs.{State, Grown, Move, by-step, newCall, raise, returnedNow, move, run}
 use Rattle.runs.specs.Owing.{OwingWhenOpen}
 use Rattle.verdict.specs.Promise.{EachCertified, bare, certified, ExactFor}
@@ -105,6 +106,25 @@ its-exits : (I : Model) (s : List ℕ) → Facts I s → (r : Reading) → readS
     → List·Memᴰ x (sheetOf I s .methods) → (b : Body) → x .body ≡ some b → isSome (b .failed-exit) ≡ isSome (x .failing)
 its-exits I s f r read x i b e =
     subst (ExitsFit (x .failing)) e (each-member (λ (x : Method). ExitsFit (x .failing) (x .body)) (f .outcomes-fit r read .exits-fit) i)
+
+-- a sheet that is read whole is of the new edition if it begins with 18, and only a sheet that does has a stop
+its-edition : (I : Model) (s : List ℕ) → Facts I s → (r : Reading) → readSheet I s ≡ whole r → byteAt s 0 ≡ 18 → sheetOf I s .new ≡ true
+its-edition I s f r read e = f .edition r read .1 e
+
+its-stops : (I : Model) (s : List ℕ) → Facts I s → (r : Reading) → readSheet I s ≡ whole r → (p : ℕ)
+    → List·Memᴰ (stop-step p) (sheetOf I s .steps) → byteAt s 0 ≡ 18
+its-stops I s f r read p i = f .edition r read .0 (each-member (StopFits (sheetOf I s .new)) (f .stops-fit r read) i)
+
+-- where no kind above 17 is taken it is not of the new edition, has no stop, and none of its rules has a number above 24
+module _ (I : Model) (s : List ℕ) (f : Facts I s) (former : I .kinds < 18) (r : Reading) (read : readSheet I s ≡ whole r) where
+  its-former-edition : sheetOf I s .new ≡ false
+  its-former-edition = f .old-edition former r read .unmarked
+
+  its-former-steps : (p : ℕ) → List·Memᴰ (stop-step p) (sheetOf I s .steps) → ⊥
+  its-former-steps p i = omega (arith, each-member (λ (t : Step). stopCount t ≡ 0) (f .old-edition former r read .no-stops) i)
+
+  its-former-rules : (x : Rule) → List·Memᴰ x (rules (sheetOf I s)) → x .number ≤ 24
+  its-former-rules x i = each-member (λ (x : Rule). x .number ≤ 24) (f .old-edition former r read .twenty-four) i
 
 -- a primitive's step with a word of its outcome's trace is made, and with another is not
 module _ (I : Model) (s : List ℕ) (f : Facts I s) (u : State) (i : ℕ) (t : CallStep) (o : Outcome) (q : ℕ) (w : Word) (going : u .ended ≡ false)
