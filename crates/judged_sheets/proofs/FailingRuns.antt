@@ -22,7 +22,7 @@ use Rattle.verdict.proofs.Parts.{recordOf, one, two, three, ones, allEmpty, wit
 use Rattle.verdict.proofs.Bytes.{small, are-bytes}
 use Rattle.verdict.proofs.Loads.{loads}
 use Rattle.verdict.proofs.Witnesses.{Premises, in-itself, start-is-exact, empty-is-exact}
-use Rattle.failing_sheets.proofs.Judged.{wrongTrace, wrongFuture}
+use Rattle.judged_sheets.proofs.Failing.{wrongTrace, wrongFuture}
 
 -- The gate ------------------------------------------------------------------------------------------------------------------
 
