@@ -4,28 +4,19 @@ use mathlib.Core.Path.{_≡_, refl}
 use mathlib.Core.Option.{some}
 use mathlib.Core.List.{List, [], _∷_, _++_, map}
 use Prim.Native.Nat.{ℕ, zero, suc}
-use Prim.Native.String.{String}
 use lib.ListN.{take}
 use Rattle.sheet.specs.Model.{large, entry}
 use Rattle.verdict.specs.Verdict.{verdictOf}
 use Rattle.verdict.specs.WordTest.{untested, wordTest}
 use Rattle.verdict.specs.Reply.{replyOf}
-use Rattle.verdict.specs.Line.{ascii, line}
+use Rattle.verdict.specs.Line.{line}
 use Rattle.verdict.specs.Cases.{point0, method0}
-use Rattle.verdict.proofs.Parts.{recordOf, one, two, ones, allEmpty, withPrimitive, method16}
-
--- a sheet's bytes, and the line that the loading program prints
-record Printed : Type 0 where
-  bytes : List ℕ
-  prints : String
-
-abbrev printed : List ℕ → String → Printed
-printed s t = record { bytes = s; prints = t }
+use Rattle.verdict.proofs.Parts.{Printed, printed, AsPrinted, recordOf, one, two, ones, allEmpty, withPrimitive, method16}
 
 -- Sheets whose one condition is EMPTY -------------------------------------------------------------------------------------
 
 -- two methods with body and two outcomes, and a call of the first
-abbrev withMethods : List ℕ
+abbrev pub withMethods : List ℕ
 withMethods = method16 ++ (method16 ++ recordOf 17 (0 ∷ 0 ∷ 0 ∷ 0 ∷ []))
 
 counts : List Printed
@@ -43,33 +34,33 @@ counts =
     ∷ printed (allEmpty withMethods (ones 18)) "refused 10 at 178"
     ∷ []
 
-counts-print : map (λ x. line (verdictOf large (x .bytes))) counts ≡ map (λ x. ascii (x .prints)) counts
+counts-print : AsPrinted large counts
 unfolding counts verdictOf line
 counts-print = refl
 
 -- Whose certificate is which ------------------------------------------------------------------------------------------------
 
 -- of n certificates, all but number i have a pair
-abbrev lacking : ℕ → ℕ → List ℕ
+abbrev pub lacking : ℕ → ℕ → List ℕ
 lacking zero i = []
 lacking (suc n) zero = 0x0E ∷ ones n
 lacking (suc n) (suc i) = one ++ lacking n i
 
--- the rule and the subject that then fail, for so many i from k on
-abbrev failing : List ℕ → ℕ → ℕ → ℕ → List (List ℕ)
-failing records n k zero = []
-failing records n k (suc m) = take 2 (replyOf (verdictOf large (allEmpty records (lacking n k))) .values) ∷ failing records n (suc k) m
+-- the rule and the subject that then fail, in a sheet up to its certificates, for so many i from k on
+abbrev pub failing : List ℕ → ℕ → ℕ → ℕ → List (List ℕ)
+failing sheet n k zero = []
+failing sheet n k (suc m) = take 2 (replyOf (verdictOf large (sheet ++ lacking n k)) .values) ∷ failing sheet n (suc k) m
 
 -- rules of one subject
-abbrev rulesOf : ℕ → List ℕ → List (List ℕ)
+abbrev pub rulesOf : ℕ → List ℕ → List (List ℕ)
 rulesOf subject ns = map (λ (n : ℕ). n ∷ subject ∷ []) ns
 
 -- "They and their certificates follow the ordinary ones of their subject in order of number"
-of-primitive : failing withPrimitive 12 0 12 ≡ rulesOf 0 (3 ∷ 5 ∷ 6 ∷ []) ++ rulesOf 0 (10 ∷ 11 ∷ 12 ∷ 13 ∷ 14 ∷ 18 ∷ 19 ∷ 20 ∷ 21 ∷ [])
+of-primitive : failing (allEmpty withPrimitive []) 12 0 12 ≡ rulesOf 0 (3 ∷ 5 ∷ 6 ∷ []) ++ rulesOf 0 (10 ∷ 11 ∷ 12 ∷ 13 ∷ 14 ∷ 18 ∷ 19 ∷ 20 ∷ 21 ∷ [])
 unfolding verdictOf
 of-primitive = refl
 
-of-methods : failing withMethods 19 0 19
+of-methods : failing (allEmpty withMethods []) 19 0 19
     ≡ rulesOf 0 (3 ∷ 5 ∷ 6 ∷ 22 ∷ 23 ∷ []) ++ (rulesOf 1 (3 ∷ 5 ∷ 6 ∷ 22 ∷ 23 ∷ []) ++ rulesOf 0 (10 ∷ 11 ∷ 12 ∷ 13 ∷ 14 ∷ 18 ∷ 19 ∷ 20 ∷ 21 ∷ []))
 unfolding verdictOf
 of-methods = refl
@@ -77,7 +68,7 @@ of-methods = refl
 -- One rule is false -----------------------------------------------------------------------------------------------------------
 
 -- conditions EMPTY and the event 0; point 0 names EMPTY alone, point 1 what is given; methods and steps, and certificates
-abbrev withPoint : List ℕ → List ℕ → List ℕ → List ℕ
+abbrev pub withPoint : List ℕ → List ℕ → List ℕ → List ℕ
 withPoint names records certificates = (0x02 ∷ 0x06 ∷ 0x01 ∷ 0x01 ∷ 0 ∷ 0 ∷ 0 ∷ 0x06 ∷ []) ++ (point0 ++ (recordOf 7 names ++ (records ++ certificates)))
 
 -- a primitive with a failed trace and a failed future, and a call of it from point 0 to itself, which fails to point 1
@@ -119,7 +110,7 @@ rules =
     "unproved rule 3 method 1 clause 1 pair 0 event 0 place 0"
     ∷ []
 
-rules-print : map (λ x. line (verdictOf large (x .bytes))) rules ≡ map (λ x. ascii (x .prints)) rules
+rules-print : AsPrinted large rules
 unfolding rules verdictOf line
 rules-print = refl
 
@@ -139,11 +130,11 @@ refusals =
     ∷ printed (allEmpty (recordOf 15 (0 ∷ 0 ∷ 0 ∷ 0 ∷ 0 ∷ [])) []) "refused 9 at 9"
     ∷ []
 
-refusals-print : map (λ x. line (verdictOf large (x .bytes))) refusals ≡ map (λ x. ascii (x .prints)) refusals
+refusals-print : AsPrinted large refusals
 unfolding refusals verdictOf line
 refusals-print = refl
 
-refusals-on-entry : map (λ x. line (verdictOf entry (x .bytes))) refusals ≡ map (λ x. ascii (x .prints)) refusals
+refusals-on-entry : AsPrinted entry refusals
 unfolding refusals verdictOf line
 refusals-on-entry = refl
 

@@ -1,2 +1,3 @@
 pub mod Failing
 mod FailingRuns
+pub mod Stopping

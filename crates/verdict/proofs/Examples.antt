@@ -14,15 +14,9 @@ use Rattle.verdict.specs.WordTest.{Answer, tested, untested, wordTest}
 use Rattle.verdict.specs.Reply.{Reply, _giving_, replyOf, answerReply}
 use Rattle.verdict.specs.Line.{ascii, line, answerLine}
 use Rattle.verdict.specs.Cases.{point0, method0, startOnly, threeStarts, M, W}
+use Rattle.verdict.proofs.Parts.{Printed, printed, AsPrinted}
 
 -- Sheets ----------------------------------------------------------------------------------------------------------------
-
-record Printed : Type 0 where
-  bytes : List ℕ
-  prints : String
-
-abbrev printed : List ℕ → String → Printed
-printed s t = record { bytes = s; prints = t }
 
 -- a pass from point 0 to itself
 abbrev pass0 : List ℕ
@@ -69,7 +63,7 @@ sheets =
     ∷ printed lacking "unproved rule 16 step 1 clause 4 pair 1 event 5 place 2"
     ∷ []
 
-sheets-print : map (λ x. line (verdictOf large (x .bytes))) sheets ≡ map (λ x. ascii (x .prints)) sheets
+sheets-print : AsPrinted large sheets
 unfolding sheets verdictOf line
 sheets-print = refl
 

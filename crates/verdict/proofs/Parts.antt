@@ -1,8 +1,25 @@
--- Parts of small sheets, for examples: records whose fields are two bytes each, and certificates.
-use mathlib.Core.List.{List, [], _∷_, _++_}
+-- Parts of small sheets, for examples: records whose fields are two bytes each, and certificates. And sheets with the lines that they get.
+use mathlib.Core.Path.{_≡_}
+use mathlib.Core.List.{List, [], _∷_, _++_, map}
 use Prim.Native.Nat.{ℕ, zero, suc}
+use Prim.Native.String.{String}
 use Rattle.certificate.specs.Certificate.{pair, Certificate}
+use Rattle.sheet.specs.Model.{Model}
+use Rattle.verdict.specs.Verdict.{verdictOf}
+use Rattle.verdict.specs.Line.{ascii, line}
 use Rattle.verdict.specs.Cases.{point0, method0, startOnly}
+
+-- a sheet's bytes, and a line
+pub record Printed : Type 0 where
+  pub bytes : List ℕ
+  pub prints : String
+
+abbrev pub printed : List ℕ → String → Printed
+printed s t = record { bytes = s; prints = t }
+
+-- on an instrument the loading program prints these lines
+abbrev pub AsPrinted : Model → List Printed → Type 0
+AsPrinted M xs = map (λ x. line (verdictOf M (x .bytes))) xs ≡ map (λ x. ascii (x .prints)) xs
 
 -- the bytes of fields that are below 256
 abbrev pub fields : List ℕ → List ℕ
