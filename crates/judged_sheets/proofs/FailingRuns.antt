@@ -96,10 +96,10 @@ nothing-after = each-head (each-tail (is-safe fails .ended-well refl))
 
 -- The second half of demand 3 --------------------------------------------------------------------------------------------------
 
-joined-in : join empty empty ⊆ empty
+pub joined-in : join empty empty ⊆ empty
 joined-in w (u, v, e, h, k) = e ∙ (ap (λ (x : Word). x ++ v) h ∙ k)
 
-joined-is-exact : Exact 32 (join empty empty) empty (pair 0 1 ∷ [])
+pub joined-is-exact : Exact 32 (join empty empty) empty (pair 0 1 ∷ [])
 unfolding leaves
 joined-is-exact = start-is-exact (join empty empty) empty refl
 

@@ -1,3 +1,4 @@
 pub mod Failing
-mod FailingRuns
+pub mod FailingRuns
 pub mod Stopping
+mod StoppingRuns
