@@ -59,7 +59,7 @@ class Limits(unittest.TestCase):
         self.check(data, line, line, line_of)
 
     def test_values(self):
-        self.assertEqual((LARGE, ENTRY), ((65536, 512), (8192, 64)))
+        self.assertEqual((LARGE, ENTRY), ((65536, 512, 19), (8192, 64, 19)))
 
     def test_bytes(self):
         for size in (8191, 8192):
@@ -107,7 +107,7 @@ class Limits(unittest.TestCase):
                    "refused 7 at 450")
         for length in range(1, 7):
             self.same(full + POINT[:length], "refused 3 at 450")
-        self.same(full + b"\x12" + POINT, "refused 2 at 450")
+        self.same(full + b"\x14" + POINT, "refused 2 at 450")
         self.same(full + b"\x0f" + POINT, "refused 3 at 450")
         self.same(full + b"\x02" + POINT, "refused 4 at 450")
         self.same(full + METHOD + POINT, "refused 4 at 461")

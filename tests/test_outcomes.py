@@ -4,7 +4,6 @@ from collections import Counter
 from functools import lru_cache
 from hashlib import sha256
 from itertools import chain, islice
-from unittest.mock import patch
 
 import test_reference
 from generate import faults, outcomes, plans
@@ -15,8 +14,8 @@ from generate.true_sheets import true_sheets
 from reference.conditions import LEAF
 from reference.instruments import ENTRY, INSTRUMENTS, LARGE, Instrument
 from reference.loader import first_unproved, line_of, load_line, word_line
-from reference.reading import (BODY_LENGTHS, Reader, Refusal, read_record,
-                               read_sheet, reading_line)
+from reference.reading import (Reader, Refusal, read_record, read_sheet,
+                               reading_line)
 from reference.rules import (all_rules, certificates_needed, join, rule_count,
                              subject_kind)
 from reference.runs import (FAIL, RETURN, Move, first_break, first_owed_break,
@@ -57,14 +56,16 @@ class Reading(unittest.TestCase):
         self.assertEqual(outcomes.M16[9], 16)
 
     def test_body_lengths(self):
-        """Each body whole, and one byte short; above 17 there is no kind."""
+        """Each body whole, and one byte short."""
         for kind, length in ((15, 10), (16, 16), (17, 8)):
             record = bytes([kind]) + bytes(length)
             self.assertEqual(reading_line(record[:-1]), "refused 3 at 0")
             self.assertEqual(reading_line(record), "refused 7 at 0")
         for kind in (0, *range(18, 256)):
-            self.assertEqual(reading_line(bytes([kind]) + bytes(20)),
-                             "refused 2 at 0")
+            for instrument in INSTRUMENTS.values():
+                former = instrument._replace(kinds=17)
+                self.assertEqual(reading_line(bytes([kind]) + bytes(20), former),
+                                 "refused 2 at 0")
 
     def test_fields(self):
         """Each field in its place."""
@@ -630,18 +631,42 @@ step failed -> failed call m failing to failed""")
             self.assertEqual(load_line(assemble(text)), f"accepted {count}", label)
 
 
+@lru_cache(maxsize=None)
+def former_answer(data, instrument, kinds):
+    """What reading says where there are that many kinds, or None if it says the same
+    on the instrument."""
+    former = read_sheet(data, instrument._replace(kinds=kinds))
+    return None if former == read_sheet(data, instrument) else former
+
+
+def uses_later(data, instrument, kinds):
+    """Whether reading meets a record of a kind above that many."""
+    reader, offset = Reader(instrument), 0
+    while offset < len(data) <= instrument.bytes:
+        if kinds < data[offset] <= instrument.kinds:
+            return True
+        record = read_record(data, offset)
+        if isinstance(record, Refusal) or reader.refusal_at(record):
+            return False
+        reader.add(record)
+        offset = record.end
+    return False
+
+
 class AsBefore(unittest.TestCase):
     """Sheets that do not use what is new are judged as before.
 
-    The stored cases of before are the first ones of each file. For each file: the
-    bytes of these, a digest of the bytes, the number of lines, and how many of the
-    lines are others now. DIGEST is that of all their former lines.
+    The former instruments have the kinds up to KINDS. The stored cases of before are
+    the first ones of each file. For each file: the bytes of these, a digest of the
+    bytes, the number of lines, and how many of the lines are others now. DIGEST is
+    that of all their former lines.
     """
+    KINDS = 14
     FORMER = {
-        "reading": (685097, "a5fb2941603d27be", 3487, 94),
+        "reading": (685097, "a5fb2941603d27be", 3487, 101),
         "sheets": (1872777, "5b6c542622aa9f84", 3386, 7),
         "words": (1124520, "8a46f0af547ce523", 22059, 6),
-        "entry_reading": (390250, "79d2c2c5c1419580", 807, 18),
+        "entry_reading": (390250, "79d2c2c5c1419580", 807, 19),
         "entry_sheets": (486841, "5f2d8a6a5f7fe505", 605, 1),
         "entry_words": (121678, "27f4edcf30a1f35d", 781, 6)}
     DIGEST = "b943a6d814095b7a"
@@ -660,29 +685,6 @@ class AsBefore(unittest.TestCase):
         else:
             yield from ((sheet, next(lines)) for sheet in self.stored.cases(name))
 
-    @staticmethod
-    @lru_cache(maxsize=None)
-    def former_answer(data, instrument):
-        """What reading says where there are fourteen kinds, or None if it says
-        the same where there are seventeen."""
-        with patch("reference.reading.BODY_LENGTHS", BODY_LENGTHS[:14]):
-            former = read_sheet(data, instrument)
-        return None if former == read_sheet(data, instrument) else former
-
-    @staticmethod
-    def uses_new(data, instrument):
-        """Whether reading meets a record of kinds 15 to 17."""
-        reader, offset = Reader(instrument), 0
-        while offset < len(data) <= instrument.bytes:
-            if data[offset] in outcomes.NEW_KINDS:
-                return True
-            record = read_record(data, offset)
-            if isinstance(record, Refusal) or reader.refusal_at(record):
-                return False
-            reader.add(record)
-            offset = record.end
-        return False
-
     def test_former_bytes(self):
         """The former cases stand where they stood."""
         for name, (size, digest, _, _) in self.FORMER.items():
@@ -690,14 +692,14 @@ class AsBefore(unittest.TestCase):
             self.assertEqual(sha256(data).hexdigest()[:16], digest, name)
 
     def test_former_lines(self):
-        """A former line is the present one, or was `refused 2 at` a record of
-        kinds 15 to 17; so all former lines come back."""
+        """A former line is the present one, or was `refused 2 at` a record of a later
+        kind; so all former lines come back."""
         former = []
         for name, (_, _, count, others) in self.FORMER.items():
             changed = 0
             instrument = self.stored.FILES[name]
             for data, line in islice(self.entries(name), count):
-                before = self.former_answer(data, instrument)
+                before = former_answer(data, instrument, self.KINDS)
                 if before is not None:
                     line, changed = line_of(before), changed + 1
                 former.append(line + "\n")
@@ -706,18 +708,18 @@ class AsBefore(unittest.TestCase):
         self.assertEqual(digest[:16], self.DIGEST)
 
     def test_what_differs(self):
-        """In all stored cases, a sheet is read otherwise exactly if a record of
-        kinds 15 to 17 is met, which gave 2."""
+        """In all stored cases, a sheet is read otherwise exactly if a record of a
+        later kind is met, which gave 2."""
         found = Counter()
         for name in self.FORMER:
             instrument = self.stored.FILES[name]
             for data in dict.fromkeys(data for data, _ in self.entries(name)):
-                before = self.former_answer(data, instrument)
-                new = self.uses_new(data, instrument)
+                before = former_answer(data, instrument, self.KINDS)
+                new = uses_later(data, instrument, self.KINDS)
                 self.assertEqual(before is not None, new)
                 if new:
                     self.assertEqual(before.number, 2)
-                    self.assertIn(data[before.place], outcomes.NEW_KINDS)
+                    self.assertGreater(data[before.place], self.KINDS)
                 found[name, new] += 1
         self.assertGreater(min(found.values()), 20)
 

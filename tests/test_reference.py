@@ -348,7 +348,7 @@ class Loader(unittest.TestCase):
 
     def test_word_test_order(self):
         long = (40,) * 4097
-        self.assertEqual(word_line(b"\x12", 9, long), "refused 2 at 0")
+        self.assertEqual(word_line(b"\x14", 9, long), "refused 2 at 0")
         self.assertEqual(word_line(b"\x0f", 9, long), "refused 3 at 0")
         self.assertEqual(word_line(FRONT, 1, long), "refused 14")
         self.assertEqual(word_line(FRONT, 0, long), "refused 12")

@@ -154,7 +154,7 @@ def reading_cases():
     yield from islice(record_cases(), 0, None, 3)
     yield from random_cases(81, 20)
     for _, sheet in true_sheets(82, 24, 40):
-        counts = " ".join(str(len(part)) for part in sheet)
+        counts = " ".join(map(str, sheet.counts))
         yield Case("true sheet", r.encode(sheet), f"read {counts}")
 
 
@@ -184,7 +184,7 @@ def filled(draws, sheet, size):
 
 def refused_6(label, sheet, instrument):
     """The case of a sheet with too many points."""
-    size = len(b"".join(map(r.condition, sheet.conditions)))
+    size = sheet.new + len(b"".join(map(r.condition, sheet.conditions)))
     return Case(label, r.encode(sheet),
                 f"refused 6 at {size + 7 * instrument.points}")
 

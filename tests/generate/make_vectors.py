@@ -34,7 +34,7 @@ def all_reading_cases():
     """Everything that is read."""
     yield from reading_cases()
     for _, sheet in true_sheets(41, 64, 60):
-        counts = " ".join(str(len(part)) for part in sheet)
+        counts = " ".join(map(str, sheet.counts))
         yield Case("true sheet", encode(sheet), f"read {counts}")
 
 

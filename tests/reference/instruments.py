@@ -1,13 +1,16 @@
-"""Document 01, "Limits", and document 02, Ask 8: what an instrument loads at most."""
+"""Document 01, "Limits", and document 02, Ask 8: what an instrument loads at most; the
+kinds of records that it takes."""
 from typing import NamedTuple
 
 OPTION = "--instrument"
 
 
 class Instrument(NamedTuple):
-    """The limits in which instruments differ; any two numbers are a value."""
+    """The limits in which instruments differ, any numbers, and the highest kind of a
+    record: 14 in document 01, 17 with Ask 2 of document 02, 19 with Ask 4."""
     bytes: int
     points: int
+    kinds: int = 19
 
 
 LARGE = Instrument(65536, 512)

@@ -1,5 +1,6 @@
 """Document 01, "Records" and refusals 1 to 9 of "What the loader returns", on an
-instrument (document 02, Ask 8); calls that may fail and refusal 18 (Ask 2).
+instrument (document 02, Ask 8); calls that may fail and refusal 18 (Ask 2); sheets of
+the new edition, stops, refusals 19 and 20 (Ask 4).
 
 A method of kinds 8 and 9 has one outcome, a method of kinds 15 and 16 two: the
 normal one and the failed one. In code an outcome is `failed`, False or True.
@@ -12,15 +13,16 @@ from .instruments import LARGE
 END_CONDITION, POINT, PRIMITIVE, METHOD = 6, 7, 8, 9
 EVENT_STEP, CALL_STEP, PASS_STEP, PAIR, END_CERTIFICATE = 10, 11, 12, 13, 14
 FAILING_PRIMITIVE, FAILING_METHOD, FAILING_CALL = 15, 16, 17
+EDITION, STOP_STEP = 18, 19
 
-BODY_LENGTHS = (4, 0, 0, 0, 0, 0, 6, 6, 10, 5, 6, 4, 5, 0, 10, 16, 8)
+BODY_LENGTHS = (4, 0, 0, 0, 0, 0, 6, 6, 10, 5, 6, 4, 5, 0, 10, 16, 8, 0, 2)
 CONDITIONS, POINTS, METHODS, STEPS, CERTIFICATES = range(1, 6)
-SECTIONS = (1, 1, 1, 1, 1, 1, 2, 3, 3, 4, 4, 4, 5, 5, 3, 3, 4)
+SECTIONS = (1, 1, 1, 1, 1, 1, 2, 3, 3, 4, 4, 4, 5, 5, 3, 3, 4, 1, 4)
 # Fields of a body: c condition, p point, m method (2 bytes each), e event (1).
 FIELDS = {POINT: "ccc", PRIMITIVE: "ccc", METHOD: "cccpp",
           EVENT_STEP: "ppe", CALL_STEP: "ppm", PASS_STEP: "pp",
           FAILING_PRIMITIVE: "ccccc", FAILING_METHOD: "cccppccp",
-          FAILING_CALL: "pppm"}
+          FAILING_CALL: "pppm", STOP_STEP: "p"}
 # Their names in Point, Method and Step.
 FIELD_NAMES = {
     POINT: ("past", "own", "due"),
@@ -32,7 +34,8 @@ FIELD_NAMES = {
     FAILING_PRIMITIVE: ("pre", "trace", "future", "failed_trace", "failed_future"),
     FAILING_METHOD: ("pre", "trace", "future", "entry", "exit",
                      "failed_trace", "failed_future", "failed_exit"),
-    FAILING_CALL: ("source", "target", "failed_target", "operand")}
+    FAILING_CALL: ("source", "target", "failed_target", "operand"),
+    STOP_STEP: ("source",)}
 
 MAX_CONDITIONS = 256
 MAX_RECORDS = 96
@@ -111,10 +114,10 @@ class Method(NamedTuple):
 
 class Step(NamedTuple):
     """A step; operand is the event or the called method, None for a pass. Just a
-    call of a method with two outcomes has a failed target."""
+    call of a method with two outcomes has a failed target; a stop has no target."""
     kind: int
     source: int
-    target: int
+    target: int | None = None
     operand: int | None = None
     failed_target: int | None = None
 
@@ -124,6 +127,8 @@ class Step(NamedTuple):
 
     @property
     def outcomes(self):
+        if self.kind == STOP_STEP:
+            return ()
         return (False, True) if self.kind == FAILING_CALL else (False,)
 
     def leads_to(self, failed):
@@ -137,12 +142,18 @@ class Sheet(NamedTuple):
     methods: list
     steps: list
     certificates: list  # lists of (place, set)
+    new: bool = False   # whether it is of the new edition
+
+    @property
+    def counts(self):
+        """How many conditions, points, methods, steps and certificates there are."""
+        return [len(part) for part in self[:5]]
 
 
-def read_record(data, offset):
+def read_record(data, offset, kinds=LARGE.kinds):
     """The record at the offset, or the refusal that ends reading."""
     kind = data[offset]
-    if not 1 <= kind <= len(BODY_LENGTHS):
+    if not 1 <= kind <= kinds:
         return Refusal(2, offset)
     end = offset + 1 + BODY_LENGTHS[kind - 1]
     if end > len(data):
@@ -196,6 +207,12 @@ class Reader:
         return (SECTIONS[record.kind - 1] < self.section
                 or self.condition_open and record.kind > END_CONDITION)
 
+    def is_late_edition(self, record):
+        return record.kind == EDITION and record.offset > 0
+
+    def is_stop_in_old_sheet(self, record):
+        return record.kind == STOP_STEP and not self.sheet.new
+
     def lacks_items(self, record):
         kind = record.kind
         if kind == END_CONDITION:
@@ -235,8 +252,10 @@ class Reader:
         return called.may_fail != (record.kind == FAILING_CALL)
 
     def refusal_at(self, record):
-        """Refusals 4 to 7, 9 and 18 at one record, in this order."""
+        """Refusals 4, 19, 20, 5, 6, 7, 9 and 18 at one record, in this order."""
         for number, applies in ((4, self.is_out_of_order),
+                                (19, self.is_late_edition),
+                                (20, self.is_stop_in_old_sheet),
                                 (5, self.lacks_items),
                                 (6, self.is_over_limit),
                                 (7, self.has_bad_name),
@@ -262,6 +281,8 @@ class Reader:
         elif record.kind == END_CONDITION:
             self.sheet.conditions.append(self.items[0])
             self.items, self.records, self.leaves = [], 0, 0
+        elif record.kind == EDITION:
+            self.sheet = self.sheet._replace(new=True)
         elif record.kind == PAIR:
             if self.pairs is None:
                 self.pairs = []
@@ -289,12 +310,13 @@ class Reader:
 
 
 def read_sheet(data, instrument=LARGE):
-    """The sheet that the bytes stand for, or the first of refusals 1 to 9 and 18."""
+    """The sheet that the bytes stand for, or the first of refusals 1 to 9 and 18 to
+    20."""
     if len(data) > instrument.bytes:
         return Refusal(1, instrument.bytes)
     reader, offset = Reader(instrument), 0
     while offset < len(data):
-        record = read_record(data, offset)
+        record = read_record(data, offset, instrument.kinds)
         if isinstance(record, Refusal):
             return record
         refusal = reader.refusal_at(record)
@@ -306,8 +328,8 @@ def read_sheet(data, instrument=LARGE):
 
 
 def reading_line(data, instrument=LARGE):
-    """One line: the refusal of 1 to 9 and 18, or the five counts."""
+    """One line: the refusal of 1 to 9 and 18 to 20, or the five counts."""
     result = read_sheet(data, instrument)
     if isinstance(result, Refusal):
         return f"refused {result.number} at {result.place}"
-    return "read " + " ".join(str(len(part)) for part in result)
+    return "read " + " ".join(map(str, result.counts))

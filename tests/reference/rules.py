@@ -1,15 +1,16 @@
-"""Document 01, "Seventeen rules", and rules 18 to 24 of document 02, Ask 2: what is
-tested, and in which order."""
+"""Document 01, "Seventeen rules", rules 18 to 24 of document 02, Ask 2, and rules 25
+and 26 of Ask 4: what is tested, and in which order."""
 from typing import NamedTuple
 
 from .conditions import JOIN, LEAF
 from .reading import (CALL_STEP, EVENT_STEP, FAILING_CALL, FAILING_METHOD, METHOD,
-                      PASS_STEP)
+                      PASS_STEP, STOP_STEP)
 
-# How many rules a method with body and a step have, by kind; rules 1, 2 and 24 are
-# not among them. Rule 4 has no certificate.
+# How many rules a method with body and a step have, by kind; rules 1, 2, 24 and 26
+# are not among them. Rules 4 and 25 have no certificate.
 METHOD_RULES = {METHOD: 4, FAILING_METHOD: 6}
-STEP_RULES = {EVENT_STEP: 3, CALL_STEP: 5, PASS_STEP: 3, FAILING_CALL: 9}
+STEP_RULES = {EVENT_STEP: 3, CALL_STEP: 5, PASS_STEP: 3, FAILING_CALL: 9,
+              STOP_STEP: 1}
 
 # Rules that are for an outcome, by `failed`: of a call's return past, own, future
 # and due, of an exit own and due, and of the end of the outermost call.
@@ -21,7 +22,7 @@ END_RULE = {False: 2, True: 24}
 class Rule(NamedTuple):
     """Rule `number` for a method or step: every word of left is in right.
 
-    Rules 1, 2, 4 and 24 have no right: left must hold the empty word.
+    Rules 1, 2, 4, 24 and 25 have no right: left must hold the empty word.
     """
     number: int
     subject: int
@@ -39,7 +40,7 @@ class Rule(NamedTuple):
 
 def subject_kind(number):
     """What the rule of that number is about."""
-    return "method" if number < 7 or number > 21 else "step"
+    return "method" if number < 7 or 22 <= number <= 24 else "step"
 
 
 def join(first, second):
@@ -91,7 +92,7 @@ def return_rules(number, failed, trace, future, p, q):
 
 
 def call_rules(sheet, number, p):
-    """Rules 10 to 14, and 18 to 21 of a call that may fail."""
+    """Rules 10 to 14, 18 to 21 of a call that may fail, and 26."""
     step, conditions = sheet.steps[number], sheet.conditions
     called = sheet.methods[step.operand]
     yield Rule(10, number, p[0], conditions[called.pre])
@@ -100,6 +101,14 @@ def call_rules(sheet, number, p):
         yield from return_rules(
             number, failed, conditions[outcome.trace], conditions[outcome.future],
             p, point_conditions(sheet, step.leads_to(failed)))
+    if has_entry_rule(sheet, step):
+        entry = sheet.points[called.entry]
+        yield Rule(26, number, conditions[entry.due], p[2])
+
+
+def has_entry_rule(sheet, step):
+    """Whether a step has rule 26: the call of a method with body in a new sheet."""
+    return sheet.new and step.is_call and sheet.methods[step.operand].has_body
 
 
 def pass_rules(number, p, q):
@@ -120,6 +129,8 @@ def step_rules(sheet, number):
     p = point_conditions(sheet, step.source)
     if step.is_call:
         return call_rules(sheet, number, p)
+    if step.kind == STOP_STEP:
+        return [Rule(25, number, p[2])]
     q = point_conditions(sheet, step.target)
     if step.kind == EVENT_STEP:
         return event_rules(number, step.operand, p, q)
@@ -145,11 +156,13 @@ def bodies(sheet):
 def certificates_needed(sheet):
     """How many certificates the rules need."""
     return (sum(METHOD_RULES[method.kind] - 1 for method in bodies(sheet))
-            + sum(STEP_RULES[step.kind] for step in sheet.steps))
+            + sum(STEP_RULES[step.kind] - (step.kind == STOP_STEP)
+                  + has_entry_rule(sheet, step) for step in sheet.steps))
 
 
 def rule_count(sheet):
     """The count that an accepted sheet is given."""
     return (2 + sum(METHOD_RULES[method.kind] for method in bodies(sheet))
             + sheet.methods[0].may_fail
-            + sum(STEP_RULES[step.kind] for step in sheet.steps))
+            + sum(STEP_RULES[step.kind] + has_entry_rule(sheet, step)
+                  for step in sheet.steps))

@@ -1,5 +1,6 @@
 """Document 01, "Runs": the state of a run, its moves, and demand 3 on a state;
-document 02, Ask 2: calls that fail, and Ask 12: what is owed while a run goes on.
+document 02, Ask 2: calls that fail, Ask 4: stops, and Ask 12: what is owed while a
+run goes on.
 
 Demand 3: every call so far, the outermost activation too, began after a
 history in its pre; every returned call raised a word of its trace; if the
@@ -12,12 +13,17 @@ call's future.
 
 Failing is a way of returning. The trace and the future of a returned call are
 those of its outcome.
+
+In a sheet of the new edition a stop ends the whole run where it is. The calls that
+are open stay open, and the innermost keeps control: Ask 12 holds there too. They owe
+their pre only. What followed each return, up to the stop, is in the returned call's
+future, also where an open call made it.
 """
 from typing import NamedTuple
 
 from .conditions import EVENTS, holds
 from .inclusion import missing_word
-from .reading import EVENT_STEP
+from .reading import EVENT_STEP, STOP_STEP
 
 
 class Call(NamedTuple):
@@ -47,6 +53,7 @@ class Run(NamedTuple):
     open_calls: tuple   # the innermost comes last
     returned_calls: tuple
     point: int
+    stopped: bool = False
 
     @property
     def active(self):
@@ -55,12 +62,12 @@ class Run(NamedTuple):
 
     @property
     def ended(self):
-        return not self.open_calls
+        return self.stopped or not self.open_calls
 
 
 class Move(NamedTuple):
     """A step with or without a word; a return if the step is None. Either has an
-    outcome, which counts where a call returns."""
+    outcome, which counts where a call returns. A stop reads neither."""
     step: int | None = None
     word: tuple | None = None
     failed: bool = False
@@ -124,6 +131,8 @@ def make_move(sheet, run, move):
         return run
     if step.is_call:
         return make_call(sheet, run, move)
+    if step.kind == STOP_STEP:
+        return run._replace(stopped=sheet.new)
     if step.kind == EVENT_STEP:
         run = run._replace(history=run.history + (step.operand,))
     return run._replace(point=step.target)

@@ -2,7 +2,7 @@
 from reference.certificates import reachable_pairs
 from reference.conditions import LEAF, postfix
 from reference.instruments import LARGE
-from reference.reading import FIELD_NAMES, Sheet
+from reference.reading import FIELD_NAMES
 from reference.rules import all_rules
 
 PAIR_BYTES = 6
@@ -64,6 +64,15 @@ def failing_call(source, target, failed_target, called):
     return b"\x11" + u16(source, target, failed_target, called)
 
 
+def edition():
+    """The record with which a sheet of the new edition begins."""
+    return b"\x12"
+
+
+def stop_step(source):
+    return b"\x13" + u16(source)
+
+
 def pair(place, rights):
     return b"\x0d" + bytes([place]) + u32(rights)
 
@@ -74,7 +83,8 @@ def certificate(pairs):
 
 
 WRITERS = {8: primitive, 9: method, 10: event_step, 11: call_step, 12: pass_step,
-           15: failing_primitive, 16: failing_method, 17: failing_call}
+           15: failing_primitive, 16: failing_method, 17: failing_call,
+           19: stop_step}
 
 
 def named_record(one):
@@ -86,7 +96,8 @@ def named_record(one):
 def encode(sheet):
     """The bytes of a sheet."""
     return b"".join(
-        [condition(tree) for tree in sheet.conditions]
+        [edition()] * sheet.new
+        + [condition(tree) for tree in sheet.conditions]
         + [point(*one) for one in sheet.points]
         + [named_record(one) for one in sheet.methods + sheet.steps]
         + [certificate(pairs) for pairs in sheet.certificates])
@@ -115,4 +126,4 @@ def with_certificates(sheet, limit=most_pairs()):
                 raise TooManyPairs(rule)
             left -= len(pairs)
             certificates.append(pairs)
-    return Sheet(*sheet[:4], certificates)
+    return sheet._replace(certificates=certificates)
