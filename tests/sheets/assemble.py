@@ -20,6 +20,12 @@ What may fail (document 02, Ask 2) says more:
         failed trace .. failed future .. failed exit POINT    (all in one line)
     step POINT -> POINT call METHOD failing to POINT
 
+A sheet of the new edition (document 02, Ask 4) has a line, anywhere, that says so. It
+may have stops:
+
+    edition new
+    step POINT stop
+
 The certificates are all reachable pairs, breadth first.
 """
 import sys
@@ -32,8 +38,8 @@ from reference.conditions import LEAF, postfix
 from reference.instruments import LARGE, chosen_instrument
 from reference.reading import (CALL_STEP, EVENT_STEP, FAILING_CALL,
                                MAX_CONDITIONS, MAX_LEAVES, MAX_METHODS,
-                               MAX_RECORDS, MAX_STEPS, PASS_STEP, Method, Point,
-                               Sheet, Step)
+                               MAX_RECORDS, MAX_STEPS, PASS_STEP, STOP_STEP,
+                               Method, Point, Sheet, Step)
 
 from sheets.expressions import (NAME, RESERVED, ExpressionError, event_number,
                                 parse_expression)
@@ -108,15 +114,23 @@ class Assembler:
         words = text.split("#", 1)[0].split()
         if not words:
             return
-        takers = {"event": self.event, "condition": self.condition,
-                  "point": self.point, "primitive": self.primitive,
-                  "method": self.method, "step": self.step}
+        takers = {"edition": self.edition, "event": self.event,
+                  "condition": self.condition, "point": self.point,
+                  "primitive": self.primitive, "method": self.method,
+                  "step": self.step}
         if words[0] not in takers:
             self.fail(f"unknown statement '{words[0]}'")
         try:
             takers[words[0]](words[1:])
         except ExpressionError as error:
             self.fail(str(error))
+
+    def edition(self, words):
+        if words != ["new"]:
+            self.fail("expected: edition new")
+        if self.sheet.new:
+            self.fail("the edition is already given")
+        self.sheet = self.sheet._replace(new=True)
 
     def event(self, words):
         if len(words) != 3 or words[1] != "=":
@@ -191,25 +205,32 @@ class Assembler:
         self.method_lines.append(self.line)
 
     def step(self, words):
-        if len(words) < 4 or words[1] != "->":
-            self.fail("expected: step POINT -> POINT event|call|pass ..")
+        if words[1:] == ["stop"]:
+            step = Step(STOP_STEP, self.find(words[0], self.points, "point"))
+        elif len(words) > 3 and words[1] == "->":
+            step = self.leading_step(words)
+        else:
+            self.fail("expected: step POINT -> POINT event|call|pass .., "
+                      "or step POINT stop")
+        self.room(self.sheet.steps, MAX_STEPS, "steps")
+        self.sheet.steps.append(step)
+        self.step_lines.append(self.line)
+
+    def leading_step(self, words):
+        """The step of POINT -> POINT and what it does."""
         source = self.find(words[0], self.points, "point")
         target = self.find(words[2], self.points, "point")
         kind, rest = words[3], words[4:]
         if kind == "pass" and not rest:
-            step = Step(PASS_STEP, source, target)
-        elif kind == "event" and len(rest) == 1:
-            step = Step(EVENT_STEP, source, target,
+            return Step(PASS_STEP, source, target)
+        if kind == "event" and len(rest) == 1:
+            return Step(EVENT_STEP, source, target,
                         event_number(rest[0], self.words))
-        elif kind == "call" and (len(rest) == 1 or rest[1:3] == ["failing", "to"]
-                                 and len(rest) == 4):
-            step = self.call(source, target, rest[0], rest[3:])
-        else:
-            self.fail("a step ends with: event EVENT, call METHOD, "
-                      "call METHOD failing to POINT, or pass")
-        self.room(self.sheet.steps, MAX_STEPS, "steps")
-        self.sheet.steps.append(step)
-        self.step_lines.append(self.line)
+        if kind == "call" and (len(rest) == 1 or rest[1:3] == ["failing", "to"]
+                               and len(rest) == 4):
+            return self.call(source, target, rest[0], rest[3:])
+        self.fail("a step ends with: event EVENT, call METHOD, "
+                  "call METHOD failing to POINT, or pass")
 
     def call(self, source, target, name, failed_target):
         """The call step; the failed target is a list of no name or one."""

@@ -14,12 +14,12 @@ if not __package__:  # run as a file, from any folder
 
 from reference.instruments import LARGE, chosen_instrument
 from reference.loader import load_line
-from reference.reading import (BODY_LENGTHS, CALL_STEP, END_CERTIFICATE,
+from reference.reading import (BODY_LENGTHS, CALL_STEP, EDITION, END_CERTIFICATE,
                                END_CONDITION, EVENT_STEP, FAILING_CALL,
                                FAILING_METHOD, FAILING_PRIMITIVE, FIELD_NAMES,
                                METHOD, METHODS, PAIR, PASS_STEP, POINT, POINTS,
-                               PRIMITIVE, SECTIONS, Reader, Refusal, fields_of,
-                               pair_of, read_record)
+                               PRIMITIVE, SECTIONS, STOP_STEP, Reader, Refusal,
+                               fields_of, pair_of, read_record)
 from reference.conditions import LEAF
 from reference.rules import all_rules
 
@@ -28,13 +28,15 @@ from sheets.expressions import show, show_set
 ITEM_NAMES = ("leaf", "EMPTY", "JOIN", "EITHER", "STAR")
 STEP_KEYS = {EVENT_STEP: ("from", "to", "event"),
              CALL_STEP: ("from", "to", "method"), PASS_STEP: ("from", "to"),
-             FAILING_CALL: ("from", "to", "failing to", "method")}
+             FAILING_CALL: ("from", "to", "failing to", "method"),
+             STOP_STEP: ("stop from",)}
 KEYS = {kind: [name.replace("_", " ") for name in names]
         for kind, names in FIELD_NAMES.items()} | STEP_KEYS
 NAMES = {POINT: "point", PRIMITIVE: "primitive", METHOD: "method",
          EVENT_STEP: "event step", CALL_STEP: "call step",
          PASS_STEP: "pass step", FAILING_PRIMITIVE: "primitive",
-         FAILING_METHOD: "method", FAILING_CALL: "call step"}
+         FAILING_METHOD: "method", FAILING_CALL: "call step",
+         STOP_STEP: "step"}
 LONGEST = 1 + max(BODY_LENGTHS)
 
 
@@ -85,13 +87,15 @@ class Printer:
         if kind == END_CERTIFICATE:
             number = len(reader.sheet.certificates)
             return f"end of certificate {number}: {self.owner()}"
+        if kind == EDITION:
+            return "edition new"
         return self.numbered(record)
 
     def lines(self, data):
         """Every line before the loader's."""
         offset = 0
         while offset < len(data) <= self.reader.instrument.bytes:
-            record = read_record(data, offset)
+            record = read_record(data, offset, self.reader.instrument.kinds)
             if isinstance(record, Refusal) or self.reader.refusal_at(record):
                 yield f"{offset:6}  {data[offset:offset + LONGEST].hex(' ')}"
                 return
