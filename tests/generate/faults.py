@@ -17,9 +17,9 @@ from .trees import random_tree
 
 ALL_RIGHTS = (1 << 32) - 1
 # The rules that have no certificate.
-UNCERTIFIED = (1, 2, 4, 24)
-# The kinds of steps that have a rule, by the last rule.
-STEP_KINDS = {9: (10,), 14: (11, 17), 17: (12,), 21: (17,)}
+UNCERTIFIED = (1, 2, 4, 24, 25)
+# The kinds of steps that have a rule, by the last rule; 26 is of calls of bodies.
+STEP_KINDS = {9: (10,), 14: (11, 17), 17: (12,), 21: (17,), 25: (19,), 26: (11, 17)}
 
 
 def certified(sheet):
@@ -107,7 +107,7 @@ FAILURES = {1: fail_clause_1, 2: fail_clause_2, 3: fail_clause_3,
             4: fail_clause_4}
 
 
-def certificate_faults(seed, sheets, each, numbers=range(1, 25)):
+def certificate_faults(seed, sheets, each, numbers=range(1, 27)):
     """For each rule with a certificate and each clause, sheets that fail there.
 
     Few sheets may not have a clause: place 0 alone cannot fail clause 4.
@@ -155,8 +155,10 @@ def subjects(plan, number):
         return [method for method, body in plan.bodies()
                 if number < 7 or body.may_fail and (number < 24 or method == 0)]
     kinds = STEP_KINDS[min(last for last in STEP_KINDS if number <= last)]
+    bodies = dict(plan.bodies())
     return [index for index, step in enumerate(plan.steps)
-            if step.kind in kinds and plan.steps.index(step) == index]
+            if step.kind in kinds and plan.steps.index(step) == index
+            and (number != 26 or step.operand in bodies)]
 
 
 def broken_rule(draws, number, shapes):

@@ -1,9 +1,9 @@
 """Control graphs for sheets of document 01: points, methods and steps; with
-methods that may fail, of document 02, Ask 2."""
+methods that may fail, of document 02, Ask 2; of the new edition, with stops, Ask 4."""
 from typing import NamedTuple
 
 from reference.reading import (CALL_STEP, EVENT_STEP, FAILING_CALL, PASS_STEP,
-                               Step)
+                               STOP_STEP, Step)
 
 from .trees import Language, measured, random_tree
 
@@ -48,6 +48,7 @@ class Plan:
         self.points = 0
         self.methods = []
         self.steps = []
+        self.new = False    # the edition
 
     def point(self):
         self.points += 1
@@ -284,6 +285,54 @@ def failing(shape):
 
 
 FAILING_SHAPES = tuple(map(failing, SHAPES + (repeated_calls,)))
+
+
+def two_call_sites(draws, alphabet):
+    """A method that is called from two places, or from one of them by itself."""
+    plan = Plan(alphabet)
+    entry, first, middle, second, out = (plan.point() for _ in range(5))
+    inner = Body(plan.point(), plan.point())
+    plan.methods = [Body(entry, out), inner]
+    add_primitives(draws, plan, draws.between(1, 2))
+    primitives = range(2, len(plan.methods))
+    plan.call(entry, first, draws.pick(primitives))
+    plan.call(first, middle, 1)
+    add_step(draws, plan, middle, second, primitives)
+    plan.call(second, out, draws.pick((1, 1, 0)))
+    add_block(draws, plan, inner.entry, inner.exit, 1)
+    return plan
+
+
+def add_stops(draws, plan):
+    """Stops at some points, among the other steps anywhere: where methods begin or
+    return, elsewhere, behind an event, and where no run comes."""
+    for _ in range(draws.pick((0, 1, 1, 1, 2, 2, 3))):
+        way, source = draws.below(10), draws.below(plan.points)
+        if way < 3:
+            _, body = draws.pick(plan.bodies())
+            source = draws.pick((body.entry, body.exit))
+        elif way < 6:
+            before, source = source, plan.point()
+            plan.event(before, source, draws.pick(plan.alphabet))
+        elif way < 7:
+            source = plan.point()
+        plan.steps.insert(draws.between(0, len(plan.steps)),
+                          Step(STOP_STEP, source))
+
+
+def stopping(shape):
+    """The shape in the new edition, with stops or without."""
+    def changed(draws, alphabet):
+        plan = shape(draws, alphabet)
+        plan.new = True
+        add_stops(draws, plan)
+        return plan
+    changed.__name__ = f"{shape.__name__} that stops"
+    return changed
+
+
+STOPPING_SHAPES = tuple(map(stopping, SHAPES + (repeated_calls, two_call_sites)
+                            + FAILING_SHAPES + (failing(two_call_sites),)))
 
 
 def random_plan(draws, shape):

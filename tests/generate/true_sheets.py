@@ -6,7 +6,7 @@ rules hold, exact ones or wider ones.
 from reference.certificates import first_fault, reachable_pairs
 from reference.loader import Accepted, verdict
 from reference.reading import (EVENT_STEP, FIELD_NAMES, FIELDS, PASS_STEP,
-                               Method, Point, Sheet)
+                               STOP_STEP, Method, Point, Sheet)
 from reference.rules import END_RULE, EXIT_RULES, RETURN_RULES
 from sheets.records import TooManyPairs, encode, with_certificates
 
@@ -210,6 +210,21 @@ class Solver:
                for number, step in enumerate(self.plan.steps) if step.is_call
                for failed in step.outcomes])
 
+    def entered_edges(self):
+        """In a new sheet, from the entry of each called body to the calling point."""
+        if not self.plan.new:
+            return []
+        bodies = dict(self.plan.bodies())
+        return self.kept(
+            [(26, number, (bodies[step.operand].entry, ONLY_EMPTY, step.source))
+             for number, step in enumerate(self.plan.steps)
+             if step.is_call and step.operand in bodies])
+
+    def stop_points(self):
+        """The points at which the run may stop."""
+        return [step.source for number, step in enumerate(self.plan.steps)
+                if step.kind == STOP_STEP and (25, number) != self.left_out]
+
     def pasts(self):
         """past by point, and pre by ("outer", method)."""
         edges = self.edges(self.plan.steps, 0) + self.entry_edges()
@@ -219,12 +234,14 @@ class Solver:
         """due by point, and the futures by ("outer", method) and, where a method
         may fail, ("failed", method)."""
         edges = (reversed_edges(self.edges(self.plan.steps, 2))
-                 + self.return_edges())
-        return reversed_solution(self.outer_solution(edges, END_RULE))
+                 + self.return_edges() + self.entered_edges())
+        return reversed_solution(self.outer_solution(edges, END_RULE,
+                                                     self.stop_points()))
 
-    def outer_solution(self, edges, rules):
+    def outer_solution(self, edges, rules, ends=()):
         """Solve for the points and one more unknown for each method and outcome;
-        the rules say of each outcome of method 0 that it has the empty word."""
+        the rules say of each outcome of method 0 that it has the empty word, and the
+        ends have it too."""
         unknowns = list(range(self.plan.points))
         unknowns += [(OUTER[failed], number) for failed in rules
                      for number, method in enumerate(self.plan.methods)
@@ -234,6 +251,8 @@ class Solver:
             one = OUTER[failed], 0
             if one in unknowns and (rule, 0) != self.left_out:
                 sources[one] = either(sources.get(one, NOTHING), ONLY_EMPTY)
+        for point in ends:
+            sources[point] = either(sources.get(point, NOTHING), ONLY_EMPTY)
         return self.solve(unknowns, sources, edges)
 
     def sheet(self):
@@ -255,7 +274,8 @@ class Solver:
                     failed_trace=numbering(self.trace(number, True).tree),
                     failed_future=numbering(dues["failed", number].tree))
             methods.append(one)
-        sheet = Sheet(numbering.trees, points, methods, self.plan.steps, [])
+        sheet = Sheet(numbering.trees, points, methods, self.plan.steps, [],
+                      self.plan.new)
         return shuffled_conditions(self.draws, sheet)
 
 
@@ -292,8 +312,8 @@ def shuffled_conditions(draws, sheet):
     new = {old: number for number, old in enumerate(order)}
     points = [Point(*(new[name] for name in point)) for point in sheet.points]
     methods = [renamed(one, "c", new.__getitem__) for one in sheet.methods]
-    return Sheet([sheet.conditions[old] for old in order], points, methods,
-                 sheet.steps, [])
+    return sheet._replace(conditions=[sheet.conditions[old] for old in order],
+                          points=points, methods=methods, certificates=[])
 
 
 def true_sheet(draws, shape, max_pairs=150):
