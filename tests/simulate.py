@@ -1,6 +1,6 @@
 """Random runs of accepted sheets, also of those in which calls may fail (document
-02, Ask 2), checked against demand 3 of document 01 and against Ask 12 of document
-02, by the languages of the conditions.
+02, Ask 2) and of those that stop (Ask 4), checked against demand 3 of document 01 and
+against Ask 12 of document 02, by the languages of the conditions.
 
     python3 simulate.py [SEED [SHEETS]]
 
@@ -8,17 +8,18 @@ Every state of every run is checked. Impossible moves and moves after the
 end are made too, and must change nothing.
 """
 import sys
+from collections import Counter
 from typing import NamedTuple
 
+from generate import outcomes, stops
 from generate.draws import Draws
 from generate.faults import changed_bytes, changed_conditions
-from generate.outcomes import accepted_cases
-from generate.plans import FAILING_SHAPES, repeated_calls
+from generate.plans import FAILING_SHAPES, STOPPING_SHAPES, repeated_calls
 from generate.special import examples
 from generate.true_sheets import true_sheets
 from generate.words import derived
 from reference.loader import Accepted, verdict
-from reference.reading import CALL_STEP, EVENT_STEP, read_sheet
+from reference.reading import CALL_STEP, EVENT_STEP, STOP_STEP, read_sheet
 from reference.runs import (FAIL, RETURN, Move, callers, first_break,
                             first_owed_break, in_caller, in_condition,
                             make_move, missing, start)
@@ -35,6 +36,8 @@ class Totals:
         self.owed = self.past_maker = self.told_apart = 0
         self.failed_primitives = self.failed_bodies = self.failed_ends = 0
         self.owed_by_failed = self.chosen = 0
+        self.stopped = Counter()   # runs that stopped, by the number of open calls
+        self.due_at_stop = self.due_above = 0
 
     def count_owed(self, run):
         """Count the returned calls whose future is owed in a state."""
@@ -61,6 +64,15 @@ class Totals:
             self.failed_ends += 1
         else:
             self.failed_bodies += 1
+
+
+    def count_stop(self, run):
+        """Count a run that has stopped, and the returned calls whose futures must be
+        met then; those made by callers of the active call rest on rule 26."""
+        self.stopped[len(run.open_calls)] += 1
+        self.due_at_stop += len(run.returned_calls)
+        self.due_above += sum(caller is call.maker for call in run.returned_calls
+                              for caller in run.open_calls[:-1])
 
 
 def in_like_of_caller(run, call):
@@ -172,6 +184,7 @@ def must_stay(sheet, run, move):
         return True
     step = sheet.steps[move.step]
     return (step.source != run.point
+            or step.kind == STOP_STEP and not sheet.new
             or step.kind == CALL_STEP and move.failed
             and not sheet.methods[step.operand].has_body)
 
@@ -180,6 +193,10 @@ def check_move(sheet, before, move, after):
     """What a move may do to the history and to the calls."""
     if must_stay(sheet, before, move):
         assert after == before, "an impossible move changed the run"
+    elif move.step is not None and sheet.steps[move.step].kind == STOP_STEP:
+        assert after == before._replace(stopped=True), "a stop changed the run"
+    else:
+        assert not after.stopped, "a run stopped without a stop"
     assert after.history[:len(before.history)] == before.history
     assert (after.returned_calls[:len(before.returned_calls)]
             == before.returned_calls)
@@ -221,6 +238,8 @@ def walk(walker, totals, number, check=Walker.any_break):
         late += run.ended
         totals.after_end += run.ended
         totals.ended += after.ended and not run.ended
+        if after.stopped and not run.stopped:
+            totals.count_stop(after)
         totals.deepest = max(totals.deepest, len(after.open_calls))
         run = after
     totals.states += 1
@@ -230,12 +249,14 @@ def walk(walker, totals, number, check=Walker.any_break):
 
 
 def accepted_sheets(seed, count):
-    """Accepted examples, random true sheets, also of those that may fail, and
-    changed ones still accepted."""
+    """Accepted examples, random true sheets, also of those that may fail and of those
+    that stop, and changed ones still accepted."""
     sheets = [sheet for _, sheet in true_sheets(seed, count)]
     sheets += failing_sheets(seed + 4, count)
+    sheets += stopping_sheets(seed + 5, count)
     yield from accepted_among(examples())
-    yield from accepted_among(accepted_cases())
+    yield from accepted_among(outcomes.accepted_cases())
+    yield from accepted_among(stops.accepted_cases())
     yield from sheets
     for _, sheet in true_sheets(seed + 3, count // 4, shapes=[repeated_calls]):
         yield sheet
@@ -246,6 +267,11 @@ def accepted_sheets(seed, count):
 def failing_sheets(seed, count):
     """Random true sheets in which calls may fail."""
     return [sheet for _, sheet in true_sheets(seed, count, shapes=FAILING_SHAPES)]
+
+
+def stopping_sheets(seed, count):
+    """Random true sheets of the new edition, most of which may stop."""
+    return [sheet for _, sheet in true_sheets(seed, count, shapes=STOPPING_SHAPES)]
 
 
 def accepted_among(cases):
@@ -284,6 +310,12 @@ def main(arguments):
           f"{totals.failed_ends} runs ended so; {totals.chosen} returns could "
           f"have had either outcome; {totals.owed_by_failed} futures owed by "
           f"calls that failed")
+    print(f"{sum(totals.stopped.values())} runs stopped, with open calls "
+          + ", ".join(f"{depth}: {runs}" for depth, runs
+                      in sorted(totals.stopped.items()))
+          + f"; {totals.due_at_stop} futures of returned calls met there, "
+          f"{totals.due_above} of them of calls that a caller of the active call "
+          f"had made")
     if found is None:
         print("0 breaks")
         return 0
