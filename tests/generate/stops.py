@@ -716,6 +716,7 @@ def sheet_cases():
     yield from faults.certificate_faults(232, sheets, 1, range(1, 25))
     yield from faults.broken_rules(233, 16, (25, 26), STOPPING_SHAPES)
     yield from faults.broken_rules(234, 1, range(1, 25), STOPPING_SHAPES)
+    yield from special.stop_examples()
 
 
 def entry_sheet_cases():
@@ -726,6 +727,7 @@ def entry_sheet_cases():
     yield from faults.certificate_faults(251, sheets, 3, (26,))
     yield from faults.broken_rules(252, 4, (25, 26), STOPPING_SHAPES)
     yield from entry.point_sheets(253, sheets[:6], ENTRY)
+    yield from special.stop_examples(ENTRY)
 
 
 def refused_groups():
