@@ -47,6 +47,12 @@ enum-told-2 c = search needs
 enum-known-x-12 : tie.Need-enum-known-x-12
 enum-known-x-12 c = search needs
 
+enum-known-x-13 : tie.Need-enum-known-x-13
+enum-known-x-13 c = search needs
+
+enum-known-x-14 : tie.Need-enum-known-x-14
+enum-known-x-14 c = search needs
+
 returns : tie.Need-returns
 returns c = sym (ap placeOf (c .before .x .given .1))
 
@@ -89,6 +95,12 @@ returns-13 c = search needs
 returns-14 : tie.Need-returns-14
 returns-14 c = sym (ap placeOf (c .before .x12 .given .1))
 
+returns-15 : tie.Need-returns-15
+returns-15 c = sym (ap placeOf (c .before .x13 .given .1))
+
+returns-16 : tie.Need-returns-16
+returns-16 c = sym (ap placeOf (c .before .x14 .given .1))
+
 pub refusal-place-spec : {M : Type 1} → statement M
 refusal-place-spec =
     tie.close
@@ -107,6 +119,8 @@ refusal-place-spec =
     enum-known-x-11
     enum-told-2
     enum-known-x-12
+    enum-known-x-13
+    enum-known-x-14
     returns
     returns-2
     returns-3
@@ -120,4 +134,6 @@ refusal-place-spec =
     returns-11
     returns-12
     returns-13
-    returns-14)
+    returns-14
+    returns-15
+    returns-16)

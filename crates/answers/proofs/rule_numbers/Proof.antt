@@ -83,6 +83,12 @@ enum-known-r-23 c = search needs
 enum-known-r-24 : tie.Need-enum-known-r-24
 enum-known-r-24 c = search needs
 
+enum-known-r-25 : tie.Need-enum-known-r-25
+enum-known-r-25 c = search needs
+
+enum-known-r-26 : tie.Need-enum-known-r-26
+enum-known-r-26 c = search needs
+
 returns : tie.Need-returns
 returns c = (sym (ap numbers (c .before .r .given .1)), omega arith)
 
@@ -155,6 +161,12 @@ returns-23 c = (sym (ap numbers (c .before .r23 .given .1)), omega arith)
 returns-24 : tie.Need-returns-24
 returns-24 c = (sym (ap numbers (c .before .r24 .given .1)), omega arith)
 
+returns-25 : tie.Need-returns-25
+returns-25 c = (sym (ap numbers (c .before .r25 .given .1)), omega arith)
+
+returns-26 : tie.Need-returns-26
+returns-26 c = (sym (ap numbers (c .before .r26 .given .1)), omega arith)
+
 pub rule-numbers-spec : {M : Type 1} → statement M
 rule-numbers-spec =
     tie.close
@@ -183,6 +195,8 @@ rule-numbers-spec =
     enum-known-r-22
     enum-known-r-23
     enum-known-r-24
+    enum-known-r-25
+    enum-known-r-26
     returns
     returns-2
     returns-3
@@ -206,4 +220,6 @@ rule-numbers-spec =
     returns-21
     returns-22
     returns-23
-    returns-24)
+    returns-24
+    returns-25
+    returns-26)

@@ -1,0 +1,27 @@
+-- The entry that rule 26 asks about where a method is called, by the edition and the method as they were read.
+use mathlib.Core.Path.{_≡_, sym, ap, ap₂, _∙_}
+use mathlib.Core.Bool.{Bool, true, false, cond}
+use mathlib.Core.Option.{Option, none, some}
+use mathlib.Core.List.{List}
+use Prim.Native.Nat.{ℕ}
+use lib.ListN.{getD, getElem?}
+use Rattle.sheet.specs.Sheet as sheet
+use Rattle.sheet.specs.Sheet.{Sheet, bodyIn, entryIn}
+use Rattle.sheet.specs.AtOffset.{methodAt}
+use Rattle.sheet.specs.Reading.{isNew}
+use Rattle.runs.specs.Rules.{entryAsked}
+use Rattle.format.specs.declared.values.Method.{Method}
+use Rattle.format.specs.Values.{methodValue}
+use Rattle.index.specs.Indexed.{CalledIn}
+
+module _ {S : Sheet} {s methods : List ℕ} {m : ℕ} (x : CalledIn S s methods m) {new : Bool} (told : new ≡ isNew s) where
+  -- it asks about none in a sheet of the old edition
+  pub none-asked : new ≡ false → none ≡ entryAsked S m
+  none-asked old = sym (ap (λ (b : Bool). cond b (entryIn (bodyIn (getElem? (S .methods) m))) none) (x .edition-is ∙ sym told ∙ old))
+
+  -- and in one of the new edition about that of the method w, if it has a body
+  pub entry-is : new ≡ true → {v w : Method} → v ≡ w → methodValue v ≡ methodAt s (getD methods m 0) → entryIn (methodValue w .body) ≡ entryAsked S m
+  entry-is marked is read =
+      sym
+      (ap₂ (λ (b : Bool) (y : Option sheet.Method). cond b (entryIn (bodyIn y)) none) (x .edition-is ∙ sym told ∙ marked)
+      (x .is ∙ ap (λ (y : sheet.Method). some y) (sym read ∙ ap methodValue is)))
