@@ -1,6 +1,6 @@
 -- What the tables of an indexed sheet lead to: its points and methods with their conditions, its bodies and its steps.
-use mathlib.Core.Path.{_≡_, refl, ap, _∙_, subst}
-use mathlib.Core.Bool.{true}
+use mathlib.Core.Path.{_≡_, refl, sym, ap, _∙_, subst}
+use mathlib.Core.Bool.{Bool, true, false, cond}
 use mathlib.Core.Option.{Option, none, some}
 use mathlib.Core.List.{List}
 use Prim.Native.Nat.{ℕ, _<_}
@@ -9,11 +9,12 @@ use lib.ListN.{length, getD, getElem?}
 use lib.Dec.{T}
 use Rattle.sheet.specs.Each.{Each}
 use Rattle.sheet.specs.Model.{stepLimit}
-use Rattle.sheet.specs.Sheet.{Outcome, normal, failed, Point, Declared, Body, Method, Step, Sheet, conditionNamed, declaredFor, declaredIn, bodyIn, body}
+use Rattle.sheet.specs.Sheet.{Outcome, normal, failed, Point, Declared, Body, Method, Step, Sheet, conditionNamed, declaredFor, declaredIn, bodyIn, body, entryIn}
 use Rattle.sheet.specs.AtOffset.{methodAt, stepAt}
 use Rattle.sheet.specs.Names.{PointNamed, BodyNamed, DeclaredNamed, MethodNamed, StepNamed, isSome, TargetsFit, EventBelow}
 use Rattle.sheet.proofs.Each.{each-get}
-use Rattle.index.specs.Indexed.{Indexes, ConditionIn, PointIn, DeclaredIn, MethodIn, FailedIn}
+use Rattle.runs.specs.Rules.{entryAsked}
+use Rattle.index.specs.Indexed.{Indexes, ConditionIn, PointIn, DeclaredIn, MethodIn, FailedIn, CalledIn}
 
 abbrev OrNone : {A : Type 0} → (A → Type 0) → Option A → Type 0
 OrNone P none = Unit {0}
@@ -26,6 +27,11 @@ each-some P all k x is = subst (OrNone P) is (each-get (OrNone P) tt all k)
 the-some : {A : Type 0} (o : Option A) → true ≡ isSome o → (x : A) × (o ≡ some x)
 the-some none e = absurd (subst T e tt)
 the-some (some x) e = (x, refl)
+
+asked-named : {n : ℕ} (new : Bool) (b : Option Body) → BodyNamed n b → (e : ℕ) → cond new (entryIn b) none ≡ some e → e < n
+asked-named true none named e is = let z : _≡_ {A = ℕ} 0 1 = cc in absurd (omega arith)
+asked-named {n} true (some b) named e is = let same : b .entry ≡ e = cc in subst (λ (e : ℕ). e < n) same (named .0)
+asked-named false b named e is = let z : _≡_ {A = ℕ} 0 1 = cc in absurd (omega arith)
 
 module _ {S : Sheet} {s conditions points methods steps : List ℕ} (x : Indexes S s conditions points methods steps) where
   -- a field that names a condition
@@ -86,12 +92,20 @@ module _ {S : Sheet} {s conditions points methods steps : List ℕ} (x : Indexes
         let (d, e) = the-some (methodAt s (getD methods m 0) .failing) (two ∙ ap (λ (y : Option Method). isSome (declaredIn failed y)) method-is) in
         failed-in d e
 
+    -- a call of it can be asked about
+    pub called-in : CalledIn S s methods m
+    called-in = record { exists = method-in .exists; inside = method-in .inside; is = method-is; edition-is = x .edition-is }
+
     -- its body, and that the points of the body exist
     pub body-is : body S m ≡ methodAt s (getD methods m 0) .body
     body-is = ap bodyIn method-is
 
     pub body-named : (b : Option Body) → methodAt s (getD methods m 0) .body ≡ b → BodyNamed (length (S .points)) b
     body-named b e = subst (BodyNamed (length (S .points))) e (named .body-named)
+
+    -- the entry that rule 26 asks about exists
+    pub entry-named : (e : ℕ) → entryAsked S m ≡ some e → e < length (S .points)
+    entry-named = asked-named (S .new) (body S m) (body-named (body S m) (sym body-is))
 
   module _ (i : ℕ) (l : i < length (S .steps)) where
     pub step-few : i < stepLimit

@@ -1,5 +1,6 @@
 pub mod Indexed
 pub mod Named
+mod Called
 pub mod Read
 pub mod Trial
 pub mod Verdict

@@ -5,7 +5,7 @@ use Prim.Native.Nat.{ℕ, _≤_, _<_}
 use native.Mathlib.Omega.{arith}
 use lib.ListN.{length, getD, getElem?}
 use Rattle.sheet.specs.Model.{Model}
-use Rattle.sheet.specs.Sheet.{Method, Step, event-step, call-step, pass-step, bodyIn}
+use Rattle.sheet.specs.Sheet.{Method, Step, event-step, call-step, pass-step, stop-step, bodyIn}
 use Rattle.sheet.specs.Kind.{conditions, points, methods, steps}
 use Rattle.sheet.specs.Reading.{Reading, startsOf, whole, readSheet}
 use Rattle.sheet.specs.Decode.{sheetOf}
@@ -33,6 +33,7 @@ fits : (n : ℕ) → n ≤ 64 → (t : Step) → EventBelow n t → EventBelow 6
 fits n few (event-step p q a) h = omega arith
 fits n few (call-step t) h = tt
 fits n few (pass-step p q) h = tt
+fits n few (stop-step p) h = tt
 
 has-one : (ms : List Method) → HasBody (bodyIn (getElem? ms 0)) → 0 < length ms
 has-one [] h = absurd h
@@ -67,4 +68,5 @@ module _ (M : Model) (s : List ℕ) (r : Reading) (h : readSheet M s ≡ whole r
         outcomes-fit = x .outcomes;
         events-fit = each-map (fits (M .events) events) (x .events);
         a-method = has-one (sheetOf M s .methods) (x .first);
+        edition-is = x .edition;
       }
