@@ -1,4 +1,4 @@
--- The failed way of a method or of a call, if it has one, and the rules of a failed exit.
+-- The failed way of a method or of a call and the entry that rule 26 asks about, if there is one, and the rules of a failed exit.
 use Prim.Native.Nat.{ℕ, _≤_}
 use mathlib.Core.Path.{_≡_, refl, sym, ap₂, _∙_, subst}
 use mathlib.Core.Bool.{Bool, true, false, cond, _&&_}
@@ -8,39 +8,51 @@ use native.Mathlib.Omega.{arith}
 use lib.ListN.{length}
 use lib.Dec.{T, eqb}
 use borrow.Author.Tests.{eqb-true, eqb-false}
-use Rattle.sheet.specs.Sheet.{failed, Sheet, future}
+use Rattle.sheet.specs.Sheet.{failed, Sheet, due, future}
 use Rattle.runs.specs.Rules.{Rule, _of_says_, holdsEmpty, ifAny, isAmong, exitRules, failedExitRules}
 use Rattle.answers.specs.declared.Rule as answers
 use Rattle.answers.specs.Answers.{ruleNumber, ruleSubject}
+use Rattle.postfix.specs.Parts.{StandsAt}
 use Rattle.rule_claims.specs.declared.Way.{Way}
 use Rattle.rule_claims.specs.declared.Failing.{Failing}
 use Rattle.rule_claims.specs.declared.Failing.the-variants.{Never, By}
-use Rattle.rule_claims.specs.Ways.{RuleIs, WayIs, FailingIs}
+use Rattle.rule_claims.specs.declared.Entered.{Entered}
+use Rattle.rule_claims.specs.declared.Entered.the-variants.{Unasked, Due}
+use Rattle.rule_claims.specs.Ways.{RuleIs, WayIs, FailingIs, EnteredIs}
 
 -- a name by its own number and subject
 pub named : {x : answers.Rule} → RuleIs x (ruleNumber x) (ruleSubject x)
 named = record { number-is = refl; subject-is = refl }
 
--- the failed way at or to a point that is there
-pub record FailsBy (s : List ℕ) (S : Sheet) (m : ℕ) (e : Option ℕ) (x : Way) : Type 0 where
+-- a point is there, and has a property
+pub record There (P : ℕ → Type 0) (e : Option ℕ) : Type 0 where
   pub point : ℕ
   pub is : e ≡ some point
-  pub way-is : WayIs s S m failed point x
+  pub has : P point
 
-module _ (s : List ℕ) (S : Sheet) (m : ℕ) where
-  pub never : (e : Option ℕ) {x : Failing} → x ≡ Never → FailingIs s S m e x → e ≡ none
-  never e is h = go e (subst (FailingIs s S m e) is h)
-    where
-      go : (e : Option ℕ) → FailingIs s S m e Never → e ≡ none
-      go none h = refl
-      go (some p) h = absurd h
+-- what is told of a point that need not be there tells whether it is
+none-there : (F : Option ℕ → Type 0) → ((p : ℕ) → F (some p) → ⊥) → (e : Option ℕ) → F e → e ≡ none
+none-there F never none h = refl
+none-there F never (some p) h = absurd (never p h)
 
-  pub fails-by : (e : Option ℕ) {x : Failing} {w : Way} → x ≡ By w → FailingIs s S m e x → FailsBy s S m e w
-  fails-by e {w = w} is h = go e (subst (FailingIs s S m e) is h)
-    where
-      go : (e : Option ℕ) → FailingIs s S m e (By w) → FailsBy s S m e w
-      go none h = absurd h
-      go (some p) h = record { point = p; is = refl; way-is = h }
+one-there : (F : Option ℕ → Type 0) → (F none → ⊥) → (e : Option ℕ) → F e → There (λ p. F (some p)) e
+one-there F never none h = absurd (never h)
+one-there F never (some p) h = record { point = p; is = refl; has = h }
+
+module _ (s : List ℕ) (S : Sheet) (e : Option ℕ) where
+  -- the failed way
+  pub never : (m : ℕ) {x : Failing} → x ≡ Never → FailingIs s S m e x → e ≡ none
+  never m is h = none-there (λ e. FailingIs s S m e Never) (λ p h. h) e (subst (FailingIs s S m e) is h)
+
+  pub fails-by : (m : ℕ) {x : Failing} {w : Way} → x ≡ By w → FailingIs s S m e x → There (λ p. WayIs s S m failed p w) e
+  fails-by m {w = w} is h = one-there (λ e. FailingIs s S m e (By w)) (λ h. h) e (subst (FailingIs s S m e) is h)
+
+  -- the entry that rule 26 asks about
+  pub unasked : {x : Entered} → x ≡ Unasked → EnteredIs s S e x → e ≡ none
+  unasked is h = none-there (λ e. EnteredIs s S e Unasked) (λ p h. h) e (subst (EnteredIs s S e) is h)
+
+  pub enters : {x : Entered} {d : ℕ} → x ≡ Due d → EnteredIs s S e x → There (λ p. StandsAt s d (due S p)) e
+  enters {d = d} is h = one-there (λ e. EnteredIs s S e (Due d)) (λ h. h) e (subst (EnteredIs s S e) is h)
 
 -- The rules of the failed exit p of the method m, with 24 or without
 abbrev pub failedRules : Sheet → Bool → (m p : ℕ) → List Rule

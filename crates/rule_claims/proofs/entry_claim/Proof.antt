@@ -21,17 +21,18 @@ inclusion-requires c κs = search needs
 returns : tie.Need-returns
 returns c = λ s S t e p is.
     let x = enters s S e (c .before .before .before .entered .given .1) is in
-    kth-as (ap (λ (e : Option ℕ). ifAny e (entryRules S _ t)) (x .is))
+    kth-as (ap (λ (e : Option ℕ). ifAny e (entryRules S (c .before .before .before .before .before .args .i) t)) (x .is))
     (kth-says (c .before .if1 .taken) refl (c .inclusion .ensures s _ _ (x .has) (p .due-stands)))
 
 returns-2 : tie.Need-returns-2
 returns-2 c = λ s S t e p is.
-    kth-as (ap (λ (e : Option ℕ). ifAny e (entryRules S _ t)) (unasked s S e (c .enum-told .given .1) is)) (kth-done (omega arith))
+    kth-as (ap (λ (e : Option ℕ). ifAny e (entryRules S (c .before .before .args .i) t)) (unasked s S e (c .enum-told .given .1) is)) (kth-done (omega arith))
 
 returns-3 : tie.Need-returns-3
 returns-3 c = λ s S t e p is.
     let x = enters s S e (c .before .before .entered .given .1) is in
-    kth-as (ap (λ (e : Option ℕ). ifAny e (entryRules S _ t)) (x .is)) (kth-done (omega (arith, c .if1 .left)))
+    kth-as (ap (λ (e : Option ℕ). ifAny e (entryRules S (c .before .before .before .before .args .i) t)) (x .is))
+    (kth-done (omega (arith, c .if1 .left)))
 
 pub entry-claim-spec : {M : Type 1} → statement M
 entry-claim-spec =
