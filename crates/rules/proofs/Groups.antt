@@ -10,9 +10,9 @@ use lib.Dec.{eqb}
 use lib.ListN.{length, length-append, drop, getElem?}
 use lib.Seq.{drop-append-seam}
 use Rattle.sheet.specs.Each.{Each, nil, cons}
-use Rattle.sheet.specs.Sheet.{failed, Body, Method, Step, event-step, call-step, pass-step, Sheet, bodyIn, body}
+use Rattle.sheet.specs.Sheet.{failed, Body, Method, Step, event-step, call-step, pass-step, stop-step, Sheet, bodyIn, body}
 use Rattle.sheet.proofs.Each.{each-append}
-use Rattle.runs.specs.Rules.{Rule, ifAny, isAmong, firstRules, failedExitRules, methodRules, returnRules, stepRules, firstsRules, methodsRules, stepsRules, rulesFrom, rules}
+use Rattle.runs.specs.Rules.{Rule, ifAny, isAmong, firstRules, failedExitRules, methodRules, returnRules, entryAsked, entryRules, stepRules, firstsRules, methodsRules, stepsRules, rulesFrom, rules}
 use Rattle.claims.specs.Claims.{NthIs}
 use Rattle.rule_claims.proofs.Kth.{nth-first, nth-from}
 use Rattle.rule_claims.proofs.Ways.{failedRules}
@@ -156,8 +156,15 @@ module _ (S : Sheet) where
 
   step-few : (i : ℕ) (t : Step) → Few (stepRules S i t)
   step-few i (event-step p q a) = omega arith
-  step-few i (call-step t) = omega (arith, few-if-any 4 (returnRules S 18 i t failed) (λ p. omega arith) (t .failed-to))
+  step-few i (call-step t) =
+      omega (
+        arith,
+        few-if-any 4 (returnRules S 18 i t failed) (λ p. omega arith) (t .failed-to),
+        few-if-any 1 (entryRules S i t) (λ e. omega arith) (entryAsked S (t .method)),
+        length-append (ifAny (t .failed-to) (returnRules S 18 i t failed)) (ifAny (entryAsked S (t .method)) (entryRules S i t)),
+      )
   step-few i (pass-step p q) = omega arith
+  step-few i (stop-step p) = omega arith
 
   methods-few : (starts : List ℕ) (k : ℕ) (ms : List Method) → Each Few (methodGroups S starts k ms)
   unfolding methodGroups

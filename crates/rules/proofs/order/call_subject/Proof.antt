@@ -11,21 +11,26 @@ method-of-requires c κs = let (S, steps, x, l, from, to) = c .before .before .p
 way-of-requires : tie.Need-way-of-requires
 way-of-requires c κs = let (S, steps, x, l, from, to) = c .before .before .before .pre in (S, point-in x _ to)
 
+entered-by-requires : tie.Need-entered-by-requires
+entered-by-requires c κs = let (S, steps, x, l, from, to) = c .before .before .before .before .pre in (S, steps, x, l)
+
 point-of-requires : tie.Need-point-of-requires
-point-of-requires c κs = let (S, steps, x, l, from, to) = c .before .before .before .before .pre in (S, point-in x _ from)
+point-of-requires c κs = let (S, steps, x, l, from, to) = c .before .before .before .before .before .pre in (S, point-in x _ from)
 
 returns : tie.Need-returns
 returns c = λ S steps f x l from to failing.
-    let declared = c .before .before .method-of .ensures S (method-in x _ l) in
+    let declared = c .before .before .before .method-of .ensures S (method-in x _ l) in
     record {
-      call = callValue (c .before .before .before .before .before .args .call) f;
+      call = callValue (c .before .before .before .before .before .before .args .call) f;
       pre-is = declared .pre-stands;
       from-is = c .point-of .ensures S (point-in x _ from);
-      to-is = c .before .way-of .ensures S _ normal (point-in x _ to) (declared .normal-is);
+      to-is = c .before .before .way-of .ensures S _ normal (point-in x _ to) (declared .normal-is);
       failing-is = failing;
+      entered-is = c .before .entered-by .ensures S steps x l;
       rules-are = refl;
     }
 
 pub call-subject-spec : {M : Type 1} → statement M
 call-subject-spec =
-    tie.close (tie.spec method-of-requires way-of-requires point-of-requires returns)
+    tie.close
+    (tie.spec method-of-requires way-of-requires entered-by-requires point-of-requires returns)

@@ -68,6 +68,14 @@ point-of-requires-4 c κs =
     let (S, x, l) = c .before .before .before .before .before .before .before .before .pre in
     (S, point-in x _ (named x l (c .before .before .step4 .given .1) (c .before .before .before .before .step-at .ensures) .1))
 
+enum-known-step-5 : tie.Need-enum-known-step-5
+enum-known-step-5 c = search needs
+
+point-of-requires-5 : tie.Need-point-of-requires-5
+point-of-requires-5 c κs =
+    let (S, x, l) = c .before .before .before .before .before .before .before .pre in
+    (S, point-in x _ (named x l (c .before .step5 .given .1) (c .before .before .before .step-at .ensures)))
+
 returns : tie.Need-returns
 returns c = λ S x l.
     let is = c .before .before .before .step .given .1 in
@@ -109,6 +117,12 @@ returns-4 c = λ S x l.
       rules-are = step-rules x l is read;
     }
 
+returns-5 : tie.Need-returns-5
+returns-5 c = λ S x l.
+    let is = c .before .before .step5 .given .1 in
+    let read = c .before .before .before .before .step-at .ensures in
+    record { from = _; due-is = c .point-of5 .ensures S (point-in x _ (named x l is read)) .due-stands; rules-are = step-rules x l is read }
+
 pub step-subject-spec : {M : Type 1} → statement M
 step-subject-spec =
     tie.close
@@ -128,7 +142,10 @@ step-subject-spec =
     enum-known-step-4
     point-of-requires-3
     point-of-requires-4
+    enum-known-step-5
+    point-of-requires-5
     returns
     returns-2
     returns-3
-    returns-4)
+    returns-4
+    returns-5)

@@ -35,6 +35,12 @@ enum-known-subject-5 c = search needs
 pass-claim-requires : tie.Need-pass-claim-requires
 pass-claim-requires c κs = search needs
 
+enum-known-subject-6 : tie.Need-enum-known-subject-6
+enum-known-subject-6 c = search needs
+
+stop-claim-requires : tie.Need-stop-claim-requires
+stop-claim-requires c κs = search needs
+
 enum-told : tie.Need-enum-told
 enum-told c = search needs
 
@@ -56,7 +62,7 @@ returns-3 c = λ s S xs is.
 returns-4 : tie.Need-returns-4
 returns-4 c = λ s S xs is.
     let h = told s S xs (c .before .before .subject4 .given .1) is in
-    kth-as (h .rules-are) (c .call-claim .ensures s S (h .call) (h .pre-is) (h .from-is) (h .to-is) (h .failing-is))
+    kth-as (h .rules-are) (c .call-claim .ensures s S (h .call) (h .pre-is) (h .from-is) (h .to-is) (h .failing-is) (h .entered-is))
 
 returns-5 : tie.Need-returns-5
 returns-5 c = λ s S xs is.
@@ -64,7 +70,12 @@ returns-5 c = λ s S xs is.
     kth-as (h .rules-are) (c .pass-claim .ensures s S (h .from) (h .to) (h .from-is) (h .to-is))
 
 returns-6 : tie.Need-returns-6
-returns-6 c = λ s S xs is. kth-as (told s S xs (c .enum-told .given .1) is) (kth-done (omega arith))
+returns-6 c = λ s S xs is.
+    let h = told s S xs (c .before .before .subject6 .given .1) is in
+    kth-as (h .rules-are) (c .stop-claim .ensures s S (h .from) (h .due-is))
+
+returns-7 : tie.Need-returns-7
+returns-7 c = λ s S xs is. kth-as (told s S xs (c .enum-told .given .1) is) (kth-done (omega arith))
 
 pub claim-of-spec : {M : Type 1} → statement M
 claim-of-spec =
@@ -80,10 +91,13 @@ claim-of-spec =
     call-claim-requires
     enum-known-subject-5
     pass-claim-requires
+    enum-known-subject-6
+    stop-claim-requires
     enum-told
     returns
     returns-2
     returns-3
     returns-4
     returns-5
-    returns-6)
+    returns-6
+    returns-7)
