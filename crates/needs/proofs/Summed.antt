@@ -21,7 +21,7 @@ use Rattle.rules.proofs.Walking.{few-subjects, subjects-many, a-subject}
 use Rattle.needs.specs.declared.Needs.{Needs}
 use Rattle.needs.specs.Needs.{Needed}
 
-append-needed : (xs ys : List Rule) → certificatesNeeded (xs ++ ys) ≡ certificatesNeeded xs + certificatesNeeded ys
+pub append-needed : (xs ys : List Rule) → certificatesNeeded (xs ++ ys) ≡ certificatesNeeded xs + certificatesNeeded ys
 unfolding certificatesNeeded total
 append-needed [] ys = omega arith
 append-needed (x ∷ xs) ys = omega (arith, append-needed xs ys)

@@ -9,6 +9,7 @@ use Rattle.index.proofs.Indexed.{method-in, method-is, step-inside, step-is}
 use Rattle.rules.proofs.Decoded.{body-rules, step-rules}
 use Rattle.rules.proofs.Groups.{starts-first, first-group, method-group, step-group}
 use Rattle.needs.proofs.Summed.{needed-as}
+use Rattle.needs.proofs.Calls.{step-called}
 use borrow.Author.Needs.{needs}
 use Rattle.needs.proofs.needs_at.Statement.{statement}
 use Rattle.needs.proofs.needs_at.Tie as tie
@@ -70,7 +71,12 @@ step-at-requires c κs =
     (omega (arith, x .methods-are, x .steps-are, c .before .before .before .before .pre .1, c .before .if2 .left, c .before .before .if1 .left))
 
 step-needs-requires : tie.Need-step-needs-requires
-step-needs-requires c κs = search needs
+step-needs-requires c κs =
+    let (S, cs, ps, x) = c .before .before .before .before .before .pre .0 in
+    let a = c .before .before .before .before .before .args in
+    let l : a .number - 1 - a .counts .methods < length (S .steps) =
+    omega (arith, x .methods-are, x .steps-are, c .before .before .before .before .before .pre .1, c .before .before .if2 .left, c .before .before .before .if1 .left) in
+    (S, step-called x l (c .step-at .result) (c .step-at .ensures))
 
 returns-3 : tie.Need-returns-3
 returns-3 c = λ S cs ps xs x is.
@@ -81,7 +87,7 @@ returns-3 c = λ S cs ps xs x is.
     (step-group S (a .number) is (a .number - 1 - a .counts .methods)
     (omega (arith, x .methods-are, c .before .before .before .if2 .left, c .before .before .before .before .if1 .left)) _ (step-is (x .indexes) _ l)
     ∙ step-rules (x .indexes) l {v = c .before .step-at .result} refl (c .before .step-at .ensures))
-    (c .step-needs .ensures S (a .number - 1 - a .counts .methods))
+    (c .step-needs .ensures S (a .number - 1 - a .counts .methods) (step-called x l (c .before .step-at .result) (c .before .step-at .ensures)))
 
 pub needs-at-spec : {M : Type 1} → statement M
 needs-at-spec =
