@@ -766,6 +766,39 @@ class Documents(unittest.TestCase):
             assemble(owed),
             (EXAMPLES / "gate_may_fail_owed.sheet").read_bytes())
 
+    def test_exercise_that_stops(self):
+        """The statements are those of an example; the lines are those of two others;
+        two methods, one for each place, are accepted."""
+        *shown, owed, sites = re.findall(
+            r"^ {4}(\w.*)$", self.section("An exercise that stops itself"), re.M)
+        source = (EXAMPLES / "stop_inside.txt").read_text(encoding="utf-8")
+        self.assertEqual(len(shown), 3)
+        for statement in shown:
+            self.assertIn(statement, source.splitlines())
+        for name, line in (("stop_owed", owed), ("two_call_sites", sites)):
+            self.assertEqual(
+                load_line((EXAMPLES / f"{name}.sheet").read_bytes()), line)
+        source = (EXAMPLES / "two_call_sites.txt").read_text(encoding="utf-8")
+        for one, two in (
+                ("point walk_start past before own nothing due from_walk",
+                 "point walk_start past one_open own nothing due then_walk\n"
+                 "point last_start past round own nothing due one_advance"),
+                ("point walk_end past behind own one_advance due after_walk",
+                 "point walk_end past further own one_advance due then_close\n"
+                 "point last_end past whole own one_advance due nothing"),
+                ("method walk pre before trace one_advance future after_walk"
+                 " entry walk_start exit walk_end",
+                 "method walk pre one_open trace one_advance future then_close"
+                 " entry walk_start exit walk_end\n"
+                 "method last_walk pre round trace one_advance future nothing"
+                 " entry last_start exit last_end"),
+                ("step outside -> done call walk",
+                 "step outside -> done call last_walk\n"
+                 "step last_start -> last_end event advance")):
+            self.assertIn(one, source.splitlines())
+            source = source.replace(one, two)
+        self.assertEqual(load_line(assemble(source)), "accepted 43")
+
     def test_sheets_to_try(self):
         rows = re.findall(r"^\| (?!bytes|--)(.*) \| `(.*)` \|$",
                           self.section("Sheets to try"), re.M)
@@ -774,7 +807,11 @@ class Documents(unittest.TestCase):
         for shown, line in entry:
             zeros = bytes(int(shown.split()[0].replace(",", "")))
             self.assertEqual(load_line(zeros, ENTRY), line)
-        rows = [row for row in rows if row not in entry]
+        editions = [row for row in rows if re.fullmatch(r"1[23]( \d\d)*", row[0])]
+        self.assertEqual(len(editions), 3)
+        for shown, line in editions:
+            self.assertEqual(load_line(bytes.fromhex(shown)), line)
+        rows = [row for row in rows if row not in entry + editions]
         self.assertEqual([line for _, line in rows],
                          [case.line for case in starred()])
         for (shown, line), case in zip(rows, starred()):
