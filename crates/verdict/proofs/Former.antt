@@ -9,17 +9,18 @@ use Prim.Native.Nat.{ℕ, _<_}
 use native.Mathlib.Omega.{arith}
 use lib.ListN.{getElem?}
 use lib.Dec.{T, eqb, ltb}
-use borrow.Author.Tests.{ltb-false, ne-eqb}
+use borrow.Author.Tests.{eqb-true, ltb-false, ne-eqb}
 use Rattle.condition.specs.Condition.{Word}
 use Rattle.sheet.specs.Model.{Model}
 use Rattle.sheet.specs.Each.{Each}
-use Rattle.sheet.specs.Sheet.{Outcome, normal, failed, Body, Method, CallStep, Step, event-step, callFrom, failingCallFrom, call-step, pass-step, stop-step, Sheet, bodyIn, body, exitIn, targetFor}
+use Rattle.sheet.specs.Sheet.{Outcome, normal, failed, Body, Method, CallStep, Step, event-step, call-step, pass-step, stop-step, Sheet, bodyIn, body, exitIn, targetFor}
 use Rattle.sheet.specs.Record.{Record, byteAt, recordAt, value}
 use Rattle.sheet.specs.Reading.{Counted, Reading, isPrimitive, hasTwoOutcomes, whole, readSheet}
 use Rattle.sheet.specs.Decode.{methodOf, stepOf, sheetOf}
 use Rattle.sheet.proofs.Each.{each-map, each-mapped, each-get}
 use Rattle.sheet.proofs.Take.{or-false}
 use Rattle.sheet.proofs.Own.{each-own}
+use Rattle.sheet.proofs.Kind.{step-cases}
 use Rattle.sheet.proofs.SheetOf.{sheet-is}
 use Rattle.sheet.proofs.Editions.{NoStop, no-stops, old-edition as unmarked}
 use Rattle.verdict.specs.Facts.{OldEdition, OneOutcome}
@@ -50,19 +51,8 @@ module _ (x : Record) (former : x .kind < 15) where
       go false false e = refl
 
   no-failed-target : failedCallCount (stepOf x) ≡ 0
-  no-failed-target = go (eqb (x .kind) 10) (eqb (x .kind) 11) (eqb (x .kind) 17) (eqb (x .kind) 19) (ne-eqb (x .kind) 17 (λ e. omega (arith, e, former)))
-    where
-      go : (b10 b11 b17 b19 : Bool) → b17 ≡ false
-          → failedCallCount
-          (cond b10 (event-step (value x 0) (value x 1) (value x 2))
-          (cond b11 (callFrom (value x 0) (value x 1) (value x 2))
-          (cond b17 (failingCallFrom (value x 0) (value x 1) (value x 2) (value x 3))
-          (cond b19 (stop-step (value x 0)) (pass-step (value x 0) (value x 1)))))) ≡ 0
-      go true b11 b17 b19 e = refl
-      go false true b17 b19 e = refl
-      go false false true b19 e = absurd (subst T e tt)
-      go false false false true e = refl
-      go false false false false e = refl
+  no-failed-target =
+      step-cases (λ (t : Step). failedCallCount t ≡ 0) x refl (λ e. refl) (λ e. absurd (omega (arith, former, eqb-true (x .kind) 17 e))) (λ e. refl) refl
 
 module _ (M : Model) (s : List ℕ) (r : Reading) (read : readSheet M s ≡ whole r) (former : M .kinds < 15) where
   known : (k : ℕ) → Each (λ (c : Counted). c .last .kind < 15) (r .own k)
