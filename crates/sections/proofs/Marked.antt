@@ -32,6 +32,7 @@ module _ {M : Model} {s : List ℕ} {o : ReadResult} {r : Reading} {t : Tally} (
   abbrev Starts : ℕ → Type 0
   Starts at = Opening M s o r at at nothingBegun t table table
 
+  -- without a mark reading has come to the first record
   unmarked : pastMark (M .kinds) s ≤ 0 → Starts 0
   unmarked no-mark =
       record {
@@ -44,6 +45,7 @@ module _ {M : Model} {s : List ℕ} {o : ReadResult} {r : Reading} {t : Tally} (
         marked = no-mark;
       }
 
+  -- the mark is taken: past it the state is one record on, in section 1, with nothing open and nothing counted
   module _ (new : isNew s ≡ true) (known : leb 18 (M .kinds) ≡ true) where
     here : byteAt s 0 ≡ 18
     here = eqb-true (byteAt s 0) 18 new

@@ -1,24 +1,24 @@
 -- The section of conditions: what is open in the state is what the code has begun.
 use mathlib.Core.Path.{_≡_, refl, sym, ap, _∙_, subst}
 use mathlib.Core.Bool.{Bool, true, false, not, cond, _&&_, _||_}
-use mathlib.Core.List.{List, []}
+use mathlib.Core.List.{List}
 use Prim.Native.Nat.{ℕ, zero, suc, _+_, _-_, _≤_, _<_}
 use native.Mathlib.Omega.{arith}
 use lib.ListN.{length, length-drop, set}
 use lib.Dec.{T, eqb, ltb, leb}
-use borrow.Author.Tests.{lt-ltb, le-ltb, ltb-false, le-leb, leb-true, eq-eqb, eqb-true}
+use borrow.Author.Tests.{lt-ltb, ltb-false, le-leb, eq-eqb, eqb-true}
 use Rattle.condition.specs.Condition.{Condition}
 use Rattle.sheet.specs.Model.{Model, conditionLimit, symbolLimit, leafLimit}
-use Rattle.sheet.specs.Kind.{Role, symbol, a-pair, counts, edition, kindOf, sectionOf, bodyLength}
-use Rattle.sheet.specs.Record.{byteAt, recordAt, nextAt}
-use Rattle.sheet.specs.Reading.{Opened, nothing, Reading, tally, startOf, inCondition, isNew, wrongItems, isLeaf, full, overLimit, refusalOf, openedPast, pastAt, ReadResult, whole, refusal}
-use Rattle.sheet.proofs.Take.{next-is, next-lt}
+use Rattle.sheet.specs.Kind.{Role, symbol, a-pair, counts, edition, kindOf, sectionOf}
+use Rattle.sheet.specs.Record.{byteAt, recordAt}
+use Rattle.sheet.specs.Reading.{Opened, nothing, Reading, tally, startOf, inCondition, wrongItems, isLeaf, full, overLimit, refusalOf, openedPast, pastAt, ReadResult, whole, refusal}
+use Rattle.sheet.proofs.Take.{next-lt}
 use Rattle.sheet.proofs.Order.{is-4, is-19, is-20, is-5, is-6, all-named, is-9, is-18, four, nineteen, five, six, takes}
 use Rattle.format.specs.declared.Refusal.{Refusal}
 use Rattle.format.specs.declared.Refusal.the-variants.{WrongSection, Unfinished, EditionNotFirst}
 use Rattle.format.specs.Kinds.{lastKind, countsOne, takesItems, leafKind}
 use Rattle.format.proofs.Table.{past-conditions, Suits, suits, names-nothing}
-use Rattle.format.proofs.Laws.{cond-by, inside, kind-there, Stood, Refuses}
+use Rattle.format.proofs.Laws.{cond-by, kind-there, Stood, Refuses}
 use Rattle.refusals.specs.declared.Begun.{Begun}
 use Rattle.refusals.specs.declared.Stepped.{Stepped}
 use Rattle.refusals.specs.declared.Stepped.the-variants as stepped
@@ -27,7 +27,7 @@ use Rattle.refusals.specs.Editions.{pastMark}
 use Rattle.tally.specs.declared.Tally.{Tally}
 use Rattle.tally.specs.Tally.{countOf, tallyAfter}
 use Rattle.sections.specs.declared.Section.the-variants.{Done, Refused}
-use Rattle.sections.specs.Sections.{Counts, Comes, Told, Extended, Filled}
+use Rattle.sections.specs.Sections.{Counts, Comes, Extended, Filled}
 use Rattle.sections.proofs.Comes.{ended, refuses, taken-on}
 use Rattle.sections.proofs.Counted.{at-is, counts-same, grown-same, closed, counts-more, grown-more}
 use Rattle.sections.proofs.Tests.{or-right, and-right, section-is, not-3, in-order, no-mark, no-stop, no-method, no-call}
