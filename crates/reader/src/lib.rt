@@ -47,8 +47,8 @@ fn read_with(
     }
 }
 
-// The sheet, as an instrument takes it: whole, or the first refusal of 1 to 9. Each table ends with the offsets of what was read in its front,
-// also of a sheet that is refused. The table of points has room for the instrument's.
+// The sheet, as an instrument takes it: whole, or the first refusal of 1 to 9 and 18 to 20. Each table ends with the offsets of what was read in its
+// front, also of a sheet that is refused. The table of points has room for the instrument's.
 pub fn read_sheet(
     instrument: Instrument,
     s: &[u8],

@@ -39,10 +39,10 @@ abbrev pub endStep : Begun → ℕ → ℕ → Stepped
 endStep b n at =
     cond (eqb (b .items) 1) (cond (leb conditionLimit n) (Refused (OverLimit at)) (On nothingBegun)) (Refused (WrongItems at))
 
--- what counts in the section of conditions is the end of one
+-- of the records of a condition its end counts
 abbrev pub endsOne : ℕ → Bool
 endsOne kind = countsOne (kindOf kind .role)
 
--- a record of the section of conditions
+-- a record of a condition
 abbrev pub conditionStep : Begun → ℕ → ℕ → ℕ → Stepped
 conditionStep b kind n at = cond (endsOne kind) (endStep b n at) (symbolStep b kind at)

@@ -76,7 +76,7 @@ fn end_step(b: Begun, n: usize, at: usize) -> Stepped
     Stepped::Refused(Refusal::WrongItems(at))
 }
 
-// A record of the section of conditions.
+// A record of a condition: a symbol or its end.
 pub fn condition_step(b: Begun, kind: u8, n: usize, at: usize) -> Stepped
     requires { ⌜ Modest b × (1 ≤ kind) ⌝ }
     ensures { λ r. ⌜ r ≡ conditionStep b kind n at ⌝ }
