@@ -1,20 +1,17 @@
 -- The start of the section of conditions: behind the mark of the edition, if there is one.
 use mathlib.Core.Path.{_≡_, refl, sym, ap, _∙_, subst}
-use mathlib.Core.Bool.{Bool, true, false, not, cond, _&&_, _||_}
+use mathlib.Core.Bool.{Bool, true, false, cond, _&&_, _||_}
 use mathlib.Core.List.{List, []}
-use Prim.Native.Nat.{ℕ, _+_, _≤_}
+use Prim.Native.Nat.{ℕ, _≤_}
 use native.Mathlib.Omega.{arith}
-use lib.ListN.{length}
 use lib.Dec.{eqb, ltb, leb}
 use borrow.Author.Tests.{le-ltb, leb-true, eqb-true}
 use Rattle.sheet.specs.Model.{Model}
-use Rattle.sheet.specs.Kind.{Role, edition, kindOf, sectionOf, bodyLength}
-use Rattle.sheet.specs.Record.{byteAt, recordAt, nextAt}
-use Rattle.sheet.specs.Reading.{Opened, nothing, Reading, tally, inCondition, isNew, wrongItems, overLimit, refusalOf, openedPast, pastAt, ReadResult}
-use Rattle.sheet.proofs.Take.{next-is}
-use Rattle.sheet.proofs.Order.{takes}
+use Rattle.sheet.specs.Kind.{edition, kindOf, sectionOf}
+use Rattle.sheet.specs.Record.{byteAt}
+use Rattle.sheet.specs.Reading.{Opened, nothing, Reading, isNew, refusalOf, pastAt, ReadResult}
+use Rattle.sheet.proofs.Editions.{mark-taken, mark-next, mark-past}
 use Rattle.format.specs.Kinds.{countsOne}
-use Rattle.format.proofs.Table.{names-nothing}
 use Rattle.format.proofs.Laws.{inside, Stood}
 use Rattle.refusals.specs.declared.Begun.{Begun}
 use Rattle.refusals.specs.Step.{nothingBegun}
@@ -24,7 +21,6 @@ use Rattle.sections.specs.declared.Section.the-variants.{Done}
 use Rattle.sections.specs.Sections.{Told}
 use Rattle.sections.proofs.Comes.{taken-on}
 use Rattle.sections.proofs.Counted.{counts-same, grown-same}
-use Rattle.sections.proofs.Tests.{and-right, not-3, in-order, no-stop, no-method, no-call}
 use Rattle.sections.proofs.Alone as alone
 use Rattle.sections.proofs.Opening.{Matches, nothing-matches, Opening}
 
@@ -52,14 +48,13 @@ module _ {M : Model} {s : List ℕ} {o : ReadResult} {r : Reading} {t : Tally} (
 
     mark : Stood M s 0 18 1
     mark =
-        let next : nextAt s 0 ≡ 1 = next-is s 0 ∙ ap (λ (k : ℕ). 0 + 1 + bodyLength k) here in
         let high = leb-true 18 (M .kinds) known in
         record {
           kind = here;
-          next = next;
+          next = mark-next s 0 here;
           low = omega arith;
           high = high;
-          inside = omega (arith, inside s 0 (omega (arith, here)));
+          inside = omega (arith, mark-next s 0 here, inside s 0 (omega (arith, here)));
           not-2 = ap (λ (k : ℕ). eqb k 0 || ltb (M .kinds) k) here ∙ le-ltb (M .kinds) 18 high;
         }
 
@@ -67,20 +62,12 @@ module _ {M : Model} {s : List ℕ} {o : ReadResult} {r : Reading} {t : Tally} (
     role = ap (λ (k : ℕ). kindOf k .role) here
 
     taken : refusalOf M s 0 r ≡ 0
-    taken =
-        takes M s 0 r (mark .not-2) (not-3 mark r)
-        (in-order mark r (omega (arith, told .0 .section))
-        (ap (λ (o : Opened). eqb (o .section) 1 && not (inCondition (sectionOf (byteAt s 0)) (kindOf (byteAt s 0) .role))) (told .0 .closed)))
-        (and-right (eqb (byteAt s 0) 18) (ltb 0 0) refl) (no-stop mark r (λ e. omega arith))
-        (ap (λ (y : Role). wrongItems (sectionOf (byteAt s 0)) y (length (r .opened .items))) role)
-        (ap (λ (y : Role). overLimit M r (recordAt s 0) (sectionOf (byteAt s 0)) y) role)
-        (names-nothing (M .events) (tally r) (byteAt s 0) (λ low high. omega (arith, ap sectionOf here)) (recordAt s 0 .values))
-        (no-method mark r (λ e. omega arith)) (no-call mark r (λ e. omega arith))
+    taken = mark-taken M s r here (leb-true 18 (M .kinds) known) (omega (arith, told .0 .section)) (told .0 .closed)
 
     past-mark : pastMark (M .kinds) s ≤ 1 → Starts 1
     past-mark one =
         let no-count = ap countsOne role in
-        let nothing-open : pastAt s 0 r .opened ≡ nothing = ap (λ (y : Role). openedPast (r .opened) (recordAt s 0) (sectionOf (byteAt s 0)) y) role in
+        let nothing-open : pastAt s 0 r .opened ≡ nothing = ap (λ (u : Reading). u .opened) (mark-past s 0 here r) in
         record {
           state = pastAt s 0 r;
           comes = taken-on (told .0 .comes) (inside s 0 (omega (arith, here))) mark taken;

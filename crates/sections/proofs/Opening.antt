@@ -6,14 +6,15 @@ use Prim.Native.Nat.{ℕ, zero, suc, _+_, _-_, _≤_, _<_}
 use native.Mathlib.Omega.{arith}
 use lib.ListN.{length, length-drop, set}
 use lib.Dec.{T, eqb, ltb, leb}
-use borrow.Author.Tests.{lt-ltb, ltb-false, le-leb, eq-eqb, eqb-true}
+use borrow.Author.Tests.{ltb-false, le-leb, eq-eqb, eqb-true}
 use Rattle.condition.specs.Condition.{Condition}
 use Rattle.sheet.specs.Model.{Model, conditionLimit, symbolLimit, leafLimit}
 use Rattle.sheet.specs.Kind.{Role, symbol, a-pair, counts, edition, kindOf, sectionOf}
 use Rattle.sheet.specs.Record.{byteAt, recordAt}
 use Rattle.sheet.specs.Reading.{Opened, nothing, Reading, tally, startOf, inCondition, wrongItems, isLeaf, full, overLimit, refusalOf, openedPast, pastAt, ReadResult, whole, refusal}
 use Rattle.sheet.proofs.Take.{next-lt}
-use Rattle.sheet.proofs.Order.{is-4, is-19, is-20, is-5, is-6, all-named, is-9, is-18, four, nineteen, five, six, takes}
+use Rattle.sheet.proofs.Order.{is-4, is-19, is-20, is-5, is-6, all-named, is-9, is-18, four, five, six, takes}
+use Rattle.sheet.proofs.Editions.{mark-late}
 use Rattle.format.specs.declared.Refusal.{Refusal}
 use Rattle.format.specs.declared.Refusal.the-variants.{WrongSection, Unfinished, EditionNotFirst}
 use Rattle.format.specs.Kinds.{lastKind, countsOne, takesItems, leafKind}
@@ -112,8 +113,7 @@ module _ {M : Model} {s : List ℕ} {o : ReadResult} {r : Reading} {at start : �
               let here : byteAt s at ≡ 18 = w .kind ∙ is in
               let order = in-order w u (omega (arith, h .section, ap sectionOf is))
               (ap (λ (o : Opened). eqb (o .section) 1 && not (inCondition (sectionOf (byteAt s at)) (kindOf (byteAt s at) .role))) (h .matches .closed none)) in
-              let test : is-19 M s at u ≡ true = ap (λ (b : Bool). b && ltb 0 at) (eq-eqb (byteAt s at) 18 here) ∙ lt-ltb 0 at (behind at here (h .marked)) in
-              ends (EditionNotFirst at) (nineteen M s at u (w .not-2) (not-3 w u) order test, refl)
+              ends (EditionNotFirst at) (mark-late s at here (behind at here (h .marked)) M u (w .not-2) (not-3 w u) order, refl)
             where
               behind : (at : ℕ) → byteAt s at ≡ 18 → pastMark (M .kinds) s ≤ at → 0 < at
               behind zero here marked =
