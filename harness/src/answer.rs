@@ -106,7 +106,7 @@ impl fmt::Display for Verdict {
             Verdict::Accepted(count) => write!(f, "accepted {count}"),
             Verdict::Refused(refusal) => refusal.fmt(f),
             Verdict::Unproved { rule, subject, fault } => {
-                let who = if matches!(rule, 7..=21) { "step" } else { "method" };
+                let who = if matches!(rule, 7..=21 | 25 | 26) { "step" } else { "method" };
                 let Fault { clause, pair, event, place } = fault;
                 write!(f, "unproved rule {rule} {who} {subject} ")?;
                 write!(f, "clause {clause} pair {pair} event {event} place {place}")

@@ -1,10 +1,10 @@
 //! Two loaders on the same random sheets and words, on a smaller and a larger
-//! instrument each; what request 8 states of the two instruments, and what request 2
-//! leaves as it was.
+//! instrument each; what request 8 states of the two instruments, and what requests 2
+//! and 4 leave as it was.
 mod seen;
 
 use crate::answer::{Answer, Counts, Doors, Refusal, Verdict};
-use crate::former::Former;
+use crate::former::{Asked, Former};
 use crate::instrument::{Instrument, ENTRY, LARGE};
 use crate::random::Random;
 use crate::sheets::{self, Test};
@@ -32,8 +32,8 @@ struct Comparison<'a> {
     /// instruments with random limits.
     models: Related,
     limits: Related,
-    /// The first loader's answers without kinds 15 to 17, and the second's with them.
-    former: Former,
+    /// The first loader's answers with fewer kinds, and the second's with all.
+    former: [Former; 2],
     /// Whether the second loader takes any limits.
     any_limits: bool,
 }
@@ -58,7 +58,7 @@ fn run(one: &Doors, two: &Doors, sheets: usize, seed: u64, any_limits: bool) -> 
         seen: Seen::default(),
         models: Related::default(),
         limits: Related::default(),
-        former: Former::default(),
+        former: Former::all(),
         any_limits,
     };
     let mut seeds = Random::new(seed);
@@ -123,9 +123,12 @@ impl Comparison<'_> {
         if one != two {
             self.unlike(sheet, "load", on, [&one, &two]);
         }
-        let former = (self.one.load)(&on.former(), sheet);
-        if !self.former.verdicts(sheet, &former, &two) {
-            self.changed(sheet, "load", on, [&former, &two]);
+        for which in 0..self.former.len() {
+            let before = on.former(self.former[which].kinds);
+            let former = (self.one.load)(&before, sheet);
+            if !self.former[which].verdicts(sheet, &former, &two) {
+                self.changed(sheet, "load", [&before, on], [&former, &two]);
+            }
         }
         two
     }
@@ -145,27 +148,36 @@ impl Comparison<'_> {
         }
     }
 
-    /// Reading without kinds 15 to 17, by the first loader and, if it takes any limits,
-    /// by the second.
+    /// Reading with fewer kinds, by the first loader and, if it takes any limits, by the
+    /// second.
     fn former_reading(&mut self, sheet: &[u8], on: &Instrument, now: &Result<Counts, Refusal>) {
-        let former = (self.one.read)(&on.former(), sheet);
-        if !self.former.readings.count(sheet, former.err(), former == *now) {
-            self.changed(sheet, "read", on, [&vectors::line(&former), &vectors::line(now)]);
-        }
-        if self.any_limits {
-            let two = (self.two.read)(&on.former(), sheet);
-            if former != two {
-                let lines = [vectors::line(&former), vectors::line(&two)];
-                self.unlike(sheet, "read", &on.former(), [&lines[0], &lines[1]]);
+        for which in 0..self.former.len() {
+            let before = on.former(self.former[which].kinds);
+            let former = (self.one.read)(&before, sheet);
+            let same = former == *now;
+            if !self.former[which].count(Asked::Reading, sheet, former.err(), same) {
+                let lines = [vectors::line(&former), vectors::line(now)];
+                self.changed(sheet, "read", [&before, on], [&lines[0], &lines[1]]);
+            }
+            if self.any_limits {
+                let two = (self.two.read)(&before, sheet);
+                if former != two {
+                    let lines = [vectors::line(&former), vectors::line(&two)];
+                    self.unlike(sheet, "read", &before, [&lines[0], &lines[1]]);
+                }
             }
         }
     }
 
     fn former_word(&mut self, sheet: &[u8], test: &Test, on: &Instrument, now: &Answer) {
-        let former = (self.one.word_test)(&on.former(), sheet, test.condition, &test.word);
-        if !self.former.words.count(sheet, former.refusal(), former == *now) {
-            let what = format!("condition {}, word {}", test.condition, hex(&test.word));
-            self.changed(sheet, &what, on, [&former, now]);
+        for which in 0..self.former.len() {
+            let before = on.former(self.former[which].kinds);
+            let former = (self.one.word_test)(&before, sheet, test.condition, &test.word);
+            let same = former == *now;
+            if !self.former[which].count(Asked::Word, sheet, former.refusal(), same) {
+                let what = format!("condition {}, word {}", test.condition, hex(&test.word));
+                self.changed(sheet, &what, [&before, on], [&former, now]);
+            }
         }
     }
 
@@ -201,11 +213,15 @@ impl Comparison<'_> {
     }
 
     /// A sheet is not judged as before.
-    fn changed(&mut self, sheet: &[u8], what: &str, on: &Instrument, answers: [&dyn Display; 2]) {
-        let [one, two] = answers;
-        let (before, now) = (limits(&on.former()), limits(on));
+    fn changed(
+        &mut self,
+        sheet: &[u8],
+        what: &str,
+        [before, now]: [&Instrument; 2],
+        [one, two]: [&dyn Display; 2],
+    ) {
         let whose = [(self.one.name, before), (self.two.name, now)];
-        let [before, now] = whose.map(|(name, limits)| format!("{name}, {limits}"));
+        let [before, now] = whose.map(|(name, on)| format!("{name}, {}", limits(on)));
         self.differ(sheet, what, [(&before, one), (&now, two)]);
     }
 
@@ -229,7 +245,7 @@ impl Comparison<'_> {
         if self.any_limits {
             self.limits.print("the smaller", "the larger");
         }
-        self.former.print();
+        self.former.iter().for_each(Former::print);
     }
 }
 

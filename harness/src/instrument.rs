@@ -14,9 +14,10 @@ pub struct Instrument {
     pub kinds: u8,
 }
 
-/// The highest kind, and the highest without request 2.
-pub const KINDS: u8 = 17;
-pub const FORMER_KINDS: u8 = 14;
+/// The highest kind.
+pub const KINDS: u8 = 19;
+/// The highest before request 2, and the highest before request 4.
+pub const FORMER_KINDS: [u8; 2] = [14, 17];
 
 pub const LARGE: Instrument =
     Instrument { name: "large", number: header::LARGE, bytes: 65_536, points: 512, kinds: KINDS };
@@ -32,9 +33,9 @@ impl Instrument {
         Instrument { name: "other", number: 0, bytes, points, kinds: KINDS }
     }
 
-    /// The same without request 2, which the library does not have either.
-    pub fn former(self) -> Instrument {
-        Instrument { kinds: FORMER_KINDS, ..self }
+    /// The same with another highest kind, which the library does not have either.
+    pub fn former(self, kinds: u8) -> Instrument {
+        Instrument { kinds, ..self }
     }
 
     pub fn named(word: &str) -> Option<Instrument> {

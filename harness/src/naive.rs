@@ -87,8 +87,8 @@ pub fn rules(sheet: &Sheet) -> Vec<Rule> {
         }
     }
     for (subject, step) in sheet.steps.iter().enumerate() {
-        for (number, left, right) in step_rules(sheet, step) {
-            add(number, subject, Ask::Within(left, right));
+        for (number, ask) in step_rules(sheet, step) {
+            add(number, subject, ask);
         }
     }
     list
@@ -114,15 +114,18 @@ fn method_rules(sheet: &Sheet, method: &Method) -> Vec<(usize, Ask)> {
     list
 }
 
-fn step_rules(sheet: &Sheet, step: &Step) -> Vec<(usize, Tree, Tree)> {
-    let (p, q) = (sheet.points[step.from], sheet.points[step.to]);
+fn step_rules(sheet: &Sheet, step: &Step) -> Vec<(usize, Ask)> {
+    let p = sheet.points[step.from];
     let tree = |number: usize| sheet.conditions[number].clone();
     let past = |p: Point| tree(p.past);
     let own = |p: Point| tree(p.own);
     let due = |p: Point| tree(p.due);
-    match step.act {
+    let target = |outcome| Some(sheet.points[step.target(outcome)?]);
+    // Only a stop has no target.
+    let q = || target(Outcome::Normal).unwrap();
+    let list = match step.act {
         Act::Event(event) => {
-            let a = Tree::event(event);
+            let (a, q) = (Tree::event(event), q());
             vec![
                 (7, past(p).join(a.clone()), past(q)),
                 (8, own(p).join(a.clone()), own(q)),
@@ -133,9 +136,9 @@ fn step_rules(sheet: &Sheet, step: &Step) -> Vec<(usize, Tree, Tree)> {
             let called = &sheet.methods[method];
             let mut list = vec![(10, past(p), tree(called.pre))];
             for (outcome, first) in [(Outcome::Normal, 11), (Outcome::Failed, 18)] {
-                let Some(target) = step.target(outcome) else { continue };
+                let Some(q) = target(outcome) else { continue };
                 // Reading has it that a call has as many outcomes as its method.
-                let (q, ending) = (sheet.points[target], called.ending(outcome).unwrap());
+                let ending = called.ending(outcome).unwrap();
                 let t = tree(ending.trace);
                 list.extend([
                     (first, past(p).join(t.clone()), past(q)),
@@ -144,12 +147,18 @@ fn step_rules(sheet: &Sheet, step: &Step) -> Vec<(usize, Tree, Tree)> {
                     (first + 3, t.join(due(q)), due(p)),
                 ]);
             }
+            if let (true, Some(entry)) = (sheet.new_edition, called.entry) {
+                list.push((26, due(sheet.points[entry]), due(p)));
+            }
             list
         }
         Act::Pass => {
+            let q = q();
             vec![(15, past(p), past(q)), (16, own(p), own(q)), (17, due(q), due(p))]
         }
-    }
+        Act::Stop => return vec![(25, Ask::Empty(due(p)))],
+    };
+    list.into_iter().map(|(number, left, right)| (number, Ask::Within(left, right))).collect()
 }
 
 /// The first fault of a certificate, clause by clause.

@@ -1,5 +1,5 @@
 //! Runs of a sheet and what is promised of them: document 01, "Runs", with
-//! demand 3, and document 02, Ask 12.
+//! demand 3, and document 02, Asks 2, 4 and 12.
 use crate::derivatives::missing_word;
 use crate::naive::{holds, Act, Outcome, Sheet};
 use crate::random::Random;
@@ -43,19 +43,29 @@ pub struct Run<'a> {
     /// Numbers of open calls, the innermost last.
     pub open: Vec<usize>,
     pub point: usize,
+    /// Whether the run ended by a stop; the open calls stay open.
+    pub stopped: bool,
 }
 
 impl<'a> Run<'a> {
     /// The run that has made no move; the first method has a body.
     pub fn start(sheet: &'a Sheet) -> Run<'a> {
         let entry = sheet.methods[0].entry.unwrap();
-        let mut run = Run { sheet, history: vec![], calls: vec![], open: vec![], point: entry };
+        let mut run = Run {
+            sheet,
+            history: vec![],
+            calls: vec![],
+            open: vec![],
+            point: entry,
+            stopped: false,
+        };
         run.begin(0, None);
         run
     }
 
+    /// Whether the outermost call has returned, or a stop was made.
     pub fn ended(&self) -> bool {
-        self.open.is_empty()
+        self.stopped || self.open.is_empty()
     }
 
     fn begin(&mut self, method: usize, step: Option<usize>) {
@@ -73,8 +83,9 @@ impl<'a> Run<'a> {
 
     /// Makes a move if it can be made; tells whether it was made.
     pub fn make(&mut self, what: &Move) -> bool {
-        let Some(&active) = self.open.last() else {
-            return false;
+        let active = match self.open.last() {
+            Some(&active) if !self.stopped => active,
+            _ => return false,
         };
         match what {
             Move::Return(outcome) => self.make_return(active, *outcome),
@@ -120,8 +131,10 @@ impl<'a> Run<'a> {
             Act::Event(event) => self.history.push(event),
             Act::Pass => {}
             Act::Call(method) => return self.make_call(number, method, outcome, word),
+            Act::Stop => self.stopped = true,
         }
-        self.point = step.to;
+        // A stop has no target, and control stays where it is.
+        self.point = step.to.unwrap_or(self.point);
         true
     }
 
@@ -188,7 +201,7 @@ impl<'a> Languages<'a> {
         })
     }
 
-    /// What a call breaks, if anything.
+    /// What a call breaks, if anything. One that is still open owes its pre alone.
     fn broken_call(&mut self, run: &Run, number: usize) -> Option<Broken> {
         let call = &run.calls[number];
         let method = &self.sheet.methods[call.method];

@@ -3,18 +3,18 @@ use crate::answer::{Answer, Verdict};
 use crate::instrument::{Instrument, BOTH, ENTRY};
 
 /// The numbers of refusals.
-const REFUSALS: [usize; 14] = [1, 2, 3, 4, 5, 6, 7, 8, 9, 10, 12, 13, 14, 18];
+const REFUSALS: [usize; 16] = [1, 2, 3, 4, 5, 6, 7, 8, 9, 10, 12, 13, 14, 18, 19, 20];
 
 /// The answers on one instrument.
 #[derive(Default)]
 struct Answers {
     accepted: usize,
-    refused: [usize; 19],
+    refused: [usize; 21],
     /// By rule and clause.
-    unproved: [[usize; 6]; 25],
+    unproved: [[usize; 6]; 27],
     yes: usize,
     no: usize,
-    word_refused: [usize; 19],
+    word_refused: [usize; 21],
 }
 
 /// Sheets with so many bytes or points, and those of them that each instrument accepts.

@@ -3,10 +3,10 @@ use crate::answer::Refusal;
 use crate::instrument::Instrument;
 use crate::tree::Tree;
 
-const BODY_LENGTHS: [usize; 17] = [4, 0, 0, 0, 0, 0, 6, 6, 10, 5, 6, 4, 5, 0, 10, 16, 8];
+const BODY_LENGTHS: [usize; 19] = [4, 0, 0, 0, 0, 0, 6, 6, 10, 5, 6, 4, 5, 0, 10, 16, 8, 0, 2];
 
 const METHODS: [u8; 4] = [8, 9, 15, 16];
-const STEPS: [u8; 4] = [10, 11, 12, 17];
+const STEPS: [u8; 5] = [10, 11, 12, 17, 19];
 
 struct Record<'a> {
     offset: usize,
@@ -56,11 +56,13 @@ pub enum Act {
     Event(u8),
     Call(usize),
     Pass,
+    Stop,
 }
 
 pub struct Step {
     pub from: usize,
-    pub to: usize,
+    /// A stop has none.
+    pub to: Option<usize>,
     /// The failed target of a call of kind 17.
     pub failed: Option<usize>,
     pub act: Act,
@@ -69,7 +71,7 @@ pub struct Step {
 impl Step {
     pub fn target(&self, outcome: Outcome) -> Option<usize> {
         match outcome {
-            Outcome::Normal => Some(self.to),
+            Outcome::Normal => self.to,
             Outcome::Failed => self.failed,
         }
     }
@@ -77,6 +79,7 @@ impl Step {
 
 #[derive(Default)]
 pub struct Sheet {
+    pub new_edition: bool,
     pub conditions: Vec<Tree>,
     pub points: Vec<Point>,
     pub methods: Vec<Method>,
@@ -126,11 +129,13 @@ fn split<'a>(on: &Instrument, bytes: &'a [u8]) -> (Vec<Record<'a>>, Option<Refus
     (records, None)
 }
 
-/// The first of 4 to 7, 9 and 18 that applies to a record.
+/// The first of 4 to 7, 9 and 18 to 20 that applies to a record.
 fn refusal(on: &Instrument, before: &[Record], record: &Record) -> Option<usize> {
     type Test = fn(&Instrument, &[Record], &Record) -> bool;
-    let tests: [(usize, Test); 6] = [
+    let tests: [(usize, Test); 8] = [
         (4, |_, before, record| misplaced(before, record)),
+        (19, |_, before, record| record.kind == 18 && !before.is_empty()),
+        (20, |_, before, record| record.kind == 19 && !new_edition(before)),
         (5, |_, before, record| malformed(before, record)),
         (6, too_many),
         (7, |_, before, record| misnamed(before, record)),
@@ -141,8 +146,12 @@ fn refusal(on: &Instrument, before: &[Record], record: &Record) -> Option<usize>
 }
 
 fn section(kind: u8) -> usize {
-    let sections: [&[u8]; 5] = [&[1, 2, 3, 4, 5, 6], &[7], &METHODS, &STEPS, &[13, 14]];
+    let sections: [&[u8]; 5] = [&[1, 2, 3, 4, 5, 6, 18], &[7], &METHODS, &STEPS, &[13, 14]];
     sections.iter().position(|kinds| kinds.contains(&kind)).unwrap()
+}
+
+fn new_edition(records: &[Record]) -> bool {
+    records.first().is_some_and(|record| record.kind == 18)
 }
 
 fn count(records: &[Record], kinds: &[u8]) -> usize {
@@ -205,6 +214,7 @@ fn misnamed(before: &[Record], record: &Record) -> bool {
         10 => any(&[0, 1], &[7]) || body[4] > 31,
         11 => any(&[0, 1], &[7]) || any(&[2], &METHODS),
         12 => any(&[0, 1], &[7]),
+        19 => any(&[0], &[7]),
         15 => any(&[0, 1, 2, 3, 4], &[6]),
         16 => any(&[0, 1, 2, 5, 6], &[6]) || any(&[3, 4, 7], &[7]),
         17 => any(&[0, 1, 2], &[7]) || any(&[3], &METHODS),
@@ -230,7 +240,7 @@ fn other_outcomes(before: &[Record], record: &Record) -> bool {
 
 /// The parts of a sheet whose records are all in order.
 fn build(records: &[Record]) -> Sheet {
-    let mut sheet = Sheet::default();
+    let mut sheet = Sheet { new_edition: new_edition(records), ..Sheet::default() };
     let mut items: Vec<Tree> = vec![];
     let mut pairs = vec![];
     for record in records {
@@ -243,12 +253,13 @@ fn build(records: &[Record]) -> Sheet {
                 sheet.points.push(Point { past, own, due });
             }
             8 | 9 | 15 | 16 => sheet.methods.push(method(record)),
-            10 | 11 | 12 | 17 => sheet.steps.push(step(record)),
+            10 | 11 | 12 | 17 | 19 => sheet.steps.push(step(record)),
             13 => {
                 let set = [body[1], body[2], body[3], body[4]];
                 pairs.push((body[0] as usize, u32::from_le_bytes(set)));
             }
-            _ => sheet.certificates.push(std::mem::take(&mut pairs)),
+            14 => sheet.certificates.push(std::mem::take(&mut pairs)),
+            _ => {}
         }
     }
     sheet
@@ -294,8 +305,10 @@ fn step(record: &Record) -> Step {
         10 => Act::Event(body[4]),
         11 => Act::Call(name(body, 2)),
         17 => Act::Call(name(body, 3)),
-        _ => Act::Pass,
+        12 => Act::Pass,
+        _ => Act::Stop,
     };
+    let to = (record.kind != 19).then(|| name(body, 1));
     let failed = (record.kind == 17).then(|| name(body, 2));
-    Step { from: name(body, 0), to: name(body, 1), failed, act }
+    Step { from: name(body, 0), to, failed, act }
 }

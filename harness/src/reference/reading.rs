@@ -1,4 +1,4 @@
-//! Reading a sheet: refusals 1 to 9 and 18, and where its parts are.
+//! Reading a sheet: refusals 1 to 9 and 18 to 20, and where its parts are.
 use crate::answer::{Counts, Refusal};
 use crate::instrument::{Instrument, KINDS};
 
@@ -9,12 +9,13 @@ const METHODS: usize = 64;
 const STEPS: usize = 512;
 
 /// The most points with which the last method starts below 65,536, whatever the bytes:
-/// 256 conditions of 221 bytes at most, 63 methods of 17 and 1,126 points of 7.
+/// the edition's byte, 256 conditions of 221 bytes at most, 63 methods of 17 and 1,126
+/// points of 7.
 const MOST_POINTS: usize = 1_126;
 
 /// By kind, with a row for every byte, so that no index is tested.
-const BODY: [u8; 256] = rows([0, 4, 0, 0, 0, 0, 0, 6, 6, 10, 5, 6, 4, 5, 0, 10, 16, 8]);
-const SECTION: [u8; 256] = rows([0, 1, 1, 1, 1, 1, 1, 2, 3, 3, 4, 4, 4, 5, 5, 3, 3, 4]);
+const BODY: [u8; 256] = rows([0, 4, 0, 0, 0, 0, 0, 6, 6, 10, 5, 6, 4, 5, 0, 10, 16, 8, 0, 2]);
+const SECTION: [u8; 256] = rows([0, 1, 1, 1, 1, 1, 1, 2, 3, 3, 4, 4, 4, 5, 5, 3, 3, 4, 1, 4]);
 
 const POINT_LENGTH: usize = 7;
 
@@ -36,14 +37,18 @@ struct Number {
     two: usize,
 }
 
-/// A sheet that none of 1 to 9 and 18 applies to.
+/// A sheet that none of 1 to 9 and 18 to 20 applies to.
 pub struct Sheet<'a> {
     pub bytes: &'a [u8],
     pub counts: Counts,
     pub certificates_at: usize,
+    new_edition: bool,
     /// Methods with body, and call steps.
     bodies: Number,
     calls: Number,
+    /// Call steps of a method with body, in a sheet of the new edition.
+    entering: usize,
+    stops: usize,
     condition_ends: [u16; CONDITIONS],
     points_at: usize,
     methods_at: [u16; METHODS],
@@ -74,9 +79,11 @@ pub struct Body {
     pub failed: Option<(Outcome, usize)>,
 }
 
-/// A call step: its method's pre, and each outcome with the target that it leads to.
+/// A call step: its method's pre, and each outcome with the target that it leads to. In
+/// a sheet of the new edition it has the entry too, if the method has a body.
 pub struct Call {
     pub pre: usize,
+    pub entry: Option<usize>,
     pub normal: (Outcome, usize),
     pub failed: Option<(Outcome, usize)>,
 }
@@ -86,6 +93,7 @@ pub enum Act {
     Event(u8, usize),
     Call(Call),
     Pass(usize),
+    Stop,
 }
 
 pub struct Step {
@@ -126,7 +134,7 @@ impl<'a> Sheet<'a> {
     pub fn condition(&self, number: usize) -> &'a [u8] {
         let end = self.condition_ends[number] as usize;
         let start = match number {
-            0 => 0,
+            0 => self.new_edition as usize,
             _ => self.condition_ends[number - 1] as usize + 1,
         };
         &self.bytes[start..end]
@@ -146,7 +154,7 @@ impl<'a> Sheet<'a> {
     pub fn body(&self, number: usize) -> Option<Body> {
         let at = self.methods_at[number] as usize;
         let kind = self.bytes[at];
-        if kind != 9 && kind != 16 {
+        if !has_body(kind) {
             return None;
         }
         Some(Body {
@@ -159,14 +167,15 @@ impl<'a> Sheet<'a> {
 
     pub fn step(&self, number: usize) -> Step {
         let at = self.first_step + self.steps_at[number] as usize;
-        let (from, to) = (self.name(at + 1), self.name(at + 3));
+        let to = || self.name(at + 3);
         let act = match self.bytes[at] {
-            10 => Act::Event(self.bytes[at + 5], to),
-            12 => Act::Pass(to),
-            11 => Act::Call(self.call(self.name(at + 5), to, None)),
-            _ => Act::Call(self.call(self.name(at + 7), to, Some(self.name(at + 5)))),
+            10 => Act::Event(self.bytes[at + 5], to()),
+            12 => Act::Pass(to()),
+            11 => Act::Call(self.call(self.name(at + 5), to(), None)),
+            17 => Act::Call(self.call(self.name(at + 7), to(), Some(self.name(at + 5)))),
+            _ => Act::Stop,
         };
-        Step { from, act }
+        Step { from: self.name(at + 1), act }
     }
 
     /// A call of a method, with its target and, if it has one, its failed target.
@@ -174,8 +183,10 @@ impl<'a> Sheet<'a> {
         let at = self.methods_at[method] as usize;
         // The failed conditions follow a future, or an exit.
         let failing = if self.bytes[at] == 15 { at + 7 } else { at + 11 };
+        let enters = self.new_edition && has_body(self.bytes[at]);
         Call {
             pre: self.name(at + 1),
+            entry: enters.then(|| self.name(at + 7)),
             normal: (self.outcome(at + 3), to),
             failed: failed.map(|target| (self.outcome(failing), target)),
         }
@@ -184,16 +195,23 @@ impl<'a> Sheet<'a> {
     /// The rules with a certificate.
     pub fn certificates_needed(&self) -> usize {
         let Number { all: calls, two: failing } = self.calls;
-        let steps = 3 * (self.counts.steps - calls) + 5 * calls + 4 * failing;
+        let others = self.counts.steps - calls - self.stops;
+        let steps = 3 * others + 5 * calls + 4 * failing + self.entering;
         3 * self.bodies.all + 2 * self.bodies.two + steps
     }
 
     /// The count of an accepted sheet: the rules with a certificate, 1 and 2, 4 of
-    /// each method with body, and 24 of a first method with two outcomes.
+    /// each method with body, 24 of a first method with two outcomes, and 25 of each
+    /// stop.
     pub fn count(&self) -> usize {
         let first = (self.bytes[self.methods_at[0] as usize] == 16) as usize;
-        self.certificates_needed() + 2 + self.bodies.all + first
+        self.certificates_needed() + 2 + self.bodies.all + first + self.stops
     }
+}
+
+/// Whether the methods of a kind have a body.
+fn has_body(kind: u8) -> bool {
+    kind == 9 || kind == 16
 }
 
 /// What is known after the records read so far.
@@ -215,8 +233,11 @@ impl<'a> Reader<'a> {
             bytes,
             counts: Counts::default(),
             certificates_at: bytes.len(),
+            new_edition: false,
             bodies: Number::default(),
             calls: Number::default(),
+            entering: 0,
+            stops: 0,
             condition_ends: [0; CONDITIONS],
             points_at: 0,
             methods_at: [0; METHODS],
@@ -252,8 +273,17 @@ impl<'a> Reader<'a> {
                 Ok(())
             }
             8 | 9 | 15 | 16 => self.method(kind, at),
+            18 => self.edition(at),
             _ => self.step(kind, at),
         }
+    }
+
+    fn edition(&mut self, at: usize) -> Result<(), usize> {
+        if at > 0 {
+            return Err(19);
+        }
+        self.sheet.new_edition = true;
+        Ok(())
     }
 
     fn token(&mut self, kind: u8) -> Result<(), usize> {
@@ -321,7 +351,7 @@ impl<'a> Reader<'a> {
         }
         let Counts { conditions, points, .. } = self.sheet.counts;
         self.names(at + 1, if kind == 15 { 5 } else { 3 }, conditions)?;
-        if kind == 9 || kind == 16 {
+        if has_body(kind) {
             self.names(at + 7, 2, points)?;
             self.sheet.bodies.all += 1;
         }
@@ -340,11 +370,15 @@ impl<'a> Reader<'a> {
 
     #[inline(never)]
     fn step(&mut self, kind: u8, at: usize) -> Result<(), usize> {
+        let stop = kind == 19;
+        if stop && !self.sheet.new_edition {
+            return Err(20);
+        }
         let number = self.sheet.counts.steps;
         if number == STEPS {
             return Err(6);
         }
-        self.names(at + 1, 2, self.sheet.counts.points)?;
+        self.names(at + 1, if stop { 1 } else { 2 }, self.sheet.counts.points)?;
         if kind == 10 && self.sheet.bytes[at + 5] > 31 {
             return Err(7);
         }
@@ -354,7 +388,7 @@ impl<'a> Reader<'a> {
                 self.names(at + 5, 1, self.sheet.counts.points)?;
                 self.call(at + 7, true)?;
             }
-            _ => {}
+            _ => self.sheet.stops += stop as usize,
         }
         if number == 0 {
             self.sheet.first_step = at;
@@ -369,11 +403,13 @@ impl<'a> Reader<'a> {
     fn call(&mut self, at: usize, two: bool) -> Result<(), usize> {
         self.names(at, 1, self.sheet.counts.methods)?;
         let method = self.sheet.methods_at[self.sheet.name(at)] as usize;
-        if (self.sheet.bytes[method] > 14) != two {
+        let kind = self.sheet.bytes[method];
+        if (kind > 14) != two {
             return Err(18);
         }
         self.sheet.calls.all += 1;
         self.sheet.calls.two += two as usize;
+        self.sheet.entering += (self.sheet.new_edition && has_body(kind)) as usize;
         Ok(())
     }
 

@@ -94,10 +94,14 @@ impl Tester<'_> {
             Act::Call(call) => {
                 self.within(10, number, Left::Whole(p.past), call.pre)?;
                 self.target(TARGET, number, p, call.normal)?;
-                match call.failed {
-                    Some(failed) => self.target(FAILED_TARGET, number, p, failed),
-                    None => Ok(()),
+                if let Some(failed) = call.failed {
+                    self.target(FAILED_TARGET, number, p, failed)?;
                 }
+                let Some(entry) = call.entry else {
+                    return Ok(());
+                };
+                let entry = self.sheet.point(entry);
+                self.within(26, number, Left::Whole(entry.due), p.due)
             }
             Act::Pass(to) => {
                 let q = self.sheet.point(to);
@@ -105,6 +109,7 @@ impl Tester<'_> {
                 self.within(16, number, Left::Whole(p.own), q.own)?;
                 self.within(17, number, Left::Whole(q.due), p.due)
             }
+            Act::Stop => self.empty(25, number, p.due),
         }
     }
 

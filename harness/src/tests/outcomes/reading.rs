@@ -1,7 +1,7 @@
 //! The records of kinds 15 to 17, and refusal 18.
 use crate::answer::{Counts, Refusal};
 use crate::former::{way, Way};
-use crate::instrument::{Instrument, BOTH, ENTRY, LARGE};
+use crate::instrument::{Instrument, BOTH, ENTRY, FORMER_KINDS, LARGE};
 use crate::random::Random;
 use crate::sheets;
 use crate::tests::{every, hex, loads_on, tests_on, BODY, BOTH as LOADERS, POINT};
@@ -63,15 +63,15 @@ fn body_lengths() {
 
 #[test]
 fn kinds() {
-    for kind in 18..=255u8 {
+    for kind in 20..=255u8 {
         refused(&format!("{kind:02X}"), "refused 2 at 0");
     }
     refused("00", "refused 2 at 0");
-    // Without request 2, 15 to 17 are no kinds.
-    for kind in 15..=17u8 {
+    // Without request 2, 15 to 19 are no kinds.
+    for kind in 15..=19u8 {
         for on in BOTH {
             for doors in LOADERS {
-                let refusal = (doors.read)(&on.former(), &[kind; 40]);
+                let refusal = (doors.read)(&on.former(14), &[kind; 40]);
                 assert_eq!(refusal, Err(Refusal::at(2, 0)), "{}", doors.name);
             }
         }
@@ -254,35 +254,39 @@ fn tally() {
 /// Each way to be judged otherwise than before is seen.
 #[test]
 fn judged_as_before_can_be_false() {
-    let sheet = [2, 6, 15, 16, 17, 18, 14];
+    let sheet = [2, 6, 15, 16, 17, 18, 19, 20, 14];
     let two = |at| Some(Refusal::at(2, at));
-    for at in 2..5 {
-        assert_eq!(way(&sheet, two(at), false), Some(Way::NewKind));
+    for (kinds, later) in [(14, 2..7), (17, 5..7)] {
+        let way = |refusal, same| way(&sheet, kinds, refusal, same);
+        for at in 0..11 {
+            let other = later.contains(&at).then_some(Way::LaterKind);
+            assert_eq!(way(two(at), false), other);
+            assert_eq!(way(two(at), true), other.or(Some(Way::Same)));
+        }
+        assert_eq!(way(Some(Refusal::at(3, 5)), false), None);
+        assert_eq!(way(None, false), None);
+        assert_eq!(way(None, true), Some(Way::Same));
     }
-    for at in [0, 1, 5, 6, 7, 8] {
-        assert_eq!(way(&sheet, two(at), false), None);
-        assert_eq!(way(&sheet, two(at), true), Some(Way::Same));
-    }
-    assert_eq!(way(&sheet, Some(Refusal::at(3, 2)), false), None);
-    assert_eq!(way(&sheet, None, false), None);
-    assert_eq!(way(&sheet, None, true), Some(Way::Same));
 }
 
-/// Of sheets with kinds 15 to 17 and of those without, by every loader.
+/// Of sheets with kinds later than 14 or 17 and of those without, by every loader.
 #[test]
 fn judged_as_before() {
     let mut random = Random::new(31);
-    let mut seen = [0, 0];
+    let mut seen = [[0; 2]; 2];
     for _ in 0..1_500 {
         let sheet = sheets::sheet(&mut random);
         for on in [LARGE, ENTRY, Instrument::of(sheet.len(), 5)] {
             for doors in LOADERS {
-                let [former, now] = [on.former(), on].map(|on| (doors.load)(&on, &sheet));
-                let way = way(&sheet, former.refusal(), former == now);
-                assert!(way.is_some(), "{}: {former}, {now}", doors.name);
-                seen[(way == Some(Way::NewKind)) as usize] += 1;
+                let now = (doors.load)(&on, &sheet);
+                for (kinds, seen) in FORMER_KINDS.into_iter().zip(&mut seen) {
+                    let former = (doors.load)(&on.former(kinds), &sheet);
+                    let way = way(&sheet, kinds, former.refusal(), former == now);
+                    assert!(way.is_some(), "{}: {former}, {now}", doors.name);
+                    seen[(way == Some(Way::LaterKind)) as usize] += 1;
+                }
             }
         }
     }
-    assert!(seen.iter().all(|&count| count > 1_000), "{seen:?}");
+    assert!(seen[0].iter().all(|&count| count > 1_000), "{seen:?}");
 }

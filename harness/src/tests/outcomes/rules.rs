@@ -293,10 +293,10 @@ fn both_sides_of_a_failed_call_have_62_leaves() {
 
 #[test]
 fn lines() {
-    for rule in 1..=24 {
+    for rule in 1..=26 {
         let fault = Fault { clause: 4, pair: 5, event: 6, place: 7 };
         let line = Verdict::Unproved { rule, subject: 3, fault }.to_string();
-        let who = if rule <= 6 || rule >= 22 { "method" } else { "step" };
+        let who = if rule <= 6 || (22..=24).contains(&rule) { "method" } else { "step" };
         assert_eq!(line, format!("unproved rule {rule} {who} 3 clause 4 pair 5 event 6 place 7"));
     }
 }
