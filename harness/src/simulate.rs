@@ -21,13 +21,20 @@ pub struct Totals {
     /// Calls that failed in a state that was looked at, and runs that ended so.
     pub failed: usize,
     pub ended_failed: usize,
+    /// Runs that ended by a stop, and those of them that ended so in a called method.
+    pub stopped: usize,
+    pub stopped_inside: usize,
+    /// Calls that were open at a stop, and calls that had returned.
+    pub left_open: usize,
+    pub left_returned: usize,
     pub owed: usize,
     /// Of these futures, those of calls that failed.
     pub owed_failed: usize,
     pub past_maker: usize,
     pub broken: BTreeMap<Broken, usize>,
-    /// Of these, those of calls that failed.
+    /// Of these, those of calls that failed, and those at a stop.
     pub broken_failed: BTreeMap<Broken, usize>,
+    pub broken_stopped: BTreeMap<Broken, usize>,
 }
 
 /// Whether a call has failed.
@@ -71,6 +78,9 @@ impl Totals {
                 if has_failed(&run.calls[call]) {
                     *self.broken_failed.entry(broken).or_default() += 1;
                 }
+                if run.stopped {
+                    *self.broken_stopped.entry(broken).or_default() += 1;
+                }
                 return;
             }
             if left == 0 || run.ended() || run.history.len() > LONGEST {
@@ -81,6 +91,12 @@ impl Totals {
         }
         self.ended += run.ended() as usize;
         self.ended_failed += has_failed(&run.calls[0]) as usize;
+        if run.stopped {
+            self.stopped += 1;
+            self.stopped_inside += (run.open.len() > 1) as usize;
+            self.left_open += run.open.len();
+            self.left_returned += run.calls.len() - run.open.len();
+        }
     }
 }
 
@@ -97,8 +113,11 @@ pub fn simulate(crates: &str, doors: &Doors, seed: u64) -> Result<usize, String>
     }
     let Totals { sheets, runs, states, ended, owed, past_maker, broken, .. } = &totals;
     let Totals { failed, ended_failed, owed_failed, .. } = &totals;
+    let Totals { stopped, stopped_inside, left_open, left_returned, .. } = &totals;
     println!("{sheets} sheets that the {} accepts, {runs} runs", doors.name);
     println!("{ended} runs ended, {ended_failed} of them as method 0 failed");
+    println!("{stopped} runs ended by a stop, {stopped_inside} of them in a called method");
+    println!("{left_open} calls open at a stop, {left_returned} returned before it");
     println!("{states} states, with {failed} calls that failed");
     println!("{owed} futures owed, {past_maker} after the caller's return");
     println!("{owed_failed} futures owed of calls that failed");
