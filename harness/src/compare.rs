@@ -119,7 +119,7 @@ impl Comparison<'_> {
         self.loads += 1;
         let one = (self.one.load)(on, sheet);
         let two = (self.two.load)(on, sheet);
-        self.seen.verdict(on, &one);
+        self.seen.verdict(on, sheet, &one);
         if one != two {
             self.unlike(sheet, "load", on, [&one, &two]);
         }

@@ -7,6 +7,7 @@ mod honest;
 mod hostile;
 mod limits;
 mod mutate;
+mod stopping;
 mod stray;
 mod words;
 mod worst;
@@ -14,8 +15,9 @@ mod worst;
 use crate::instrument::{ENTRY, LARGE};
 use crate::naive;
 use crate::random::Random;
+pub use draft::Draft;
 #[cfg(test)]
-pub use draft::{certificate, Draft, Method, Step, MOST_PAIRS};
+pub use draft::{certificate, Method, Step, MOST_PAIRS};
 #[cfg(test)]
 pub use failing::failing;
 use families::entry_rules;
@@ -30,6 +32,8 @@ pub use limits::limits;
 #[cfg(test)]
 pub use limits::of_length;
 #[cfg(test)]
+pub use stopping::stopping;
+#[cfg(test)]
 pub use stray::{least, row};
 pub use words::{words, Test};
 pub use worst::{Recipe, WORST, WORST_ENTRY};
@@ -41,23 +45,41 @@ pub fn sheet(random: &mut Random) -> Vec<u8> {
         5..=19 => stray::records(random),
         20..=21 => stray::at_a_limit(random),
         22..=24 => honest::wild(random),
-        25..=39 => failing::either(random).certified(),
+        25..=39 => stopping::either_edition(random).certified(),
         40..=59 => {
-            let mut draft = failing::either(random);
+            let mut draft = stopping::either_edition(random);
             honest::spoil(&mut draft, random);
             draft.certified()
         }
-        60..=61 => honest::large(random).certified(),
-        62..=65 => mutate::mutate(&honest::large(random).certified(), random),
+        60..=61 => large(random).certified(),
+        62..=65 => mutate::mutate(&large(random).certified(), random),
         94..=99 => limits::around_entry(random),
         _ => {
-            let mut sheet = failing::either(random).certified();
+            let mut sheet = stopping::either_edition(random).certified();
             for _ in 0..1 + random.below(2) {
                 sheet = mutate::mutate(&sheet, random);
             }
             sheet
         }
     }
+}
+
+/// A draft with sides of many leaves, of either edition.
+fn large(random: &mut Random) -> Draft {
+    match random.below(2) {
+        0 => honest::large(random),
+        _ => stopping::large(random),
+    }
+}
+
+/// Whether a sheet is one of the new edition.
+pub fn is_new(sheet: &[u8]) -> bool {
+    sheet.first() == Some(&18)
+}
+
+/// Whether a sheet has a stop among its records.
+pub fn has_stop(sheet: &[u8]) -> bool {
+    mutate::split(sheet).iter().any(|record| record[0] == 19)
 }
 
 /// Sheets for the entry instrument, of its full length, all accepted: the honest one

@@ -32,6 +32,17 @@ impl Tree {
         Tree::Leaf(u32::MAX).star()
     }
 
+    /// The tree without the events outside a set.
+    pub fn only(self, events: u32) -> Tree {
+        match self {
+            Tree::Leaf(set) => Tree::Leaf(set & events),
+            Tree::Empty => Tree::Empty,
+            Tree::Join(a, b) => a.only(events).join(b.only(events)),
+            Tree::Either(a, b) => a.only(events).either(b.only(events)),
+            Tree::Star(a) => a.only(events).star(),
+        }
+    }
+
     pub fn leaves(&self) -> usize {
         match self {
             Tree::Leaf(_) => 1,

@@ -1,6 +1,7 @@
 //! How often each kind of answer was seen.
 use crate::answer::{Answer, Verdict};
 use crate::instrument::{Instrument, BOTH, ENTRY};
+use crate::sheets;
 
 /// The numbers of refusals.
 const REFUSALS: [usize; 16] = [1, 2, 3, 4, 5, 6, 7, 8, 9, 10, 12, 13, 14, 18, 19, 20];
@@ -9,6 +10,11 @@ const REFUSALS: [usize; 16] = [1, 2, 3, 4, 5, 6, 7, 8, 9, 10, 12, 13, 14, 18, 19
 #[derive(Default)]
 struct Answers {
     accepted: usize,
+    /// Accepted sheets of the new edition, and those of them with a stop.
+    accepted_new: usize,
+    accepted_stops: usize,
+    /// Unproved sheets of the new edition.
+    unproved_new: usize,
     refused: [usize; 21],
     /// By rule and clause.
     unproved: [[usize; 6]; 27],
@@ -44,12 +50,20 @@ impl Seen {
     }
 
     /// A verdict; one on other limits is not counted.
-    pub fn verdict(&mut self, on: &Instrument, verdict: &Verdict) {
+    pub fn verdict(&mut self, on: &Instrument, sheet: &[u8], verdict: &Verdict) {
         let Some(seen) = self.answers(on) else { return };
+        let new = sheets::is_new(sheet) as usize;
         match verdict {
-            Verdict::Accepted(_) => seen.accepted += 1,
+            Verdict::Accepted(_) => {
+                seen.accepted += 1;
+                seen.accepted_new += new;
+                seen.accepted_stops += sheets::has_stop(sheet) as usize;
+            }
             Verdict::Refused(refusal) => seen.refused[refusal.number] += 1,
-            Verdict::Unproved { rule, fault, .. } => seen.unproved[*rule][fault.clause] += 1,
+            Verdict::Unproved { rule, fault, .. } => {
+                seen.unproved[*rule][fault.clause] += 1;
+                seen.unproved_new += new;
+            }
         }
     }
 
@@ -98,14 +112,17 @@ impl Seen {
         println!("|---|---|---|---|---|");
         let [a, b] = &self.on;
         println!("| accepted | {} | {} | | |", a.accepted, b.accepted);
+        println!("| accepted, new edition | {} | {} | | |", a.accepted_new, b.accepted_new);
+        println!("| accepted, with a stop | {} | {} | | |", a.accepted_stops, b.accepted_stops);
         println!("| yes | | | {} | {} |", a.yes, b.yes);
         println!("| no | | | {} | {} |", a.no, b.no);
         for i in REFUSALS {
             let loads = format!("{} | {}", a.refused[i], b.refused[i]);
             println!("| refused {i} | {loads} | {} | {} |", a.word_refused[i], b.word_refused[i]);
         }
-        let [a, b] = [a, b].map(|seen| seen.unproved.iter().flatten().sum::<usize>());
-        println!("| unproved | {a} | {b} | | |");
+        let [all, also] = [a, b].map(|seen| seen.unproved.iter().flatten().sum::<usize>());
+        println!("| unproved | {all} | {also} | | |");
+        println!("| unproved, new edition | {} | {} | | |", a.unproved_new, b.unproved_new);
     }
 }
 

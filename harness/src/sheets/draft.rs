@@ -14,6 +14,7 @@ pub enum Step {
     Pass(usize, usize),
     /// A call that can fail: from, to, failed target, method.
     Failing(usize, usize, usize, usize),
+    Stop(usize),
 }
 
 /// A method. Its conditions are three, and two more if it can fail: the failed trace
@@ -50,6 +51,7 @@ impl Method {
 
 #[derive(Clone, Default)]
 pub struct Draft {
+    pub new_edition: bool,
     pub conditions: Vec<Tree>,
     pub points: Vec<[usize; 3]>,
     pub methods: Vec<Method>,
@@ -75,6 +77,9 @@ impl Draft {
     /// The records before the certificates.
     pub fn bytes(&self) -> Vec<u8> {
         let mut out = vec![];
+        if self.new_edition {
+            out.push(18);
+        }
         for tree in &self.conditions {
             tree.write(&mut out);
             out.push(6);
@@ -106,6 +111,10 @@ impl Draft {
                 Step::Failing(from, to, failed, method) => {
                     out.push(17);
                     names(&mut out, &[from, to, failed, method]);
+                }
+                Step::Stop(from) => {
+                    out.push(19);
+                    names(&mut out, &[from]);
                 }
             }
         }

@@ -4,12 +4,15 @@ use super::honest::{honest, small, small_with_empty, then, wide};
 use crate::random::Random;
 use crate::tree::Tree;
 
+/// The most leaves of a condition.
+const LEAVES: usize = 31;
+
 /// A method with body that others may call, and whether it can fail. Its conditions
 /// hold every word.
 #[derive(Clone, Copy)]
-struct Open {
-    method: usize,
-    fails: bool,
+pub struct Open {
+    pub method: usize,
+    pub fails: bool,
 }
 
 /// What a step does. A primitive is the step's own, with its trace and, if it can
@@ -27,6 +30,24 @@ struct Arrow {
     to: usize,
     failed: usize,
     act: Act,
+}
+
+/// A way from a point of a method to a later one, and what is raised on it.
+pub struct Way {
+    pub from: usize,
+    pub to: usize,
+    pub raised: Option<Tree>,
+}
+
+impl Way {
+    /// What is due where the way begins, given what is due where it leads.
+    pub fn due(&self, found: &[Tree]) -> Tree {
+        let due = found[self.to].clone();
+        match &self.raised {
+            Some(raised) => raised.clone().join(due),
+            None => due,
+        }
+    }
 }
 
 /// A draft whose rules hold, in which no call can fail, or some can.
@@ -58,7 +79,7 @@ pub fn failing(random: &mut Random) -> Draft {
 
 /// A method whose conditions hold every word, as those of its points, with steps at
 /// random.
-fn loose(draft: &mut Draft, random: &mut Random, this: Open, callable: &[Open]) {
+pub fn loose(draft: &mut Draft, random: &mut Random, this: Open, callable: &[Open]) {
     let any = Tree::any();
     let count = 1 + random.below(3);
     let start = draft.points.len();
@@ -88,7 +109,7 @@ fn loose(draft: &mut Draft, random: &mut Random, this: Open, callable: &[Open]) 
     }
 }
 
-fn call(from: usize, to: usize, failed: usize, called: Open) -> Step {
+pub fn call(from: usize, to: usize, failed: usize, called: Open) -> Step {
     match called.fails {
         true => Step::Failing(from, to, failed, called.method),
         false => Step::Call(from, to, called.method),
@@ -110,7 +131,7 @@ fn arrows(random: &mut Random, count: usize, callable: &[Open]) -> Vec<Arrow> {
 }
 
 /// A small condition. Those of many leaves are rare, since each has part in many rules.
-fn little(random: &mut Random) -> Tree {
+pub fn little(random: &mut Random) -> Tree {
     let tree = small(random);
     if tree.leaves() < 6 || random.once_in(6) {
         tree
@@ -130,59 +151,65 @@ fn act(random: &mut Random, callable: &[Open]) -> Act {
 }
 
 impl Arrow {
-    /// Where the step leads and what it raises on the way, for each of its outcomes.
-    fn ways(&self) -> Vec<(usize, Option<Tree>)> {
+    /// The ways of the step, one for each of its outcomes.
+    fn ways(&self) -> Vec<Way> {
         let any = || Some(Tree::any());
+        let way = |to, raised| Way { from: self.from, to, raised };
         match &self.act {
-            Act::Event(event) => vec![(self.to, Some(Tree::event(*event)))],
-            Act::Pass => vec![(self.to, None)],
-            Act::Open(Open { fails: true, .. }) => vec![(self.to, any()), (self.failed, any())],
-            Act::Open(_) => vec![(self.to, any())],
+            Act::Event(event) => vec![way(self.to, Some(Tree::event(*event)))],
+            Act::Pass => vec![way(self.to, None)],
+            Act::Open(Open { fails: true, .. }) => {
+                vec![way(self.to, any()), way(self.failed, any())]
+            }
+            Act::Open(_) => vec![way(self.to, any())],
             Act::Primitive(trace, failed) => {
-                let failed = failed.iter().map(|trace| (self.failed, Some(trace.clone())));
-                [(self.to, Some(trace.clone()))].into_iter().chain(failed).collect()
+                let failed = failed.iter().map(|trace| way(self.failed, Some(trace.clone())));
+                [way(self.to, Some(trace.clone()))].into_iter().chain(failed).collect()
             }
         }
     }
 }
 
-/// The words of any of some trees, and more; some condition if there are none.
-fn union(random: &mut Random, trees: Vec<Tree>) -> Tree {
+/// The words of any of some trees, and more; some condition if there are none. One of
+/// more leaves than the most holds every word.
+pub fn union(random: &mut Random, trees: Vec<Tree>, most: usize) -> Tree {
     let tree = trees.into_iter().reduce(Tree::either);
     let tree = tree.unwrap_or_else(|| little(random));
-    wide(random, tree)
+    let tree = wide(random, tree);
+    if tree.leaves() <= most {
+        tree
+    } else {
+        Tree::any()
+    }
 }
 
 /// The conditions of the points from the first on: what holds at the first, and what
 /// is raised on each way to the others.
-fn onward(random: &mut Random, count: usize, arrows: &[Arrow], first: Tree) -> Vec<Tree> {
-    let mut found = vec![union(random, vec![first])];
+pub fn onward(
+    random: &mut Random,
+    count: usize,
+    ways: &[Way],
+    first: Tree,
+    most: usize,
+) -> Vec<Tree> {
+    let mut found = vec![union(random, vec![first], most)];
     for point in 1..count {
-        let mut trees = vec![];
-        for arrow in arrows {
-            let ways = arrow.ways().into_iter().filter(|(to, _)| *to == point);
-            trees.extend(ways.map(|(_, raised)| then(&found[arrow.from], &raised)));
-        }
-        found.push(union(random, trees));
+        let here = ways.iter().filter(|way| way.to == point);
+        let trees = here.map(|way| then(&found[way.from], &way.raised)).collect();
+        found.push(union(random, trees, most));
     }
     found
 }
 
 /// The conditions of the points from the last back: what holds at the exits, and what
 /// is raised on each way from the others.
-fn back(random: &mut Random, count: usize, arrows: &[Arrow], exits: &[(usize, Tree)]) -> Vec<Tree> {
+fn back(random: &mut Random, count: usize, ways: &[Way], exits: &[(usize, Tree)]) -> Vec<Tree> {
     let mut found = vec![Tree::Empty; count];
     for point in (0..count).rev() {
         let here = exits.iter().filter(|(exit, _)| *exit == point);
         let mut trees: Vec<Tree> = here.map(|(_, future)| future.clone()).collect();
-        for (to, raised) in arrows.iter().filter(|a| a.from == point).flat_map(Arrow::ways) {
-            let due = found[to].clone();
-            trees.push(match raised {
-                Some(raised) => raised.join(due),
-                None => due,
-            });
-        }
-        found[point] = union(random, trees);
+        trees.extend(ways.iter().filter(|way| way.from == point).map(|way| way.due(&found)));
+        found[point] = union(random, trees, LEAVES);
     }
     found
 }
@@ -207,9 +234,10 @@ fn branching(
     if fails {
         exits.push((random.below(count), failed_future));
     }
-    let pasts = onward(random, count, &arrows, pre.clone());
-    let owns = onward(random, count, &arrows, Tree::Empty);
-    let dues = back(random, count, &arrows, &exits);
+    let ways: Vec<Way> = arrows.iter().flat_map(Arrow::ways).collect();
+    let pasts = onward(random, count, &ways, pre.clone(), LEAVES);
+    let owns = onward(random, count, &ways, Tree::Empty, LEAVES);
+    let dues = back(random, count, &ways, &exits);
     let start = draft.points.len();
     for i in 0..count {
         draft.point(&pasts[i], &owns[i], &dues[i]);

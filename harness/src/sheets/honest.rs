@@ -1,5 +1,6 @@
 //! Drafts whose rules hold, and drafts spoilt after that.
 use super::draft::{Draft, Method, Step};
+use super::stopping;
 use crate::random::Random;
 use crate::tree::Tree;
 
@@ -15,7 +16,8 @@ enum Link {
 
 /// A sheet with random parts and reachable pairs.
 pub fn wild(random: &mut Random) -> Vec<u8> {
-    let mut draft = Draft::default();
+    let mut draft = Draft { new_edition: random.once_in(2), ..Draft::default() };
+    let stops = draft.new_edition || random.once_in(20);
     let conditions = 1 + random.below(6);
     for _ in 0..conditions {
         draft.conditions.push(small(random));
@@ -33,6 +35,9 @@ pub fn wild(random: &mut Random) -> Vec<u8> {
         draft.methods.push(Method { conditions: names, points: places });
     }
     for _ in 0..random.below(5) {
+        if stops && random.once_in(4) {
+            draft.steps.push(Step::Stop(random.below(points)));
+        }
         let step = random_step(random, points, methods);
         let unfit = random.once_in(20);
         let step = if unfit { step } else { fitted(step, &draft.methods, points, random) };
@@ -105,7 +110,7 @@ pub fn large(random: &mut Random) -> Draft {
 }
 
 /// A star of many leaves that holds every word.
-fn covering_star(random: &mut Random) -> Tree {
+pub fn covering_star(random: &mut Random) -> Tree {
     let leaf = |random: &mut Random| Tree::Leaf(random.next() as u32);
     let some = (0..random.below(30)).fold(leaf(random), |tree, _| tree.either(leaf(random)));
     some.either(Tree::Leaf(u32::MAX)).star()
@@ -159,7 +164,7 @@ pub fn small(random: &mut Random) -> Tree {
 }
 
 /// A star of many leaves, each with a few events.
-fn wide_star(random: &mut Random) -> Tree {
+pub fn wide_star(random: &mut Random) -> Tree {
     let leaf = |random: &mut Random| Tree::Leaf(1 << random.below(32) | random.below(2) as u32);
     let first = leaf(random);
     (0..8 + random.below(23)).fold(first, |tree, _| tree.either(leaf(random))).star()
@@ -271,6 +276,9 @@ fn raises(link: &Link) -> Option<Tree> {
 
 /// Changes one thing of a draft.
 pub fn spoil(draft: &mut Draft, random: &mut Random) {
+    if random.once_in(if draft.new_edition { 2 } else { 8 }) {
+        return stopping::spoil(draft, random);
+    }
     let failing = |step: &Step| matches!(step, Step::Failing(..));
     let fails = draft.methods[0].fails() || draft.steps.iter().any(failing);
     if fails && random.once_in(3) {

@@ -1,8 +1,8 @@
 //! Sheets around the limits of the entry instrument, and limits around a sheet.
 use super::draft::{certificate, Draft, Method, Step};
-use super::failing::either;
 use super::honest::{fitted, random_step};
 use super::mutate::mutate;
+use super::stopping::either_edition;
 use crate::answer::Refusal;
 use crate::instrument::{Instrument, ENTRY, LARGE};
 use crate::random::Random;
@@ -16,7 +16,7 @@ pub fn around_entry(random: &mut Random) -> Vec<u8> {
     let points = near(ENTRY.points, random);
     let mut draft = match (many_points, random.below(3)) {
         (true, 0) => crowded(points, random),
-        _ => either(random),
+        _ => either_edition(random),
     };
     if many_points {
         more_points(&mut draft, points, random);
@@ -46,7 +46,7 @@ fn near(limit: usize, random: &mut Random) -> usize {
 /// A draft whose points hold every word, with steps between any of them.
 fn crowded(points: usize, random: &mut Random) -> Draft {
     let any = Tree::any();
-    let mut draft = Draft::default();
+    let mut draft = Draft { new_edition: random.once_in(2), ..Draft::default() };
     for _ in 0..points {
         draft.point(&any, &any, &any);
     }
@@ -58,6 +58,7 @@ fn crowded(points: usize, random: &mut Random) -> Draft {
     for _ in 0..random.below(60) {
         let step = match random_step(random, points, draft.methods.len()) {
             Step::Event(from, to, _) => Step::Event(from, to, random.below(32) as u8),
+            Step::Pass(from, _) if draft.new_edition && random.once_in(2) => Step::Stop(from),
             step => fitted(step, &draft.methods, points, random),
         };
         draft.steps.push(step);
@@ -87,6 +88,7 @@ fn more_points(draft: &mut Draft, points: usize, random: &mut Random) {
             Step::Failing(p, q, f, _) => {
                 (*p, *q, *f) = (number[*p], number[*q], number[*f]);
             }
+            Step::Stop(p) => *p = number[*p],
         }
     }
 }

@@ -6,7 +6,7 @@ type Records = Vec<Vec<u8>>;
 
 pub fn mutate(sheet: &[u8], random: &mut Random) -> Vec<u8> {
     let mut records = split(sheet);
-    match random.below(16) {
+    match random.below(19) {
         0 => return change_bytes(sheet, random),
         1 => return sheet[..random.below(sheet.len())].to_vec(),
         2 => change_name(&mut records, random),
@@ -15,18 +15,20 @@ pub fn mutate(sheet: &[u8], random: &mut Random) -> Vec<u8> {
         5 => certificates_more_or_fewer(&mut records, random),
         6 => events_at_the_bound(&mut records, random),
         15 => other_outcomes(&mut records, random),
+        16 => other_edition(&mut records, random),
+        17 | 18 => more_or_fewer_stops(&mut records, random),
         kind => change_certificate(&mut records, random, kind),
     }
     records.concat()
 }
 
 /// The records of a sheet; what follows a fault is one piece.
-fn split(sheet: &[u8]) -> Records {
+pub fn split(sheet: &[u8]) -> Records {
     let mut records = vec![];
     let mut at = 0;
     while at < sheet.len() {
         let length = match sheet[at] {
-            kind @ 1..=17 => 1 + BODY[kind as usize],
+            kind @ 1..=19 => 1 + BODY[kind as usize],
             _ => sheet.len(),
         };
         let next = (at + length).min(sheet.len());
@@ -45,7 +47,7 @@ fn change_bytes(sheet: &[u8], random: &mut Random) -> Vec<u8> {
         let at = random.below(out.len());
         out[at] = match random.below(3) {
             0 => random.byte(),
-            1 => random.below(19) as u8,
+            1 => random.below(21) as u8,
             _ => out[at] ^ 1 << random.below(8),
         };
     }
@@ -102,6 +104,41 @@ fn other_outcomes(records: &mut Records, random: &mut Random) {
             11
         }
     };
+}
+
+/// The edition's record is dropped, or stands somewhere, mostly in front.
+fn other_edition(records: &mut Records, random: &mut Random) {
+    let new = records.first().is_some_and(|record| record[0] == 18);
+    if new && random.once_in(2) {
+        records.remove(0);
+        return;
+    }
+    let conditions = records.iter().position(|record| record[0] == 7).unwrap_or(0);
+    let place = match random.below(4) {
+        0 => random.below(records.len() + 1),
+        1 => random.below(conditions + 1),
+        _ => new as usize,
+    };
+    records.insert(place, vec![18]);
+}
+
+/// A stop more, mostly among the steps, or fewer.
+fn more_or_fewer_stops(records: &mut Records, random: &mut Random) {
+    let stop = records.iter().position(|record| record[0] == 19);
+    if let (Some(which), true) = (stop, random.once_in(3)) {
+        records.remove(which);
+        return;
+    }
+    let before = |kinds: &[u8]| records.iter().rposition(|record| kinds.contains(&record[0]));
+    let methods = before(&[8, 9, 15, 16]).map_or(0, |i| i + 1);
+    let steps = before(&[10, 11, 12, 17, 19]).map_or(0, |i| i + 1);
+    let place = match random.below(6) {
+        0 => random.below(records.len() + 1),
+        _ => methods + random.below(steps.max(methods) - methods + 1),
+    };
+    let points = records.iter().filter(|record| record[0] == 7).count();
+    let point = if random.once_in(8) { points } else { random.below(points) };
+    records.insert(place, [&[19], &(point as u16).to_le_bytes()[..]].concat());
 }
 
 /// Event steps get one of the last events, or the number after them.

@@ -7,22 +7,35 @@ use crate::reference;
 use crate::tree::Tree;
 
 /// The body lengths by kind; there is no kind 0.
-pub const BODY: [usize; 18] = [0, 4, 0, 0, 0, 0, 0, 6, 6, 10, 5, 6, 4, 5, 0, 10, 16, 8];
-const SECTION: [usize; 18] = [0, 0, 0, 0, 0, 0, 0, 1, 2, 2, 3, 3, 3, 4, 4, 2, 2, 3];
+pub const BODY: [usize; 20] = [0, 4, 0, 0, 0, 0, 0, 6, 6, 10, 5, 6, 4, 5, 0, 10, 16, 8, 0, 2];
+const SECTION: [usize; 20] = [0, 0, 0, 0, 0, 0, 0, 1, 2, 2, 3, 3, 3, 4, 4, 2, 2, 3, 0, 3];
 
 pub fn bytes(random: &mut Random) -> Vec<u8> {
     let length = random.below(40);
-    let top = if random.once_in(2) { 256 } else { 19 };
-    (0..length).map(|_| random.below(top) as u8).collect()
+    let top = if random.once_in(2) { 256 } else { 21 };
+    let mut out = edition(random);
+    out.extend((0..length).map(|_| random.below(top) as u8));
+    out
+}
+
+/// The record of the new edition, or none.
+fn edition(random: &mut Random) -> Vec<u8> {
+    vec![18; random.below(2)]
 }
 
 /// Records with kinds mostly ascending and names mostly small.
 pub fn records(random: &mut Random) -> Vec<u8> {
-    let mut out = vec![];
+    let mut out = edition(random);
+    let new = !out.is_empty();
     for _ in 0..random.below(5) {
         tokens(random, &mut out);
     }
-    let mut kinds: Vec<u8> = (0..random.below(12)).map(|_| 7 + random.below(11) as u8).collect();
+    let kind = |random: &mut Random| match random.below(24) {
+        0 => 18,
+        1 | 2 if new || random.once_in(4) => 19,
+        _ => 7 + random.below(11) as u8,
+    };
+    let mut kinds: Vec<u8> = (0..random.below(12)).map(|_| kind(random)).collect();
     kinds.sort_by_key(|kind| SECTION[*kind as usize]);
     if random.once_in(6) {
         random.shuffle(&mut kinds);
@@ -46,7 +59,7 @@ fn tokens(random: &mut Random, out: &mut Vec<u8>) {
     let mut items = 0;
     for _ in 0..random.below(12) {
         let kind = match (items, random.below(40)) {
-            (_, 0) => 1 + random.below(17) as u8,
+            (_, 0) => 1 + random.below(19) as u8,
             (0 | 1, _) => 1 + random.below(2) as u8,
             _ => 1 + random.below(5) as u8,
         };
@@ -78,7 +91,7 @@ pub fn least() -> Draft {
 /// A sheet at a limit; one over it may have a second fault in that record.
 pub fn at_a_limit(random: &mut Random) -> Vec<u8> {
     let mut sheet = many(random);
-    if let Err(Refusal { number: 6, place: Some(at) }) = reference::read(&LARGE, &sheet) {
+    if let Err(Refusal { number: 6 | 20, place: Some(at) }) = reference::read(&LARGE, &sheet) {
         if random.once_in(3) {
             let at = if sheet[at] < 7 { at } else { at + 1 };
             sheet[at] = 3;
@@ -90,8 +103,8 @@ pub fn at_a_limit(random: &mut Random) -> Vec<u8> {
 /// A sheet with exactly as many of something as is allowed, or one more.
 fn many(random: &mut Random) -> Vec<u8> {
     let over = random.below(2);
-    let mut draft = least();
-    match random.below(10) {
+    let mut draft = Draft { new_edition: random.once_in(2), ..least() };
+    match random.below(12) {
         0 => draft.conditions.resize(256 + over, Tree::Empty),
         1 => draft.conditions.push((0..95 + over).fold(Tree::Empty, |tree, _| tree.star())),
         2 => draft.conditions.push(row(31 + over)),
@@ -108,6 +121,11 @@ fn many(random: &mut Random) -> Vec<u8> {
         8 => {
             draft.methods.push(Method::new(&[0; 5], &[]));
             draft.steps.resize(512 + over, Step::Failing(0, 0, 0, 1));
+        }
+        9 => draft.steps.resize(512 + over, Step::Stop(0)),
+        10 => {
+            draft.steps.resize(511 + over, Step::Pass(0, 0));
+            draft.steps.push(Step::Stop(0));
         }
         _ => return vec![random.below(8) as u8; LARGE.bytes + over],
     }

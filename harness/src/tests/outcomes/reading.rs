@@ -288,5 +288,5 @@ fn judged_as_before() {
             }
         }
     }
-    assert!(seen[0].iter().all(|&count| count > 1_000), "{seen:?}");
+    assert!(seen.iter().flatten().all(|&count| count > 1_000), "{seen:?}");
 }
