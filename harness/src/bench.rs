@@ -37,20 +37,26 @@ pub fn bench(all: &[Doors], word: &str) {
     }
 }
 
+/// Makes small sheets, one sheet, or a sheet and a word.
+type MakeSmall = fn(usize) -> Vec<Vec<u8>>;
+type MakeSheet = fn() -> Vec<u8>;
+type MakeWord = fn() -> (Vec<u8>, Vec<u8>);
+
 /// Makes the family of a name.
 type Make = Box<dyn Fn(&str) -> Family>;
 
 /// The families by name; each is made where it is asked for.
 fn families() -> Vec<(&'static str, Make)> {
-    let smalls: [(&str, fn(usize) -> Vec<Vec<u8>>); 2] = [
+    let smalls: [(&str, MakeSmall); 3] = [
         ("small honest sheet", sheets::small_honest),
         ("small honest sheet, two outcomes", sheets::small_failing),
+        ("small sheets that stop", sheets::small_stopping),
     ];
     let mut list: Vec<(&str, Make)> = vec![];
     for (name, make) in smalls {
         list.push((name, Box::new(move |name| small(name, make(200)))));
     }
-    let loads: [(&str, fn() -> Vec<u8>); 3] = [
+    let loads: [(&str, MakeSheet); 3] = [
         ("as many rules as fit", sheets::many_rules),
         ("as many rules as fit, under 35 stars", sheets::starred_rules),
         ("large honest certificate", sheets::large_certificate),
@@ -61,7 +67,7 @@ fn families() -> Vec<(&'static str, Make)> {
     for (name, make) in sheets::HOSTILE {
         list.push((name, Box::new(move |name| one_load(name, LARGE, make(usize::MAX)))));
     }
-    let words: [(&str, fn() -> (Vec<u8>, Vec<u8>)); 3] = [
+    let words: [(&str, MakeWord); 3] = [
         ("word in the same places", sheets::steady_word),
         ("word in changing places", sheets::changing_word),
         ("word in one place at a time", sheets::single_word),

@@ -23,7 +23,7 @@ pub use failing::failing;
 use families::entry_rules;
 pub use families::{
     changing_word, large_certificate, many_records, many_rules, single_word, small_failing,
-    small_honest, starred_rules, steady_word,
+    small_honest, small_stopping, starred_rules, steady_word,
 };
 #[cfg(test)]
 pub use honest::spoil;
@@ -82,9 +82,12 @@ pub fn has_stop(sheet: &[u8]) -> bool {
     mutate::split(sheet).iter().any(|record| record[0] == 19)
 }
 
+/// What makes a sheet, with its name.
+type Named = (&'static str, fn() -> Vec<u8>);
+
 /// Sheets for the entry instrument, of its full length, all accepted: the honest one
 /// and the hostile one that took the library longest.
-pub const ENTRY_SHEETS: [(&str, fn() -> Vec<u8>); 2] = [
+pub const ENTRY_SHEETS: [Named; 2] = [
     ("entry: as many calls as fit, under 35 stars", entry_rules),
     ("entry, hostile: the worst that a search found", || WORST_ENTRY.of_length(ENTRY.bytes)),
 ];

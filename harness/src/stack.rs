@@ -71,7 +71,8 @@ fn measure(work: &dyn Fn()) -> Option<usize> {
     let marker = 0u8;
     let top = black_box(&marker) as *const u8 as usize;
     paint(top - AREA, top - GAP);
-    work();
+    // Hidden from the compiler, or the work might be a part of this frame.
+    black_box(work)();
     lowest_changed(top - AREA, top - GAP).map(|address| top - address)
 }
 

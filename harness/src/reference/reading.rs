@@ -247,8 +247,8 @@ impl<'a> Reader<'a> {
         Reader { sheet, points, section: 0, records: 0, leaves: 0, items: 0, in_certificate: false }
     }
 
-    /// One whole record; an error is the number of its refusal. Methods and steps are
-    /// few, and kept out of the loop over all records.
+    /// One whole record; an error is the number of its refusal. Methods, steps and the
+    /// edition are few, and kept out of the loop over all records.
     #[inline(always)]
     fn record(&mut self, kind: u8, at: usize) -> Result<(), usize> {
         let section = SECTION[kind as usize];
@@ -273,7 +273,15 @@ impl<'a> Reader<'a> {
                 Ok(())
             }
             8 | 9 | 15 | 16 => self.method(kind, at),
+            _ => self.step_or_edition(kind, at),
+        }
+    }
+
+    #[inline(never)]
+    fn step_or_edition(&mut self, kind: u8, at: usize) -> Result<(), usize> {
+        match kind {
             18 => self.edition(at),
+            19 => self.stop(at),
             _ => self.step(kind, at),
         }
     }
@@ -368,17 +376,11 @@ impl<'a> Reader<'a> {
         Ok(())
     }
 
-    #[inline(never)]
     fn step(&mut self, kind: u8, at: usize) -> Result<(), usize> {
-        let stop = kind == 19;
-        if stop && !self.sheet.new_edition {
-            return Err(20);
-        }
-        let number = self.sheet.counts.steps;
-        if number == STEPS {
+        if self.sheet.counts.steps == STEPS {
             return Err(6);
         }
-        self.names(at + 1, if stop { 1 } else { 2 }, self.sheet.counts.points)?;
+        self.names(at + 1, 2, self.sheet.counts.points)?;
         if kind == 10 && self.sheet.bytes[at + 5] > 31 {
             return Err(7);
         }
@@ -388,14 +390,32 @@ impl<'a> Reader<'a> {
                 self.names(at + 5, 1, self.sheet.counts.points)?;
                 self.call(at + 7, true)?;
             }
-            _ => self.sheet.stops += stop as usize,
+            _ => {}
         }
+        self.add_step(at);
+        Ok(())
+    }
+
+    fn stop(&mut self, at: usize) -> Result<(), usize> {
+        if !self.sheet.new_edition {
+            return Err(20);
+        }
+        if self.sheet.counts.steps == STEPS {
+            return Err(6);
+        }
+        self.names(at + 1, 1, self.sheet.counts.points)?;
+        self.sheet.stops += 1;
+        self.add_step(at);
+        Ok(())
+    }
+
+    fn add_step(&mut self, at: usize) {
+        let number = self.sheet.counts.steps;
         if number == 0 {
             self.sheet.first_step = at;
         }
         self.sheet.steps_at[number] = (at - self.sheet.first_step) as u16;
         self.sheet.counts.steps += 1;
-        Ok(())
     }
 
     /// A call of the method that is named at an offset, with one outcome or two; 18 if

@@ -3,6 +3,7 @@ use super::draft::{certify, Draft, Method, Step};
 use super::failing::failing;
 use super::honest::honest;
 use super::hostile::by_entry;
+use super::stopping::stopping;
 use super::stray::{least, row};
 use crate::answer::Verdict;
 use crate::instrument::{Instrument, ENTRY, LARGE};
@@ -23,6 +24,24 @@ pub fn small_failing(count: usize) -> Vec<Vec<u8>> {
     small(count, |random| loop {
         let draft = failing(random);
         if draft.steps.iter().any(|step| matches!(step, Step::Failing(..))) {
+            return draft;
+        }
+    })
+}
+
+/// Small accepted sheets of the new edition with a stop and with a call of a method with
+/// body.
+pub fn small_stopping(count: usize) -> Vec<Vec<u8>> {
+    small(count, |random| loop {
+        let draft = stopping(random);
+        let enters = |step: &Step| match *step {
+            Step::Call(_, _, method) | Step::Failing(_, _, _, method) => {
+                !draft.methods[method].points.is_empty()
+            }
+            _ => false,
+        };
+        let stops = draft.steps.iter().any(|step| matches!(step, Step::Stop(_)));
+        if stops && draft.steps.iter().any(enters) {
             return draft;
         }
     })
