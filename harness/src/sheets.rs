@@ -32,7 +32,7 @@ pub use limits::limits;
 #[cfg(test)]
 pub use limits::of_length;
 #[cfg(test)]
-pub use stopping::stopping;
+pub use stopping::{large as large_stopping, stopping};
 #[cfg(test)]
 pub use stray::{least, row};
 pub use words::{words, Test};

@@ -6,10 +6,11 @@ mod instruments;
 mod outcomes;
 mod reading;
 mod runs;
+mod stops;
 mod tools;
 
 use crate::answer::Doors;
-use crate::instrument::{Instrument, LARGE};
+use crate::instrument::{self, Instrument, LARGE};
 use crate::{library, naive, reference};
 
 const BOTH: [Doors; 2] = [reference::DOORS, naive::DOORS];
@@ -49,6 +50,23 @@ fn loads(sheet: &[u8], line: &str) {
 /// The same for a word.
 fn tests(sheet: &[u8], condition: usize, word: &[u8], line: &str) {
     tests_on(&LARGE, sheet, condition, word, line);
+}
+
+/// Every loader prints this line on both instruments; reading alone and the word test
+/// have the same refusal, if it is one of theirs.
+fn refused(text: &str, line: &str) {
+    let sheet = hex(text);
+    for on in instrument::BOTH {
+        loads_on(&on, &sheet, line);
+        if line.starts_with("refused 10") {
+            continue;
+        }
+        tests_on(&on, &sheet, 9, &[99; 5_000], line);
+        for doors in every() {
+            let refusal = (doors.read)(&on, &sheet).unwrap_err();
+            assert_eq!(refusal.to_string(), line, "{}", doors.name);
+        }
+    }
 }
 
 const POINT: &str = "07 0000 0000 0000";

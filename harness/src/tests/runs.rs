@@ -4,6 +4,7 @@ use crate::instrument::LARGE;
 use crate::naive::{self, holds, Outcome};
 use crate::random::Random;
 use crate::runs::{Broken, Languages, Move, Run};
+use crate::sheets::Draft;
 use crate::simulate::Totals;
 use crate::tree::Tree;
 use crate::vectors;
@@ -25,8 +26,27 @@ fn close(number: usize) -> Move {
 const RETURN: Move = Move::Return(Outcome::Normal);
 
 /// Makes moves, each of which can be made.
-fn make(run: &mut Run, moves: &[Move]) {
+pub fn make(run: &mut Run, moves: &[Move]) {
     assert!(moves.iter().all(|next| run.make(next)));
+}
+
+/// Tries moves that cannot be made, and change nothing.
+pub fn refuses(run: &mut Run, moves: &[Move]) {
+    let state = |run: &Run| {
+        let calls: Vec<_> =
+            run.calls.iter().map(|c| (c.method, c.step, c.began, c.returned)).collect();
+        (run.history.clone(), calls, run.open.clone(), run.point, run.stopped)
+    };
+    for next in moves {
+        let before = state(run);
+        assert!(!run.make(next));
+        assert_eq!(state(run), before);
+    }
+}
+
+/// The parts of a draft's sheet.
+pub fn read(draft: &Draft) -> naive::Sheet {
+    naive::read_sheet(&LARGE, &draft.certified()).unwrap()
 }
 
 #[test]

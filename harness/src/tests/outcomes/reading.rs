@@ -4,30 +4,13 @@ use crate::former::{way, Way};
 use crate::instrument::{Instrument, BOTH, ENTRY, FORMER_KINDS, LARGE};
 use crate::random::Random;
 use crate::sheets;
-use crate::tests::{every, hex, loads_on, tests_on, BODY, BOTH as LOADERS, POINT};
+use crate::tests::{every, hex, loads_on, refused, tests_on, BODY, BOTH as LOADERS, POINT};
 
 const PRIMITIVE: &str = "08 0000 0000 0000";
 const FAILING_PRIMITIVE: &str = "0F 0000 0000 0000 0000 0000";
 const FAILING_BODY: &str = "10 0000 0000 0000 0000 0000 0000 0000 0000";
 const CALL: &str = "0B 0000 0000";
 const FAILING_CALL: &str = "11 0000 0000 0000";
-
-/// Every loader prints this line on both instruments; reading alone and the word test
-/// have the same refusal, if it is one of theirs.
-fn refused(text: &str, line: &str) {
-    let sheet = hex(text);
-    for on in BOTH {
-        loads_on(&on, &sheet, line);
-        if line.starts_with("refused 10") {
-            continue;
-        }
-        tests_on(&on, &sheet, 9, &[99; 5_000], line);
-        for doors in every() {
-            let refusal = (doors.read)(&on, &sheet).unwrap_err();
-            assert_eq!(refusal.to_string(), line, "{}", doors.name);
-        }
-    }
-}
 
 /// One condition, one point, and methods with all names 0: a body and a primitive, of
 /// one outcome and of two.

@@ -6,34 +6,12 @@ use crate::random::Random;
 use crate::runs::{Broken, Languages, Move, Run};
 use crate::sheets::{self, Draft, Method, Step};
 use crate::simulate::Totals;
+use crate::tests::runs::{make, read, refuses};
 use crate::tree::Tree;
 use Outcome::{Failed, Normal};
 
 fn step(number: usize, outcome: Outcome, word: &[u8]) -> Move {
     Move::Step(number, outcome, word.to_vec())
-}
-
-/// Makes moves, each of which can be made.
-fn make(run: &mut Run, moves: &[Move]) {
-    assert!(moves.iter().all(|next| run.make(next)));
-}
-
-/// Tries moves that cannot be made, and change nothing.
-fn refuses(run: &mut Run, moves: &[Move]) {
-    let state = |run: &Run| {
-        let calls: Vec<_> =
-            run.calls.iter().map(|c| (c.method, c.step, c.began, c.returned)).collect();
-        (run.history.clone(), calls, run.open.clone(), run.point)
-    };
-    for next in moves {
-        let before = state(run);
-        assert!(!run.make(next));
-        assert_eq!(state(run), before);
-    }
-}
-
-fn read(draft: &Draft) -> naive::Sheet {
-    naive::read_sheet(&LARGE, &draft.certified()).unwrap()
 }
 
 /// A gate that may not open. Event 0 is open, 1 is close, 2 is a warning. Method 0
