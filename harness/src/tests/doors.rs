@@ -64,6 +64,31 @@ fn failed_future() -> Vec<u8> {
     hex(&format!("02 06 01 00000000 06 {POINT} {body} {certificate}"))
 }
 
+/// A record of kind 18 that is not first, and a stop in an old sheet.
+fn late_edition() -> Vec<u8> {
+    hex(&format!("02 06 12 {POINT} {BODY}"))
+}
+
+fn old_stop() -> Vec<u8> {
+    hex(&format!("02 06 {POINT} {BODY} 13 0000"))
+}
+
+/// M of the new edition with a stop, where the empty word is due or is not.
+fn stop(due: bool) -> Vec<u8> {
+    let certificate = format!("{PAIR} 0E").repeat(3);
+    let point = format!("07 0000 0000 {}", if due { "0000" } else { "0100" });
+    hex(&format!("12 02 06 01 00000000 06 {POINT} {point} {BODY} 13 0100 {certificate}"))
+}
+
+/// M of the new edition with a call of its method, from a point where nothing is due: the
+/// method has the trace that holds no word, and never returns.
+fn call_due() -> Vec<u8> {
+    let points = "07 0000 0000 0000 07 0000 0100 0000 07 0000 0000 0100";
+    let body = "09 0000 0100 0000 0000 0100";
+    let certificate = format!("{PAIR} 0E").repeat(9);
+    hex(&format!("12 02 06 01 00000000 06 {points} {body} 0B 0200 0000 0000 {certificate}"))
+}
+
 /// The document's condition with 0 open, 1 close, 2 advance, in a sheet.
 fn condition() -> Vec<u8> {
     hex(&format!("02 01 04000000 01 FFFFFFFF 05 03 04 06 {POINT} {BODY}"))
@@ -93,6 +118,11 @@ fn loading() {
     load(&unproved(), UNPROVED, 11, &[5, 0, 3, 0, 0, 0]);
     load(&other_outcomes(), REFUSED, 18, &[20]);
     load(&failed_future(), UNPROVED, 11, &[24, 0, 5, 0, 0, 0]);
+    load(&late_edition(), REFUSED, 19, &[2]);
+    load(&old_stop(), REFUSED, 20, &[20]);
+    load(&stop(true), ACCEPTED, 0, &[7]);
+    load(&stop(false), UNPROVED, 11, &[25, 0, 5, 0, 0, 0]);
+    load(&call_due(), UNPROVED, 11, &[26, 0, 3, 0, 0, 0]);
     gives(|out| raw::load(LARGE, &[0; 65_537], out), REFUSED, 1, &[65_536]);
     load_entry(&[0; 8_193], REFUSED, 1, &[8_192]);
     load_entry(&[0; 65_537], REFUSED, 1, &[8_192]);
@@ -183,8 +213,13 @@ fn testing_words() {
     tests(usize::MAX, &[2], REFUSED, 14, &[NO_PLACE]);
     for on in [LARGE, ENTRY] {
         gives(|out| raw::word_test(on, &[15], 0, &[], out), REFUSED, 3, &[0]);
-        gives(|out| raw::word_test(on, &[18], 0, &[], out), REFUSED, 2, &[0]);
+        gives(|out| raw::word_test(on, &[18], 0, &[], out), REFUSED, 9, &[1]);
+        gives(|out| raw::word_test(on, &[20], 0, &[], out), REFUSED, 2, &[0]);
         gives(|out| raw::word_test(on, &other_outcomes(), 0, &[], out), REFUSED, 18, &[20]);
+        gives(|out| raw::word_test(on, &late_edition(), 0, &[], out), REFUSED, 19, &[2]);
+        gives(|out| raw::word_test(on, &old_stop(), 0, &[], out), REFUSED, 20, &[20]);
+        gives(|out| raw::word_test(on, &stop(false), 0, &[], out), YES, 0, &[]);
+        gives(|out| raw::word_test(on, &stop(false), 1, &[], out), NO, 0, &[]);
     }
     let long = [0; 8_193];
     gives(|out| raw::word_test(LARGE, &long, 0, &[], out), REFUSED, 2, &[0]);
@@ -199,6 +234,9 @@ fn reading() {
         gives(|out| raw::read(on, &failed_future(), out), READ_WHOLE, 0, &[2, 1, 1, 0, 5]);
         gives(|out| raw::read(on, &hex("02 06 03"), out), REFUSED, 5, &[2]);
         gives(|out| raw::read(on, &other_outcomes(), out), REFUSED, 18, &[20]);
+        gives(|out| raw::read(on, &late_edition(), out), REFUSED, 19, &[2]);
+        gives(|out| raw::read(on, &old_stop(), out), REFUSED, 20, &[20]);
+        gives(|out| raw::read(on, &stop(false), out), READ_WHOLE, 0, &[2, 2, 1, 1, 3]);
     }
     let points = hex(&format!("02 06 {} {BODY}", POINT.repeat(65)));
     gives(|out| raw::read(LARGE, &points, out), READ_WHOLE, 0, &[1, 65, 1, 0, 0]);
@@ -213,7 +251,10 @@ fn from_c() {
         let Some(program) = compiled(standard) else { return };
         from_c_prints(&program, &least(), ["accepted 0 6 0 0 0 0 0"; 2]);
         from_c_prints(&program, &[15], ["refused 3 0 0 0 0 0 0"; 2]);
-        from_c_prints(&program, &[18], ["refused 2 0 0 0 0 0 0"; 2]);
+        from_c_prints(&program, &[18], ["refused 9 1 0 0 0 0 0"; 2]);
+        from_c_prints(&program, &[20], ["refused 2 0 0 0 0 0 0"; 2]);
+        from_c_prints(&program, &old_stop(), ["refused 20 20 0 0 0 0 0"; 2]);
+        from_c_prints(&program, &call_due(), ["unproved 11 26 0 3 0 0 0"; 2]);
         from_c_prints(&program, &unproved(), ["unproved 11 5 0 3 0 0 0"; 2]);
         from_c_prints(&program, &other_outcomes(), ["refused 18 20 0 0 0 0 0"; 2]);
         let lines = ["refused 2 0 0 0 0 0 0", "refused 1 8192 0 0 0 0 0"];
