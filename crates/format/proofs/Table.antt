@@ -66,16 +66,7 @@ section-is =
     same : {n : ℕ} {A B : Type 0} → A → B → n ≡ n
     same low high = refl
 
--- a record that reading takes is of one of the five sections
-pub section-low : (k : ℕ) → 1 ≤ k → k ≤ lastKind → 1 ≤ sectionOf k
-section-low =
-    by-rows (λ k x. 1 ≤ k → k ≤ lastKind → 1 ≤ x .section)
-    ((λ low high. low) and one and one and one and one and one and one and one and one and one and one and one and one and one and one and one and one and one and one and one
-    and (λ i low high. absurd (omega arith)))
-  where
-    one : {n : ℕ} {A B : Type 0} → A → B → 1 ≤ suc n
-    one low high = omega arith
-
+-- there are five sections
 pub section-high : (k : ℕ) → sectionOf k ≤ 5
 section-high =
     by-rows (λ k x. x .section ≤ 5)
