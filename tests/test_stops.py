@@ -766,7 +766,7 @@ edition new""")
         shown = [line.lstrip().split("  ", 1)[-1] for line in lines]
         self.assertEqual(lines[0], "     0  12  edition new")
         for line in ("0B  call step 2: from 2 to 3 method 1",
-                     "13  step 4: stop from 5"):
+                     "13  stop step 4: from 5"):
             self.assertIn(line, shown)
         ends = [line.split(": ")[1] for line in lines if "end of cert" in line]
         self.assertEqual(ends[-9:], [f"rule {rule} step 2" for rule in

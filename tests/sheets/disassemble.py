@@ -29,14 +29,14 @@ ITEM_NAMES = ("leaf", "EMPTY", "JOIN", "EITHER", "STAR")
 STEP_KEYS = {EVENT_STEP: ("from", "to", "event"),
              CALL_STEP: ("from", "to", "method"), PASS_STEP: ("from", "to"),
              FAILING_CALL: ("from", "to", "failing to", "method"),
-             STOP_STEP: ("stop from",)}
+             STOP_STEP: ("from",)}
 KEYS = {kind: [name.replace("_", " ") for name in names]
         for kind, names in FIELD_NAMES.items()} | STEP_KEYS
 NAMES = {POINT: "point", PRIMITIVE: "primitive", METHOD: "method",
          EVENT_STEP: "event step", CALL_STEP: "call step",
          PASS_STEP: "pass step", FAILING_PRIMITIVE: "primitive",
          FAILING_METHOD: "method", FAILING_CALL: "call step",
-         STOP_STEP: "step"}
+         STOP_STEP: "stop step"}
 LONGEST = 1 + max(BODY_LENGTHS)
 
 
