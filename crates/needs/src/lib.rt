@@ -66,8 +66,7 @@ fn call_needs(others: usize, entry: Entry) -> Needs
     }
 }
 
-// An event step has rules 7 to 9, a call 10 to 14, one with a failed target 18 to 21 too, a pass step 15 to 17, each with a certificate; a stop has 25, which
-// has none.
+// An event step has rules 7 to 9, a call 10 to 14, one with a failed target 18 to 21 too, a pass step 15 to 17, each with a certificate; a stop has 25.
 fn step_needs(s: &[u8], methods: &[u32; 64], step: Step) -> Needs
     requires { ⌜ ((S : Sheet) × CallIn S (now s) (now methods) (stepValue step)) ⌝ }
     ensures { λ r. ⌜ ((S : Sheet) (i : ℕ) → CallIn S (now (s .entry)) (now (methods .entry)) (stepValue step) → Needed (stepRules S i (stepValue step)) r) ⌝ }
@@ -85,7 +84,7 @@ fn step_needs(s: &[u8], methods: &[u32; 64], step: Step) -> Needs
         },
         Step::Stop(_) => Needs {
             rules: 1,
-            certificates: 0,
+            certificates: 0, // 25 has none
         },
     }
 }
