@@ -25,12 +25,13 @@ use Rattle.needs.specs.Needs.{Needed, oneEach, CallIn}
 use Rattle.needs.proofs.Summed.{append-needed, needed-as}
 
 module _ (S : Sheet) (i : ℕ) (t : CallStep) where
+  -- 26, where it is asked
   entry-needed : (v : Entry) → Needed (ifAny (entryValue v) (entryRules S i t)) (oneEach (howMany (entryValue v)))
   unfolding certificatesNeeded total
   entry-needed Unasked = record { rules-are = refl; certificates-are = refl }
   entry-needed (At e) = record { rules-are = refl; certificates-are = refl }
 
-  -- the rules xs with n certificates, and 26
+  -- the rules xs, n with a certificate each, and then 26
   pub with-entry : {xs : List Rule} {n k : ℕ} {v w : Entry} → v ≡ w → Needed xs (oneEach n) → k ≡ n + howMany (entryValue w)
       → Needed (xs ++ ifAny (entryValue v) (entryRules S i t)) (oneEach k)
   with-entry {xs} {w = w} is h sum =
@@ -53,7 +54,7 @@ module _ (S : Sheet) (i : ℕ) (t : CallStep) where
       → Needed (stepRules S i (call-step t)) n
   call-needed {n = n} is h = subst (λ (e : Option ℕ). Needed (others ++ ifAny e (entryRules S i t)) n) is h
 
--- a step, by its variant
+-- a step that may be a call, by its variant
 pub call-told : (S : Sheet) (s methods : List ℕ) {v w : Step} → v ≡ w → CallIn S s methods (stepValue v) → CallIn S s methods (stepValue w)
 call-told S s methods is h = subst (λ (v : Step). CallIn S s methods (stepValue v)) is h
 
