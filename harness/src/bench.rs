@@ -56,9 +56,10 @@ fn families() -> Vec<(&'static str, Make)> {
     for (name, make) in smalls {
         list.push((name, Box::new(move |name| small(name, make(200)))));
     }
-    let loads: [(&str, MakeSheet); 3] = [
+    let loads: [(&str, MakeSheet); 4] = [
         ("as many rules as fit", sheets::many_rules),
         ("as many rules as fit, under 35 stars", sheets::starred_rules),
+        ("new edition: as many rules as fit, under 35 stars", sheets::new_rules),
         ("large honest certificate", sheets::large_certificate),
     ];
     for (name, make) in loads {

@@ -22,8 +22,8 @@ pub use draft::{certificate, Method, Step, MOST_PAIRS};
 pub use failing::failing;
 use families::entry_rules;
 pub use families::{
-    changing_word, large_certificate, many_records, many_rules, single_word, small_failing,
-    small_honest, small_stopping, starred_rules, steady_word,
+    changing_word, large_certificate, many_records, many_rules, new_rules, single_word,
+    small_failing, small_honest, small_stopping, starred_rules, steady_word,
 };
 #[cfg(test)]
 pub use honest::spoil;

@@ -63,19 +63,24 @@ fn small(count: usize, make: fn(&mut Random) -> Draft) -> Vec<Vec<u8>> {
 /// 64 methods and 512 calls of one outcome, 2,818 rules, each on sides of 31 leaves, in
 /// a sheet of full length.
 pub fn many_rules() -> Vec<u8> {
-    rules_on(&mostly_dead().star(), &LARGE, 64, 512)
+    rules_on(&mostly_dead().star(), &LARGE, 64, 512, false)
 }
 
 /// The same with as many stars as fit around the leaves: each links all leaves.
 pub fn starred_rules() -> Vec<u8> {
-    rules_on(&starred(mostly_dead(), 35), &LARGE, 64, 512)
+    rules_on(&starred(mostly_dead(), 35), &LARGE, 64, 512, false)
+}
+
+/// The same in the new edition, where each call has one rule more: 3,330 rules.
+pub fn new_rules() -> Vec<u8> {
+    rules_on(&starred(mostly_dead(), 35), &LARGE, 64, 512, true)
 }
 
 /// As many calls as fit on the entry instrument: one method and 83 steps on its 64
 /// points, 421 rules. With one outcome, a call has more sides for its bytes than any
 /// other subject.
 pub fn entry_rules() -> Vec<u8> {
-    rules_on(&starred(mostly_dead(), 35), &ENTRY, 1, 83)
+    rules_on(&starred(mostly_dead(), 35), &ENTRY, 1, 83, false)
 }
 
 /// A leaf that holds every event, and thirty that hold none.
@@ -90,8 +95,14 @@ fn starred(tree: Tree, stars: usize) -> Tree {
 
 /// A sheet of an instrument's full length and with all its points, each on this
 /// condition.
-fn rules_on(heavy: &Tree, on: &Instrument, methods: usize, steps: usize) -> Vec<u8> {
-    let mut draft = Draft::default();
+fn rules_on(
+    heavy: &Tree,
+    on: &Instrument,
+    methods: usize,
+    steps: usize,
+    new_edition: bool,
+) -> Vec<u8> {
+    let mut draft = Draft { new_edition, ..Draft::default() };
     for _ in 0..on.points {
         draft.point(heavy, heavy, heavy);
     }

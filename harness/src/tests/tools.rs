@@ -29,6 +29,9 @@ fn timed_sheets_are_accepted() {
         assert_eq!(sheets::pairs(sheet), 7_040);
         assert_eq!(reference::load(&LARGE, sheet), Verdict::Accepted(2_818));
     }
+    let new = sheets::new_rules();
+    assert_eq!((new.len(), sheets::pairs(&new)), (65_536, 8_064));
+    assert_eq!(reference::load(&LARGE, &new), Verdict::Accepted(3_330));
     let large = sheets::large_certificate();
     assert_eq!(sheets::pairs(&large), 10_371);
     assert_eq!(reference::load(&LARGE, &large), Verdict::Accepted(6));
