@@ -21,7 +21,7 @@ use Rattle.format.specs.declared.Found.{Found}
 use Rattle.format.specs.declared.Found.the-variants as found
 use Rattle.format.specs.Refusal.{numberOf, placeOf}
 use Rattle.format.specs.Found.{isKnown, foundAt, refusalAt}
-use Rattle.format.proofs.Table.{bodies, body-is}
+use Rattle.kinds.proofs.Table.{bodies, body-is}
 
 pub cond-by : {A : Type 0} (P : A → Type 0) (b : Bool) {x y : A} → (b ≡ true → P x) → (b ≡ false → P y) → P (cond b x y)
 cond-by P true f g = f refl

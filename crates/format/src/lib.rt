@@ -3,19 +3,18 @@ ghost use mathlib.Core.Path.{_≡_};
 ghost use Prim.Native.Nat.{_+_, _^_, _≤_, _<_};
 ghost use Rattle.sheet.specs.Kind.{bodyLength};
 ghost use Rattle.sheet.specs.Reading.{isNew};
-ghost use Rattle.format.specs.Kinds.{lastKind};
+ghost use Rattle.kinds.specs.Kinds.{lastKind};
 ghost use Rattle.format.specs.Found.{isKnown, foundAt, refusalAt};
-use crate::kinds::CONDITIONS;
-use crate::kinds::EDITION;
-use crate::kinds::EMPTY;
-use crate::kinds::LEAF;
-use crate::kinds::PAIR;
-use crate::kinds::section_of;
 use bits::both;
 use fields::byte_at;
 use fields::index;
+use kinds::CONDITIONS;
+use kinds::EDITION;
+use kinds::EMPTY;
+use kinds::LEAF;
+use kinds::PAIR;
+use kinds::section_of;
 
-pub mod kinds; // kinds.rt: what reading asks of a kind
 pub mod listing; // listing.rt: the pairs of a certificate
 pub mod symbols; // symbols.rt: the symbols of a condition
 pub mod values; // values.rt: points, methods and steps as values

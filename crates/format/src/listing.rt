@@ -4,9 +4,9 @@ ghost use Prim.Native.Nat.{_+_, _-_, _<_};
 ghost use lib.ListN.{length};
 ghost use Rattle.sheet.specs.AtOffset.{pairAt};
 ghost use Rattle.format.specs.Pairs.{pairIs, listedAt};
-use crate::kinds::PAIR;
 use fields::index;
 use fields::set_inside;
+use kinds::PAIR;
 
 // The bytes of a pair, and of the end of a certificate.
 pub const PAIR_BYTES: usize = 6;

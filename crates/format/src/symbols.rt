@@ -1,13 +1,13 @@
 // The symbols of a condition in postfix order, as values.
 ghost use mathlib.Core.Path.{_≡_};
 ghost use Rattle.format.specs.Symbols.{IsSymbolAt, bytesOf};
-use crate::kinds::EITHER;
-use crate::kinds::EMPTY;
-use crate::kinds::JOIN;
-use crate::kinds::LEAF;
-use crate::kinds::STAR;
 use fields::byte_at;
 use fields::set_at;
+use kinds::EITHER;
+use kinds::EMPTY;
+use kinds::JOIN;
+use kinds::LEAF;
+use kinds::STAR;
 
 // A leaf with its set, EMPTY, JOIN, EITHER or STAR; or that no symbol is there.
 pub enum Symbol {

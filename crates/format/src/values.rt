@@ -4,16 +4,16 @@ ghost use Prim.Native.Nat.{_+_, _≤_, _<_};
 ghost use lib.ListN.{length};
 ghost use Rattle.sheet.specs.AtOffset.{shortAt, declaredAt, pointAt, methodAt, stepAt};
 ghost use Rattle.format.specs.Values.{pointValue, declaredValue, Declares, DeclaresFailed, methodValue, stepValue};
-use crate::kinds::CALL;
-use crate::kinds::EVENT;
-use crate::kinds::PRIMITIVE;
-use crate::kinds::STOP;
-use crate::kinds::TWO_OUTCOME_BODY;
-use crate::kinds::TWO_OUTCOME_CALL;
-use crate::kinds::TWO_OUTCOME_PRIMITIVE;
 use fields::byte_at;
 use fields::index;
 use fields::short_at;
+use kinds::CALL;
+use kinds::EVENT;
+use kinds::PRIMITIVE;
+use kinds::STOP;
+use kinds::TWO_OUTCOME_BODY;
+use kinds::TWO_OUTCOME_CALL;
+use kinds::TWO_OUTCOME_PRIMITIVE;
 
 // A point's conditions, by their numbers.
 pub struct Point {

@@ -8,10 +8,6 @@ ghost use Rattle.items.specs.Stack.{Roomy, Rows, Turned};
 ghost use Rattle.postfix.specs.Parts.{StandsAt, PartIs, Pushed};
 use bits::bit;
 use bits::both;
-use format::kinds::EITHER;
-use format::kinds::JOIN;
-use format::kinds::STAR;
-use format::kinds::items_taken;
 use format::symbols::Symbol;
 use format::symbols::bytes_of;
 use format::symbols::symbol_at;
@@ -20,6 +16,10 @@ use items::join_top;
 use items::push_empty;
 use items::push_leaf;
 use items::star_top;
+use kinds::EITHER;
+use kinds::JOIN;
+use kinds::STAR;
+use kinds::items_taken;
 
 // A part of a side: the condition whose records stand at an offset, or one event.
 pub enum Part {

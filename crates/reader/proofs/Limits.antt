@@ -6,7 +6,7 @@ use Rattle.instrument.specs.declared.Instrument.{Instrument}
 use Rattle.instrument.specs.declared.Limits.{Limits}
 use Rattle.instrument.specs.Model.{modelOf, modelWith, limitsOf}
 use Rattle.instrument.proofs.Fits.{limits-fit}
-use Rattle.format.specs.Kinds.{lastKind}
+use Rattle.kinds.specs.Kinds.{lastKind}
 use Rattle.sections.specs.declared.Read.{Read}
 use Rattle.reader.specs.Contract.{Reads}
 

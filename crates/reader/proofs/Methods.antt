@@ -17,7 +17,7 @@ use Rattle.sheet.proofs.Take.{Took, took, next-lt}
 use Rattle.sheet.proofs.ReadOn.{afterRecord, on-end, on-record}
 use Rattle.sheet.proofs.Own.{counted, own-cases}
 use Rattle.sheet.proofs.Outcomes.{KindAt, MethodsStand, method-outcomes, Reached, at-start, past, reached-methods}
-use Rattle.format.specs.Kinds.{twoOutcomeKind}
+use Rattle.kinds.specs.Kinds.{twoOutcomeKind}
 use Rattle.refusals.specs.Outcomes.{kindListed}
 use Rattle.sections.specs.declared.Section.{Section}
 use Rattle.sections.specs.declared.Section.the-variants.{Done, Refused}

@@ -5,7 +5,7 @@ use mathlib.Core.List.{List}
 use Prim.Native.Nat.{ℕ, _+_}
 use borrow.Author.Tests.{ne-eqb}
 use Rattle.sheet.specs.AtOffset.{shortAt}
-use Rattle.format.specs.Kinds.{twoOutcomeKind}
+use Rattle.kinds.specs.Kinds.{twoOutcomeKind}
 use Rattle.refusals.specs.Outcomes.{kindListed, wrongOutcomesAt}
 
 or-false-right : (b : Bool) → (b || false) ≡ b

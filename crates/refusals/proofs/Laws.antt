@@ -6,7 +6,7 @@ use native.Mathlib.Omega.{arith}
 use lib.Dec.{T, ltb, leb, eqb, lit≤}
 use borrow.Author.Tests.{ltb-false, leb-false}
 use Rattle.sheet.specs.Model.{conditionLimit, symbolLimit, leafLimit}
-use Rattle.format.specs.Kinds.{leafKind}
+use Rattle.kinds.specs.Kinds.{leafKind}
 use Rattle.format.proofs.Laws.{cond-by}
 use Rattle.refusals.specs.declared.Begun.{Begun}
 use Rattle.refusals.specs.declared.Stepped.{Stepped}

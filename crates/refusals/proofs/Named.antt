@@ -13,8 +13,8 @@ use Rattle.sheet.specs.AtOffset.{shortAt}
 use Rattle.sheet.specs.Reading.{allExist}
 use Rattle.sheet.proofs.Kind.{_and_}
 use Rattle.sheet.proofs.Take.{next-is}
-use Rattle.format.specs.Kinds.{lastKind}
-use Rattle.format.proofs.Table.{by-rows}
+use Rattle.kinds.specs.Kinds.{lastKind}
+use Rattle.kinds.proofs.Table.{by-rows}
 use Rattle.tally.specs.declared.Tally.{Tally}
 use Rattle.tally.specs.Tally.{countOf}
 use Rattle.refusals.specs.Names.{Named, twoBelow, threeBelow}

@@ -6,7 +6,7 @@ use lib.ListN.{length, getD}
 use lib.Dec.{ltb}
 use Rattle.sheet.specs.Record.{byteAt}
 use Rattle.sheet.specs.AtOffset.{shortAt}
-use Rattle.format.specs.Kinds.{twoOutcomeKind, callKind, twoOutcomeCallKind}
+use Rattle.kinds.specs.Kinds.{twoOutcomeKind, callKind, twoOutcomeCallKind}
 
 -- the kind of the method m of a table, 0 past its end
 abbrev pub kindListed : List ℕ → List ℕ → ℕ → ℕ

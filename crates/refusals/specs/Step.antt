@@ -5,7 +5,7 @@ use lib.Dec.{ltb, leb, eqb}
 use Rattle.sheet.specs.Model.{conditionLimit, symbolLimit, leafLimit}
 use Rattle.sheet.specs.Kind.{kindOf}
 use Rattle.format.specs.declared.Refusal.the-variants.{WrongItems, OverLimit}
-use Rattle.format.specs.Kinds.{countsOne, takesItems, leafKind}
+use Rattle.kinds.specs.Kinds.{countsOne, takesItems, leafKind}
 use Rattle.refusals.specs.declared.Begun.{Begun}
 use Rattle.refusals.specs.declared.Stepped.{Stepped}
 use Rattle.refusals.specs.declared.Stepped.the-variants.{On, Refused}

@@ -3,8 +3,8 @@ ghost use mathlib.Core.Path.{_≡_};
 ghost use Rattle.refusals.specs.Editions.{pastMark, stopFits};
 use bits::both;
 use format::is_new;
-use format::kinds::EDITION;
-use format::kinds::STOP;
+use kinds::EDITION;
+use kinds::STOP;
 
 // The offset of the first record behind the mark of the new edition; without a mark, that of the first record.
 pub fn past_mark(s: &[u8], kinds: u8) -> usize

@@ -4,9 +4,9 @@ ghost use Prim.Native.Nat.{_≤_};
 ghost use Rattle.refusals.specs.Step.{nothingBegun, leavesOfKind, Modest, symbolStep, endStep, conditionStep};
 use bits::both;
 use format::Refusal;
-use format::kinds::counts;
-use format::kinds::is_leaf;
-use format::kinds::items_taken;
+use kinds::counts;
+use kinds::is_leaf;
+use kinds::items_taken;
 
 pub mod editions; // editions.rt: the mark of the new edition, and stops
 pub mod names; // names.rt: whether what a record names exists

@@ -12,15 +12,15 @@ ghost use Rattle.refusals.specs.Names.{Named, twoBelow, threeBelow};
 use bits::both;
 use fields::index;
 use fields::short_inside;
-use format::kinds::CALL;
-use format::kinds::EVENT;
-use format::kinds::STEPS;
-use format::kinds::STOP;
-use format::kinds::TWO_OUTCOME_BODY;
-use format::kinds::TWO_OUTCOME_CALL;
-use format::kinds::TWO_OUTCOME_PRIMITIVE;
-use format::kinds::WITH_BODY;
-use format::kinds::section_of;
+use kinds::CALL;
+use kinds::EVENT;
+use kinds::STEPS;
+use kinds::STOP;
+use kinds::TWO_OUTCOME_BODY;
+use kinds::TWO_OUTCOME_CALL;
+use kinds::TWO_OUTCOME_PRIMITIVE;
+use kinds::WITH_BODY;
+use kinds::section_of;
 use tally::Tally;
 
 // The name at an offset, and two and three one after the other, are of the first n.

@@ -6,9 +6,9 @@ ghost use lib.ListN.{length};
 ghost use Rattle.refusals.specs.Outcomes.{kindListed, wrongOutcomesAt};
 use fields::byte_at;
 use fields::short_at;
-use format::kinds::CALL;
-use format::kinds::TWO_OUTCOME_CALL;
-use format::kinds::has_two_outcomes;
+use kinds::CALL;
+use kinds::TWO_OUTCOME_CALL;
+use kinds::has_two_outcomes;
 
 // The kind of the method m of a table of offsets, 0 past its end.
 fn kind_listed(s: &[u8], methods: &[u32], m: usize) -> u8

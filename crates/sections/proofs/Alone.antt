@@ -14,8 +14,8 @@ use Rattle.sheet.specs.Reading.{Opened, Counted, Reading, tally, startOf, start
 use Rattle.sheet.proofs.Order.{is-4, is-19, is-20, is-5, is-6, all-named, is-9, is-18, twenty, six, seven, nine, eighteen, takes}
 use Rattle.format.specs.declared.Refusal.{Refusal}
 use Rattle.format.specs.declared.Refusal.the-variants.{WrongSection, StopInOldSheet, OverLimit, UnknownName, NoFirstBody, WrongOutcomes}
-use Rattle.format.specs.Kinds.{primitiveKind, twoOutcomeKind}
-use Rattle.format.proofs.Table.{Suits, suits, primitive-section}
+use Rattle.kinds.specs.Kinds.{primitiveKind, twoOutcomeKind}
+use Rattle.kinds.proofs.Table.{Suits, suits, primitive-section}
 use Rattle.format.proofs.Laws.{Stood, Refuses}
 use Rattle.instrument.specs.declared.Limits.{Limits}
 use Rattle.instrument.specs.Model.{modelWith}

@@ -11,7 +11,7 @@ use Rattle.sheet.specs.Kind.{Role, symbol, a-pair, counts, edition, kindOf, sec
 use Rattle.sheet.specs.Record.{byteAt, recordAt}
 use Rattle.sheet.specs.Reading.{nothing, Counted, Reading, tally, startOf, startsOf, openedPast, ownPast, pastAt}
 use Rattle.sheet.proofs.Certified.{starts-more}
-use Rattle.format.specs.Kinds.{countsOne}
+use Rattle.kinds.specs.Kinds.{countsOne}
 use Rattle.tally.specs.declared.Tally.{Tally}
 use Rattle.tally.specs.Tally.{countOf, plusIf, tallyAfter}
 use Rattle.tally.proofs.Laws.{count-past}

@@ -14,8 +14,8 @@ use Rattle.sheet.specs.Reading.{Opened, Counted, Reading, tally, startOf, start
 use Rattle.sheet.proofs.Order.{is-4, is-5, is-6, takes}
 use Rattle.format.specs.declared.Refusal.{Refusal}
 use Rattle.format.specs.declared.Refusal.the-variants.{WrongSection, Unfinished, NoFirstBody}
-use Rattle.format.specs.Kinds.{countsOne}
-use Rattle.format.proofs.Table.{section-high, Suits, suits, names-nothing}
+use Rattle.kinds.specs.Kinds.{countsOne}
+use Rattle.kinds.proofs.Table.{section-high, Suits, suits, names-nothing}
 use Rattle.format.proofs.Laws.{Stood, Refuses}
 use Rattle.tally.specs.declared.Tally.{Tally}
 use Rattle.tally.specs.Tally.{tallyAfter}

@@ -11,7 +11,7 @@ use Rattle.sheet.specs.Kind.{edition, kindOf, sectionOf}
 use Rattle.sheet.specs.Record.{byteAt}
 use Rattle.sheet.specs.Reading.{Opened, nothing, Reading, isNew, refusalOf, pastAt, ReadResult}
 use Rattle.sheet.proofs.Editions.{mark-taken, mark-next, mark-past}
-use Rattle.format.specs.Kinds.{countsOne}
+use Rattle.kinds.specs.Kinds.{countsOne}
 use Rattle.format.proofs.Laws.{inside, Stood}
 use Rattle.refusals.specs.declared.Begun.{Begun}
 use Rattle.refusals.specs.Step.{nothingBegun}

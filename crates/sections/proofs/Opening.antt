@@ -17,8 +17,8 @@ use Rattle.sheet.proofs.Order.{is-4, is-19, is-20, is-5, is-6, all-named, is-9,
 use Rattle.sheet.proofs.Editions.{mark-late}
 use Rattle.format.specs.declared.Refusal.{Refusal}
 use Rattle.format.specs.declared.Refusal.the-variants.{WrongSection, Unfinished, EditionNotFirst}
-use Rattle.format.specs.Kinds.{lastKind, countsOne, takesItems, leafKind}
-use Rattle.format.proofs.Table.{past-conditions, Suits, suits, names-nothing}
+use Rattle.kinds.specs.Kinds.{lastKind, countsOne, takesItems, leafKind}
+use Rattle.kinds.proofs.Table.{past-conditions, Suits, suits, names-nothing}
 use Rattle.format.proofs.Laws.{cond-by, kind-there, Stood, Refuses}
 use Rattle.refusals.specs.declared.Begun.{Begun}
 use Rattle.refusals.specs.declared.Stepped.{Stepped}

@@ -14,7 +14,7 @@ use Rattle.sheet.specs.Reading.{Reading, tally, allExist, methodRecord, twoOutc
 use Rattle.sheet.proofs.Fields.{shortsThen, names-alone}
 use Rattle.sheet.proofs.Named.{FieldsExist, at-exists}
 use Rattle.sheet.proofs.Outcomes.{never-wrong}
-use Rattle.format.specs.Kinds.{twoOutcomeKind}
+use Rattle.kinds.specs.Kinds.{twoOutcomeKind}
 use Rattle.refusals.specs.Outcomes.{kindListed, wrongOutcomesAt}
 
 module _ (events : ℕ) (s : List ℕ) (at : ℕ) (u : Reading) (names : T (allExist events (tally u) (kindOf (byteAt s at) .fields) (recordAt s at .values)))

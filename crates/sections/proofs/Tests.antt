@@ -14,8 +14,8 @@ use Rattle.sheet.specs.Reading.{Reading, tally, inCondition, isNew, allExist, i
 use Rattle.sheet.proofs.Order.{is-3, is-4, is-19, is-20, all-named, is-9, is-18, four}
 use Rattle.sheet.proofs.Outcomes.{never-wrong}
 use Rattle.format.specs.declared.Refusal.the-variants.{WrongSection}
-use Rattle.format.specs.Kinds.{primitiveKind}
-use Rattle.format.proofs.Table.{not-primitive}
+use Rattle.kinds.specs.Kinds.{primitiveKind}
+use Rattle.kinds.proofs.Table.{not-primitive}
 use Rattle.format.proofs.Laws.{kind-there, Stood, Refuses}
 use Rattle.tally.specs.declared.Tally.{Tally}
 use Rattle.tally.specs.Tally.{countOf}

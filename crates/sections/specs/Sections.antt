@@ -11,7 +11,7 @@ use Rattle.sheet.specs.Kind.{points, methods, steps, certificates, sectionOf}
 use Rattle.sheet.specs.Record.{byteAt}
 use Rattle.sheet.specs.Reading.{nothing, Reading, tally, startsOf, full, methodRecord, twoOutcomesIn, ReadResult, whole, refusal, readOn}
 use Rattle.format.specs.declared.Refusal.{Refusal}
-use Rattle.format.specs.Kinds.{lastKind, twoOutcomeKind}
+use Rattle.kinds.specs.Kinds.{lastKind, twoOutcomeKind}
 use Rattle.format.specs.Refusal.{numberOf, placeOf}
 use Rattle.instrument.specs.declared.Limits.{Limits}
 use Rattle.instrument.specs.Model.{modelWith}

@@ -1,11 +1,11 @@
 // The tally of a sheet, which advances record by record.
 ghost use mathlib.Core.Path.{_≡_};
 ghost use Rattle.tally.specs.Tally.{countOf, Room, tallyAfter, nothingCounted};
-use format::kinds::CERTIFICATES;
-use format::kinds::CONDITIONS;
-use format::kinds::METHODS;
-use format::kinds::POINTS;
-use format::kinds::STEPS;
+use kinds::CERTIFICATES;
+use kinds::CONDITIONS;
+use kinds::METHODS;
+use kinds::POINTS;
+use kinds::STEPS;
 
 pub struct Tally {
     pub conditions: usize,

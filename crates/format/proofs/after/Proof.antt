@@ -2,7 +2,7 @@
 use mathlib.Core.Path.{sym, ap, _∙_}
 use native.Mathlib.Omega.{arith}
 use Rattle.sheet.specs.Kind.{bodyLength}
-use Rattle.format.proofs.Table.{body-le, no-body}
+use Rattle.kinds.proofs.Table.{body-le, no-body}
 use borrow.Author.Needs.{needs}
 use Rattle.format.proofs.after.Statement.{statement}
 use Rattle.format.proofs.after.Tie as tie

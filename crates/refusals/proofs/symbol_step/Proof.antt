@@ -5,7 +5,7 @@ use native.Mathlib.Omega.{arith}
 use lib.Dec.{leb}
 use borrow.Author.Tests.{lt-ltb, le-ltb, le-leb, lt-leb}
 use Rattle.sheet.specs.Model.{leafLimit}
-use Rattle.format.specs.Kinds.{leafKind}
+use Rattle.kinds.specs.Kinds.{leafKind}
 use Rattle.refusals.proofs.Laws.{leaves-le}
 use borrow.Author.Needs.{needs}
 use Rattle.refusals.proofs.symbol_step.Statement.{statement}

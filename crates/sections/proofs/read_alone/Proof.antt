@@ -13,7 +13,7 @@ use Rattle.sheet.specs.Record.{recordAt}
 use Rattle.sheet.specs.Reading.{Reading, allExist, ReadResult}
 use Rattle.sheet.proofs.Take.{next-lt}
 use Rattle.format.specs.declared.Refusal.{Refusal}
-use Rattle.format.specs.Kinds.{primitiveKind}
+use Rattle.kinds.specs.Kinds.{primitiveKind}
 use Rattle.format.proofs.Laws.{Stood, stood, Refuses, refused}
 use Rattle.instrument.specs.Model.{modelWith}
 use Rattle.refusals.specs.Editions.{stopFits}

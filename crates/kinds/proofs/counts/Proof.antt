@@ -1,8 +1,8 @@
 use mathlib.Core.Path.{sym, _∙_}
 use borrow.Author.Needs.{needs}
-use Rattle.format.proofs.Table.{low-counts, high-counts}
-use Rattle.format.proofs.kinds.counts.Statement.{statement}
-use Rattle.format.proofs.kinds.counts.Tie as tie
+use Rattle.kinds.proofs.Table.{low-counts, high-counts}
+use Rattle.kinds.proofs.counts.Statement.{statement}
+use Rattle.kinds.proofs.counts.Tie as tie
 
 returns : tie.Need-returns
 returns c = sym (low-counts (c .before .args .kind) (c .before .pre) (c .if1 .taken))

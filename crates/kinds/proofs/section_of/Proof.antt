@@ -1,9 +1,9 @@
 -- The tests are those of `section-is`, in its order.
 use native.Mathlib.Omega.{arith}
 use borrow.Author.Tests.{lt-ltb, le-ltb, eq-eqb, ne-eqb}
-use Rattle.format.proofs.Table.{section-is}
-use Rattle.format.proofs.kinds.section_of.Statement.{statement}
-use Rattle.format.proofs.kinds.section_of.Tie as tie
+use Rattle.kinds.proofs.Table.{section-is}
+use Rattle.kinds.proofs.section_of.Statement.{statement}
+use Rattle.kinds.proofs.section_of.Tie as tie
 
 returns : tie.Need-returns
 returns c =

@@ -1,8 +1,8 @@
 use mathlib.Core.Path.{sym}
-use Rattle.format.proofs.Table.{none-taken}
+use Rattle.kinds.proofs.Table.{none-taken}
 use borrow.Author.Needs.{needs}
-use Rattle.format.proofs.kinds.items_taken.Statement.{statement}
-use Rattle.format.proofs.kinds.items_taken.Tie as tie
+use Rattle.kinds.proofs.items_taken.Statement.{statement}
+use Rattle.kinds.proofs.items_taken.Tie as tie
 
 returns : tie.Need-returns
 returns c = search needs

@@ -10,7 +10,7 @@ use borrow.Author.Tests.{le-ltb, eqb-true, eqb-false, ne-eqb}
 use Rattle.sheet.specs.Kind.{conditions, points, methods, steps, certificates, a-set, a-place, Role, symbol, a-pair, counts, edition, Kind, a-kind, kinds, kindOf, sectionOf, widths, bodyLength}
 use Rattle.sheet.specs.Reading.{inCondition, allExist}
 use Rattle.sheet.proofs.Kind.{_and_, Numbered, numbered}
-use Rattle.format.specs.Kinds.{lastKind, countsOne, takesItems, primitiveKind}
+use Rattle.kinds.specs.Kinds.{lastKind, countsOne, takesItems, primitiveKind}
 
 -- P k of the row of each kind k
 pub by-rows : (P : ℕ → Kind → Type 0) → Numbered P kinds (a-kind 0 counts []) → (k : ℕ) → P k (kindOf k)

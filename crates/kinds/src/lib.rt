@@ -3,7 +3,7 @@ ghost use mathlib.Core.Path.{_≡_};
 ghost use Prim.Native.Nat.{_≤_};
 ghost use Rattle.sheet.specs.Kind.{kindOf, sectionOf};
 ghost use Rattle.sheet.specs.Reading.{inCondition};
-ghost use Rattle.format.specs.Kinds.{lastKind, countsOne, takesItems, leafKind, primitiveKind, twoOutcomeKind};
+ghost use Rattle.kinds.specs.Kinds.{lastKind, countsOne, takesItems, leafKind, primitiveKind, twoOutcomeKind};
 use bits::both;
 use bits::one_of;
 

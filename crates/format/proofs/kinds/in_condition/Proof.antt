@@ -1,9 +1,0 @@
-use Rattle.format.proofs.Table.{in-condition-is}
-use Rattle.format.proofs.kinds.in_condition.Statement.{statement}
-use Rattle.format.proofs.kinds.in_condition.Tie as tie
-
-returns : tie.Need-returns
-returns c = in-condition-is (c .args .kind) (c .pre)
-
-pub in-condition-spec : {M : Type 1} → statement M
-in-condition-spec = tie.close (tie.spec returns)
