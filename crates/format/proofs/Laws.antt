@@ -7,21 +7,25 @@ use Prim.Native.Nat.{ℕ, zero, suc, _+_, _-_, _≤_, _<_}
 use native.Mathlib.Omega.{arith}
 use lib.ListN.{length, getD}
 use lib.Dec.{T, ltb, leb, eqb}
-use borrow.Author.Tests.{ltb-true, ltb-false, leb-true, leb-false, lt-ltb, le-ltb, ne-eqb, eq-eqb, not-true, not-false}
+use borrow.Author.Tests.{ltb-true, ltb-false, leb-true, leb-false, lt-ltb, le-ltb, lt-leb, ne-eqb, eq-eqb}
 use Rattle.sheet.specs.Model.{Model}
 use Rattle.sheet.specs.Kind.{bodyLength}
 use Rattle.sheet.specs.Record.{byteAt, recordAt, nextAt}
 use Rattle.sheet.specs.Reading.{Reading, refusalOf}
 use Rattle.sheet.proofs.Take.{next-is}
 use Rattle.sheet.proofs.Order.{two, three}
+use Rattle.kinds.specs.declared.lengths.Length.the-variants.{Of, Nothing}
+use Rattle.kinds.specs.Kinds.{lastKind, isKnown}
+use Rattle.kinds.specs.Lengths.{lengthOf}
+use Rattle.kinds.proofs.Table.{body-le}
+use Rattle.kinds.proofs.EachByte.{known-out, known-in, length-out, nothing-out}
 use Rattle.fields.proofs.Laws.{byte-past}
 use Rattle.format.specs.declared.Refusal.{Refusal}
 use Rattle.format.specs.declared.Refusal.the-variants.{UnknownKind, BodyPastEnd}
 use Rattle.format.specs.declared.Found.{Found}
 use Rattle.format.specs.declared.Found.the-variants as found
 use Rattle.format.specs.Refusal.{numberOf, placeOf}
-use Rattle.format.specs.Found.{isKnown, foundAt, refusalAt}
-use Rattle.kinds.proofs.Table.{bodies, body-is}
+use Rattle.format.specs.Found.{foundAt, refusalAt}
 
 pub cond-by : {A : Type 0} (P : A → Type 0) (b : Bool) {x y : A} → (b ≡ true → P x) → (b ≡ false → P y) → P (cond b x y)
 cond-by P true f g = f refl
@@ -35,23 +39,9 @@ inside s at h = go (leb (length s) at) refl
     go true e = absurd (omega (arith, byte-past s at (leb-true (length s) at e)))
     go false e = leb-false (length s) at e
 
--- the body's length by the code's table
-pub by-table : {k i n : ℕ} → i ≡ k → n ≡ getD bodies (i - 1) 0 → 1 ≤ k → n ≡ bodyLength k
-by-table {i = zero} row body low = absurd (omega arith)
-by-table {i = suc j} row body low =
-    let one : suc j - 1 ≡ j = omega arith in
-    body ∙ ap (λ (i : ℕ). getD bodies i 0) one ∙ body-is (suc j) ∙ ap bodyLength row
-
 -- Kinds 1 to `kinds` --------------------------------------------------------------------------------------------------
 
-pub known-out : (kinds k : ℕ) → isKnown kinds k ≡ true → (1 ≤ k) × (k ≤ kinds)
-known-out kinds k e = go (ltb 0 k) refl e
-  where
-    go : (b : Bool) → ltb 0 k ≡ b → (b && leb k kinds) ≡ true → (1 ≤ k) × (k ≤ kinds)
-    go true low high = (ltb-true 0 k low, leb-true k kinds high)
-    go false low high = absurd (subst T (sym high) tt)
-
--- .. is the test of refusal 2
+-- known is what refusal 2 tests
 known-not-2 : (kinds k : ℕ) → isKnown kinds k ≡ true → (eqb k 0 || ltb kinds k) ≡ false
 known-not-2 kinds k e =
     let (low, high) = known-out kinds k e in
@@ -76,32 +66,38 @@ module _ (kinds : ℕ) (s : List ℕ) (at : ℕ) where
   unfolding foundAt
   found-is = refl
 
-  -- what the code has: the byte of kind, and whether it is known
-  module _ {k : ℕ} {b : Bool} (is : k ≡ byteAt s at) (tested : b ≡ isKnown kinds k) where
-    is-known : {x : Bool} → b ≡ x → isKnown kinds (byteAt s at) ≡ x
-    is-known e = ap (isKnown kinds) (sym is) ∙ sym tested ∙ e
+  -- what the code has: the byte of kind
+  module _ {k : ℕ} (is : k ≡ byteAt s at) where
+    unknown : isKnown kinds k ≡ false → found.NoRecord ≡ foundAt kinds s at
+    unknown e = sym (found-is ∙ simp (ap (isKnown kinds) (sym is) ∙ e))
 
-    pub unknown-kind : not b ≡ true → found.NoRecord ≡ foundAt kinds s at
-    unknown-kind e = sym (found-is ∙ simp (is-known (not-true b e)))
+    pub above-kinds : kinds < k → found.NoRecord ≡ foundAt kinds s at
+    above-kinds h = unknown (simp (lt-leb k kinds h, lt-ltb 0 k (omega arith)))
 
-    module _ (known : not b ≡ false) where
-      pub kind-bounds : (1 ≤ k) × (k ≤ kinds) × (at < length s)
-      kind-bounds =
-          let (low, high) = known-out kinds k (sym tested ∙ not-false b known) in
-          (low, high, inside s at (omega arith))
+    module _ (high : k ≤ kinds) where
+      pub no-length : kinds ≤ lastKind → lengthOf k ≡ Nothing → found.NoRecord ≡ foundAt kinds s at
+      no-length all e = unknown (ap (isKnown kinds) (nothing-out k e (omega arith)))
 
-      -- .. and the offset after the record
-      module _ {q : ℕ} (after : q ≡ at + 1 + bodyLength k) where
-        next-found : q ≡ nextAt s at
-        next-found = after ∙ ap (λ (k : ℕ). at + 1 + bodyLength k) is ∙ sym (next-is s at)
+      -- .. and its length
+      module _ {n : ℕ} (has : lengthOf k ≡ Of n) where
+        known : isKnown kinds (byteAt s at) ≡ true
+        known = ap (isKnown kinds) (sym is) ∙ known-in kinds k (length-out k n has .0) high
 
-        pub body-past-end : length s < q → found.NoRecord ≡ foundAt kinds s at
-        body-past-end h = sym (found-is ∙ simp (is-known (not-false b known), lt-ltb (length s) (nextAt s at) (omega (arith, next-found))))
+        pub room : (n ≤ 16) × (at < length s)
+        room =
+            let (low, last, body) = length-out k n has in
+            (omega (arith, body-le k), inside s at (omega arith))
 
-        pub whole-record : q ≤ length s → found.Record k q ≡ foundAt kinds s at
+        next-found : at + 1 + n ≡ nextAt s at
+        next-found = ap (λ (n : ℕ). at + 1 + n) (length-out k n has .2 ∙ ap bodyLength is) ∙ sym (next-is s at)
+
+        pub body-past-end : length s < at + 1 + n → found.NoRecord ≡ foundAt kinds s at
+        body-past-end h = sym (found-is ∙ simp (known, lt-ltb (length s) (nextAt s at) (omega (arith, next-found))))
+
+        pub whole-record : at + 1 + n ≤ length s → found.Record k (at + 1 + n) ≡ foundAt kinds s at
         whole-record h =
-            ap (λ (k : ℕ). found.Record k q) is ∙ ap (found.Record (byteAt s at)) next-found
-            ∙ sym (found-is ∙ simp (is-known (not-false b known), le-ltb (length s) (nextAt s at) (omega (arith, next-found))))
+            ap (λ (k : ℕ). found.Record k (at + 1 + n)) is ∙ ap (found.Record (byteAt s at)) next-found
+            ∙ sym (found-is ∙ simp (known, le-ltb (length s) (nextAt s at) (omega (arith, next-found))))
 
 -- To a reader of sections ---------------------------------------------------------------------------------------------
 

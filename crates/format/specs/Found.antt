@@ -1,18 +1,15 @@
 -- What stands at an offset: a record, or one of the refusals 2 and 3. Past the end the byte of kind is 0.
 use Prim.Native.Nat.{ℕ}
-use mathlib.Core.Bool.{Bool, cond, _&&_}
+use mathlib.Core.Bool.{cond}
 use mathlib.Core.List.{List}
 use lib.ListN.{length}
-use lib.Dec.{ltb, leb}
+use lib.Dec.{ltb}
 use Rattle.sheet.specs.Record.{byteAt, nextAt}
+use Rattle.kinds.specs.Kinds.{isKnown}
 use Rattle.format.specs.declared.Refusal.{Refusal}
 use Rattle.format.specs.declared.Refusal.the-variants.{UnknownKind, BodyPastEnd}
 use Rattle.format.specs.declared.Found.{Found}
 use Rattle.format.specs.declared.Found.the-variants.{Record, NoRecord}
-
--- the kinds from 1 to `kinds`
-abbrev pub isKnown : ℕ → ℕ → Bool
-isKnown kinds kind = ltb 0 kind && leb kind kinds
 
 unfoldable pub foundAt : ℕ → List ℕ → ℕ → Found
 unfolding nextAt

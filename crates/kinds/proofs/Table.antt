@@ -18,36 +18,13 @@ by-rows P rows = numbered P kinds (a-kind 0 counts []) rows
 
 -- Body lengths and sections -------------------------------------------------------------------------------------------
 
--- body lengths from kind 1 on, as the code's table has them
-abbrev pub bodies : List ℕ
-bodies = 4 ∷ 0 ∷ 0 ∷ 0 ∷ 0 ∷ 0 ∷ 6 ∷ 6 ∷ 10 ∷ 5 ∷ 6 ∷ 4 ∷ 5 ∷ 0 ∷ 10 ∷ 16 ∷ 8 ∷ 0 ∷ 2 ∷ []
-
-pub body-is : (k : ℕ) → getD (0 ∷ bodies) k 0 ≡ bodyLength k
-body-is =
-    by-rows (λ k x. getD (0 ∷ bodies) k 0 ≡ widths (x .fields))
-    (refl and refl and refl and refl and refl and refl and refl and refl and refl and refl and refl and refl and refl and refl and refl
-    and refl and refl and refl and refl and refl and (λ i. refl))
-
+-- the longest body
 pub body-le : (k : ℕ) → bodyLength k ≤ 16
 body-le =
     by-rows (λ k x. widths (x .fields) ≤ 16)
     (lit≤ tt and lit≤ tt and lit≤ tt and lit≤ tt and lit≤ tt and lit≤ tt and lit≤ tt and lit≤ tt
     and lit≤ tt and lit≤ tt and lit≤ tt and lit≤ tt and lit≤ tt and lit≤ tt and lit≤ tt and lit≤ tt and lit≤ tt and lit≤ tt
     and lit≤ tt and lit≤ tt and (λ i. lit≤ tt))
-
--- of the kinds of conditions, a leaf alone has a body
-pub no-body : (k : ℕ) → sectionOf k ≡ conditions → (k ≡ 1 → ⊥) → bodyLength k ≡ 0
-no-body =
-    by-rows (λ k x. x .section ≡ conditions → (k ≡ 1 → ⊥) → widths (x .fields) ≡ 0)
-    ((λ e n. refl) and (λ e n. absurd (n refl)) and none and none and none and none and none
-    and other and other and other and other and other and other and other and other and other and other and other and none and other
-    and (λ i e n. refl))
-  where
-    none : {A B : Type 0} → A → B → _≡_ {A = ℕ} 0 0
-    none e n = refl
-
-    other : {s w : ℕ} {B : Type 0} → suc (suc s) ≡ conditions → B → w ≡ 0
-    other e n = absurd (omega arith)
 
 -- sections by comparisons
 abbrev pub sectionByTests : ℕ → ℕ

@@ -1,12 +1,16 @@
--- What a kind is to the code: the last one; what its role says of a record; leaves, primitives, methods of two outcomes, calls.
+-- What a kind is to the code: the last one, and whether one is known; what its role says of a record; leaves, primitives, methods of two outcomes, calls.
 use Prim.Native.Nat.{ℕ}
-use mathlib.Core.Bool.{Bool, true, false, _||_}
-use lib.Dec.{eqb}
+use mathlib.Core.Bool.{Bool, true, false, _&&_, _||_}
+use lib.Dec.{eqb, ltb, leb}
 use Rattle.sheet.specs.Kind.{Role, symbol, a-pair, counts, edition}
 
 -- the last kind of the table
 abbrev pub lastKind : ℕ
 lastKind = 19
+
+-- the kinds from 1 to `kinds`
+abbrev pub isKnown : ℕ → ℕ → Bool
+isKnown kinds kind = ltb 0 kind && leb kind kinds
 
 -- whether a record of a role counts, and how many items it takes
 abbrev pub countsOne : Role → Bool

@@ -7,6 +7,8 @@ ghost use Rattle.kinds.specs.Kinds.{lastKind, countsOne, takesItems, lea
 use bits::both;
 use bits::one_of;
 
+pub mod lengths; // lengths.rt: the length of a body
+
 // The sections in their order, each called by what is counted in it.
 pub const CONDITIONS: u8 = 1;
 
@@ -52,6 +54,9 @@ pub const TWO_OUTCOME_CALL: u8 = 17;
 pub const EDITION: u8 = 18;
 
 pub const STOP: u8 = 19;
+
+// The last kind.
+const LAST: u8 = 19;
 
 pub fn section_of(kind: u8) -> u8
     requires { ⌜ (1 ≤ kind) × (kind ≤ lastKind) ⌝ }

@@ -1,0 +1,30 @@
+use mathlib.Core.Path.{_≡_, sym, ap}
+use native.Mathlib.Omega.{arith}
+use Rattle.sheet.specs.Kind.{bodyLength}
+use borrow.Author.Needs.{needs}
+use Rattle.kinds.proofs.lengths.later_length.Statement.{statement}
+use Rattle.kinds.proofs.lengths.later_length.Tie as tie
+
+one-outcome-length-requires : tie.Need-one-outcome-length-requires
+one-outcome-length-requires c κs = search needs
+
+returns : tie.Need-returns
+returns c = search needs
+
+two-outcome-length-requires : tie.Need-two-outcome-length-requires
+two-outcome-length-requires c κs = search needs
+
+returns-2 : tie.Need-returns-2
+returns-2 c = search needs
+
+returns-3 : tie.Need-returns-3
+returns-3 c = search needs
+
+returns-4 : tie.Need-returns-4
+returns-4 c =
+    let is : c .before .before .before .args .kind ≡ 19 = omega arith in
+    sym (ap bodyLength is)
+
+pub later-length-spec : {M : Type 1} → statement M
+later-length-spec =
+    tie.close (tie.spec one-outcome-length-requires returns two-outcome-length-requires returns-2 returns-3 returns-4)

@@ -1,0 +1,27 @@
+use mathlib.Core.Path.{_≡_, sym, ap}
+use native.Mathlib.Omega.{arith}
+use Rattle.sheet.specs.Kind.{bodyLength}
+use Rattle.kinds.proofs.EachByte.{three-names}
+use borrow.Author.Needs.{needs}
+use Rattle.kinds.proofs.lengths.one_outcome_length.Statement.{statement}
+use Rattle.kinds.proofs.lengths.one_outcome_length.Tie as tie
+
+returns : tie.Need-returns
+returns c = search needs
+
+returns-2 : tie.Need-returns-2
+returns-2 c = three-names (c .before .before .args .kind) (omega arith) (omega arith)
+
+returns-3 : tie.Need-returns-3
+returns-3 c = search needs
+
+returns-4 : tie.Need-returns-4
+returns-4 c = search needs
+
+returns-5 : tie.Need-returns-5
+returns-5 c =
+    let is : c .before .before .before .args .kind ≡ 12 = omega arith in
+    sym (ap bodyLength is)
+
+pub one-outcome-length-spec : {M : Type 1} → statement M
+one-outcome-length-spec = tie.close (tie.spec returns returns-2 returns-3 returns-4 returns-5)
