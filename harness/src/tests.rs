@@ -3,6 +3,7 @@ mod certificates;
 #[cfg(feature = "library")]
 mod doors;
 mod instruments;
+mod kinds;
 mod outcomes;
 mod reading;
 mod runs;
