@@ -35,8 +35,8 @@ fn length(on: &Instrument, kind: u8) -> Option<usize> {
     Some(length)
 }
 
-/// What stands in front of a kind: nothing, an open condition, a sheet of either
-/// edition up to its methods, and the same up to its first pair.
+/// What stands in front of a kind: nothing, an open condition, the mark of the new
+/// edition, a sheet of either edition up to its methods, and up to its first pair.
 fn fronts() -> Vec<Vec<u8>> {
     let old = least();
     let new = [&[18], &old[..]].concat();
