@@ -1,5 +1,6 @@
 """Tests of document 02, Ask 7: the length of each kind's body is a decision."""
 import re
+import struct
 import unittest
 from hashlib import sha256
 from unittest.mock import patch
@@ -150,8 +151,8 @@ class AsBefore(unittest.TestCase):
 
 
 class Source(unittest.TestCase):
-    """No array stands in the code of records: each bracket is behind what it is an
-    index of, or is that of a slice's type; and there is no string of bytes."""
+    """No array stands in the code of kinds and records: each bracket is behind what it
+    is an index of, or is that of a slice's type; and there is no string of bytes."""
     ARRAY = re.compile(r'(?<![\w)\]])\[(?![a-z]\w*\])|b"')
 
     def arrays(self, text):
@@ -171,10 +172,81 @@ class Source(unittest.TestCase):
             self.assertEqual(self.arrays(line), [])
 
     def test_no_array(self):
-        files = sorted((CRATES / "format" / "src").rglob("*.rt"))
-        self.assertIn("lib.rt", [path.name for path in files])
+        files = [path for crate in ("kinds", "format")
+                 for path in sorted((CRATES / crate / "src").rglob("*.rt"))]
+        self.assertIn("lengths.rt", [path.name for path in files])
         for path in files:
             self.assertEqual(self.arrays(path.read_text()), [], path.name)
+
+
+def members(data):
+    """The files of an archive, or the one file."""
+    if not data.startswith(b"!<arch>\n"):
+        yield data
+        return
+    at = 8
+    while at < len(data):
+        size = int(data[at + 48:at + 58])
+        yield data[at + 60:at + 60 + size]
+        at += 60 + size + size % 2
+
+
+def loaded(data):
+    """Code and data of an ELF file: the bytes of each section that is loaded."""
+    if not data.startswith(b"\x7fELF"):
+        return
+    table, = struct.unpack_from("<Q", data, 40)
+    size, count = struct.unpack_from("<HH", data, 58)
+    for at in range(table, table + size * count, size):
+        kind, flags, _, start, length = struct.unpack_from("<LQQQQ", data, at + 4)
+        if kind == 1 and flags & 2:
+            yield data[start:start + length]
+
+
+class Built(unittest.TestCase):
+    """Nor does the compiler make an array of the decision: what is built holds no
+    lengths in a row, of numbers of 1, 2, 4 or 8 bytes, in code or in data. So that none
+    is found by chance, single bytes are looked for in rows of four, and numbers of 2
+    and of 4 bytes, which wider ones hold, in rows without 0."""
+    FILES = ("bin/load", "bin/word_test", "staticlib/libsheet_loader.a")
+
+    @staticmethod
+    def rows():
+        """Each row of lengths, with the size of its numbers."""
+        for size, count, zeros in ((1, 4, 1), (2, 3, 0), (4, 3, 0), (8, 3, 1)):
+            for first in range(1, len(LENGTHS) - count + 2):
+                row = [LENGTHS[first + index] for index in range(count)]
+                if row.count(0) <= zeros:
+                    yield size, row
+
+    def found(self, data):
+        """The rows that stand in the bytes."""
+        return [(size, row) for size, row in self.rows()
+                if b"".join(number.to_bytes(size, "little") for number in row) in data]
+
+    def test_rows_are_found(self):
+        """An array of all lengths, as data and as a constant of an instruction, and
+        the least that a compiler makes."""
+        for size in (1, 2, 4, 8):
+            data = b"".join(LENGTHS[kind].to_bytes(size, "little")
+                            for kind in sorted(LENGTHS))
+            self.assertEqual(self.found(data),
+                             [row for row in self.rows() if row[0] == size])
+        self.assertTrue(self.found((0x50406050A0606).to_bytes(8, "little")))
+        self.assertTrue(self.found(b"".join(n.to_bytes(8, "little") for n in (8, 0, 2))))
+        self.assertEqual(self.found(bytes(range(256)) + bytes(64)), [])
+
+    def test_no_row(self):
+        files = [CRATES.parent / "target" / name for name in self.FILES]
+        files = [path for path in files if path.is_file()]
+        if not files:
+            self.skipTest("not built")
+        for path in files:
+            sections = [section for member in members(path.read_bytes())
+                        for section in loaded(member)]
+            self.assertGreater(sum(map(len, sections)), 10_000, path.name)
+            for section in sections:
+                self.assertEqual(self.found(section), [], path.name)
 
 
 if __name__ == "__main__":
