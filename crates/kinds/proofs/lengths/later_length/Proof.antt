@@ -18,7 +18,7 @@ returns-2 : tie.Need-returns-2
 returns-2 c = search needs
 
 returns-3 : tie.Need-returns-3
-returns-3 c = search needs
+returns-3 c = sym (ap bodyLength (c .if3 .taken))
 
 returns-4 : tie.Need-returns-4
 returns-4 c =

@@ -2,21 +2,20 @@ use mathlib.Core.Path.{_≡_, sym, ap}
 use native.Mathlib.Omega.{arith}
 use Rattle.sheet.specs.Kind.{bodyLength}
 use Rattle.kinds.proofs.EachByte.{three-names}
-use borrow.Author.Needs.{needs}
 use Rattle.kinds.proofs.lengths.one_outcome_length.Statement.{statement}
 use Rattle.kinds.proofs.lengths.one_outcome_length.Tie as tie
 
 returns : tie.Need-returns
-returns c = search needs
+returns c = sym (ap bodyLength (c .if2 .taken))
 
 returns-2 : tie.Need-returns-2
 returns-2 c = three-names (c .before .before .args .kind) (omega arith) (omega arith)
 
 returns-3 : tie.Need-returns-3
-returns-3 c = search needs
+returns-3 c = sym (ap bodyLength (c .if3 .taken))
 
 returns-4 : tie.Need-returns-4
-returns-4 c = search needs
+returns-4 c = sym (ap bodyLength (c .if4 .taken))
 
 returns-5 : tie.Need-returns-5
 returns-5 c =

@@ -1,7 +1,6 @@
 use mathlib.Core.Path.{_≡_, sym, ap}
 use native.Mathlib.Omega.{arith}
 use Rattle.sheet.specs.Kind.{bodyLength}
-use borrow.Author.Needs.{needs}
 use Rattle.kinds.proofs.lengths.two_outcome_length.Statement.{statement}
 use Rattle.kinds.proofs.lengths.two_outcome_length.Tie as tie
 
@@ -11,10 +10,10 @@ returns c =
     sym (ap bodyLength is)
 
 returns-2 : tie.Need-returns-2
-returns-2 c = search needs
+returns-2 c = sym (ap bodyLength (c .if2 .taken))
 
 returns-3 : tie.Need-returns-3
-returns-3 c = search needs
+returns-3 c = sym (ap bodyLength (c .if3 .taken))
 
 returns-4 : tie.Need-returns-4
 returns-4 c =
