@@ -839,7 +839,7 @@ class Proofs(unittest.TestCase):
     def test_activations(self):
         sheet = (EXAMPLES / "activations.sheet").read_bytes()
         self.assertEqual(sheet, self.bytes_of(
-            "sheet", "verdict/proofs/Activations.antt",
+            "sheet", "judged_sheets/proofs/Activations.antt",
             "verdict/specs/Cases.antt"))
 
 

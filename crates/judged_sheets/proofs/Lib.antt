@@ -1,3 +1,4 @@
+mod Activations
 pub mod Failing
 pub mod FailingRuns
 pub mod Stopping

@@ -77,9 +77,16 @@ at-edition : AsBefore replyOf 17 large (0x12 ∷ []) (verdictOf (withKinds 17 la
 unfolding verdictOf byteAt
 at-edition = of-new-kind {at = 0} (omega arith) (omega arith) refl
 
-without-new-kinds : AsBefore replyOf 14 large M (verdictOf (former large) M) (verdictOf large M)
+M-before : verdictOf (former large) M ≡ accepted 6
 unfolding verdictOf
-without-new-kinds = the-same-answer refl
+M-before = refl
+
+M-since : verdictOf large M ≡ accepted 6
+unfolding verdictOf
+M-since = refl
+
+without-new-kinds : AsBefore replyOf 14 large M (verdictOf (former large) M) (verdictOf large M)
+without-new-kinds = the-same-answer (M-before ∙ sym M-since)
 
 -- Sheets without the kinds of a request ---------------------------------------------------------------------------------------
 

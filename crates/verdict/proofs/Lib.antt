@@ -6,7 +6,6 @@ pub mod Loads
 pub mod Facts
 pub mod Bytes
 pub mod Loop
-pub mod Activations
 pub mod WordTest
 pub mod Cases
 pub mod Examples
