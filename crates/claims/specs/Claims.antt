@@ -20,6 +20,11 @@ use Rattle.claims.specs.declared.Asked.the-variants.{Claim as AClaim, No
 use Rattle.claims.specs.declared.forms.Raised.{Raised}
 use Rattle.claims.specs.declared.forms.Raised.the-variants.{Nothing, Word}
 
+-- the name is that of rule n about the method or step k
+pub record RuleIs (x : Rule) (n k : ℕ) : Type 0 where
+  pub number-is : ruleNumber x ≡ n
+  pub subject-is : ruleSubject x ≡ k
+
 -- the rule that a name and a claim make
 infix 20 _says_
 abbrev pub _says_ : Rule → runs.Claim → runs.Rule

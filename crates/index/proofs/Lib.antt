@@ -1,4 +1,5 @@
 pub mod Indexed
+pub mod There
 pub mod Named
 mod Called
 pub mod Read

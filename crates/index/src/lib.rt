@@ -16,6 +16,8 @@ use format::values::failed_at;
 use format::values::method_at;
 use format::values::point_at;
 
+pub mod ways; // ways.rt: ways of returning, and what a call enters
+
 // The conditions of a point, by the offsets where they stand. An offset has four bytes, as in the tables: a subject's conditions are copied from claim to
 // claim.
 pub struct PointConditions {

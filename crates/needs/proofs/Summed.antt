@@ -13,7 +13,7 @@ use Rattle.verdict.specs.Verdict.{needed, certificatesNeeded}
 use Rattle.claims.specs.Claims.{NthIs}
 use Rattle.format.specs.declared.values.Body.{Body}
 use Rattle.format.specs.Values.{bodyValue}
-use Rattle.rule_claims.proofs.Ways.{failedRules}
+use Rattle.method_claims.proofs.FailedExit.{failedRules}
 use Rattle.rules.specs.declared.order.Counts.{Counts}
 use Rattle.rules.specs.Order.{groups, mostRules, together, SheetIn}
 use Rattle.rules.proofs.Groups.{next-together, rules-few}

@@ -14,8 +14,8 @@ use Rattle.sheet.specs.Sheet.{failed, Body, Method, Step, event-step, call-step
 use Rattle.sheet.proofs.Each.{each-append}
 use Rattle.runs.specs.Rules.{Rule, ifAny, isAmong, firstRules, failedExitRules, methodRules, returnRules, entryAsked, entryRules, stepRules, firstsRules, methodsRules, stepsRules, rulesFrom, rules}
 use Rattle.claims.specs.Claims.{NthIs}
-use Rattle.rule_claims.proofs.Kth.{nth-first, nth-from}
-use Rattle.rule_claims.proofs.Ways.{failedRules}
+use Rattle.claims.proofs.Kth.{nth-first, nth-from}
+use Rattle.method_claims.proofs.FailedExit.{failedRules}
 use Rattle.rules.specs.Order.{methodGroups, stepGroups, groupsFrom, groups, mostRules, together}
 
 module _ {A : Type 0} where

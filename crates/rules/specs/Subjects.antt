@@ -11,10 +11,10 @@ use Rattle.index.specs.declared.PointConditions.{PointConditions}
 use Rattle.index.specs.declared.MethodConditions.{MethodConditions}
 use Rattle.index.specs.Indexed.{PointIs, MethodIs}
 use Rattle.postfix.specs.Parts.{StandsAt}
-use Rattle.rule_claims.specs.declared.Way.{Way}
-use Rattle.rule_claims.specs.declared.Failing.{Failing}
-use Rattle.rule_claims.specs.declared.Entered.{Entered}
-use Rattle.rule_claims.specs.Ways.{WayIs, FailingIs, EnteredIs}
+use Rattle.index.specs.declared.ways.Way.{Way}
+use Rattle.index.specs.declared.ways.Failing.{Failing}
+use Rattle.index.specs.declared.ways.Entered.{Entered}
+use Rattle.index.specs.Ways.{WayIs, FailingIs, EnteredIs}
 use Rattle.rules.specs.declared.subjects.Subject.{Subject}
 use Rattle.rules.specs.declared.subjects.Subject.the-variants.{First, Body, Event, Call, Pass, Stop, None}
 

@@ -10,7 +10,7 @@ ghost use Rattle.runs.specs.Rules as runs;
 ghost use Rattle.runs.specs.Rules.{isAmong, methodRules, entryAsked, stepRules};
 ghost use Rattle.format.specs.Values.{bodyValue, callValue};
 ghost use Rattle.index.specs.Indexed.{Indexes, PointIn, FailedIn, OutcomeIs};
-ghost use Rattle.rule_claims.specs.Ways.{WayIs, FailingIs, EnteredIs};
+ghost use Rattle.index.specs.Ways.{WayIs, FailingIs, EnteredIs};
 ghost use Rattle.claims.specs.Claims.{NthIs};
 ghost use Rattle.rules.specs.Subjects.{SubjectIs};
 ghost use Rattle.rules.specs.Order.{SheetIn, groups};
@@ -27,9 +27,9 @@ use index::entry_asked;
 use index::failed_of;
 use index::method_of;
 use index::point_of;
-use rule_claims::Entered;
-use rule_claims::Failing;
-use rule_claims::Way;
+use index::ways::Entered;
+use index::ways::Failing;
+use index::ways::Way;
 
 // How many methods and steps a sheet has.
 pub struct Counts {

@@ -8,15 +8,15 @@ ghost use Rattle.rules.specs.Subjects.{SubjectIs};
 use claims::Asked;
 use index::MethodConditions;
 use index::PointConditions;
-use rule_claims::Entered;
-use rule_claims::Failing;
-use rule_claims::Way;
-use rule_claims::body_claim;
-use rule_claims::call_claim;
-use rule_claims::event_claim;
-use rule_claims::first_claim;
-use rule_claims::pass_claim;
-use rule_claims::stop_claim;
+use index::ways::Entered;
+use index::ways::Failing;
+use index::ways::Way;
+use method_claims::body_claim;
+use method_claims::first_claim;
+use step_claims::call_claim;
+use step_claims::event_claim;
+use step_claims::pass_claim;
+use step_claims::stop_claim;
 
 // A method that runs start at, a method with its body, or a step; a primitive has no rules.
 pub enum Subject {

@@ -3,9 +3,9 @@ use mathlib.Core.Option.{Option}
 use mathlib.Core.List.{List}
 use Prim.Native.Nat.{ℕ}
 use Rattle.sheet.specs.Sheet.{Sheet}
-use Rattle.rule_claims.specs.declared.Entered.{Entered}
-use Rattle.rule_claims.specs.declared.Entered.the-variants.{Unasked, Due}
-use Rattle.rule_claims.specs.Ways.{EnteredIs}
+use Rattle.index.specs.declared.ways.Entered.{Entered}
+use Rattle.index.specs.declared.ways.Entered.the-variants.{Unasked, Due}
+use Rattle.index.specs.Ways.{EnteredIs}
 use Rattle.index.specs.Indexed.{entryValue}
 use Rattle.index.proofs.Indexed.{point-in, called-in, entry-named}
 use borrow.Author.Needs.{needs}

@@ -1,5 +1,5 @@
 use native.Mathlib.Omega.{arith}
-use Rattle.rule_claims.proofs.Kth.{kth-as, kth-done}
+use Rattle.claims.proofs.Kth.{kth-as, kth-done}
 use Rattle.rules.proofs.Told.{told}
 use borrow.Author.Needs.{needs}
 use Rattle.rules.proofs.subjects.claim_of.Statement.{statement}

@@ -1,2 +1,0 @@
-pub mod Kth
-pub mod Ways
