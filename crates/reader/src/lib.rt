@@ -6,6 +6,7 @@ ghost use Rattle.kinds.specs.Kinds.{lastKind};
 ghost use Rattle.instrument.specs.Model.{modelOf, modelWith};
 ghost use Rattle.sections.specs.Sections.{addressable};
 ghost use Rattle.reader.specs.Contract.{Answered, Reads};
+use condition_section::read_conditions;
 use format::Refusal;
 use instrument::Instrument;
 use instrument::Limits;
@@ -17,7 +18,6 @@ use sections::Read;
 use sections::Section;
 use sections::read_alone;
 use sections::read_certificates;
-use sections::read_conditions;
 use tally::nothing_counted;
 
 // The sheet, by the limits of an instrument.

@@ -4,6 +4,4 @@ pub mod Counted
 pub mod Tests
 pub mod Outcomes
 pub mod Alone
-pub mod Opening
-pub mod Marked
 pub mod Ending

@@ -1,10 +1,10 @@
-// The section readers: each goes over the records of its section, counts them, and fills a table with their offsets.
+// The section readers behind that of the conditions: each goes over the records of its section, counts them, and fills a table with their offsets.
 ghost use mathlib.Core.Path.{_≡_};
 ghost use mathlib.Core.List.{[]};
 ghost use Prim.Native.Nat.{suc, _≤_};
 ghost use lib.ListN.{length};
 ghost use lib.Dec.{eqb};
-ghost use Rattle.sheet.specs.Kind.{conditions, points, methods, certificates};
+ghost use Rattle.sheet.specs.Kind.{methods, certificates};
 ghost use Rattle.sheet.specs.Reading.{Reading, ReadResult};
 ghost use Rattle.kinds.specs.Kinds.{lastKind};
 ghost use Rattle.instrument.specs.Model.{modelWith};
@@ -16,18 +16,11 @@ use format::record_at;
 use format::refusal_at;
 use instrument::Limits;
 use kinds::CERTIFICATES;
-use kinds::CONDITIONS;
-use kinds::EDITION;
 use kinds::counts;
-use kinds::in_condition;
 use kinds::is_primitive;
 use kinds::section_of;
-use refusals::Stepped;
-use refusals::condition_step;
-use refusals::editions::past_mark;
 use refusals::editions::stop_fits;
 use refusals::names::names_exist;
-use refusals::nothing_begun;
 use refusals::outcomes::outcomes_fit;
 use tally::Tally;
 use tally::past;
@@ -51,48 +44,6 @@ pub enum Section {
 
 // The section readers. Each starts where the section before ended, and tells where its own ends, or the refusal that ends reading (`Told`),
 // whatever was counted before the sheet. A table holds each offset in four bytes.
-
-// The conditions, behind the mark of the edition. One is stored with its start, when its end comes.
-pub fn read_conditions(s: &[u8], limits: Limits, given: Tally, table: &mut [u32; 256]) -> Section
-    requires { ⌜ (limits .kinds ≤ lastKind) × (length (now s) ≤ addressable) ⌝ }
-    ensures { λ r. ⌜ ((o : ReadResult) (u : Reading) → Told (modelWith limits) (now (s .entry)) o 0 (Section.Done 0 given) u → u .own conditions ≡ []
-        → Filled (modelWith limits) (now (s .entry)) o points r conditions u (now (table .entry)) (now (table .exit))) ⌝ }
-{
-    let mut at = past_mark(s, limits.kinds);
-    let mut start = at;
-    let mut begun = nothing_begun();
-    let mut tally = given;
-    while at < s.len() {
-        let got = record_at(s, limits.kinds, at);
-        let Found::Record { kind, next } = got else {
-            return Section::Refused(refusal_at(s, limits.kinds, at));
-        };
-        if !in_condition(kind) {
-            if 0 < begun.symbols {
-                return Section::Refused(Refusal::WrongSection(at));
-            }
-            if kind == EDITION {
-                return Section::Refused(Refusal::EditionNotFirst(at));
-            }
-            return Section::Done { at, tally };
-        }
-        let n = tally.conditions;
-        match condition_step(begun, kind, n, at) {
-            Stepped::Refused(x) => return Section::Refused(x),
-            Stepped::On(more) => begun = more,
-        }
-        if counts(kind) {
-            table[n] = start as u32;
-            tally = past(tally, CONDITIONS);
-            start = next;
-        }
-        at = next;
-    }
-    if 0 < begun.symbols {
-        return Section::Refused(Refusal::Unfinished(s.len()));
-    }
-    Section::Done { at, tally }
-}
 
 // The points, the methods or the steps, at most `limit` of them. Each record counts by itself. Steps name methods, whose offsets are in `methods`.
 pub fn read_alone(

@@ -17,12 +17,12 @@ use Rattle.refusals.specs.declared.Begun.{Begun}
 use Rattle.refusals.specs.Step.{nothingBegun}
 use Rattle.refusals.specs.Editions.{pastMark}
 use Rattle.tally.specs.declared.Tally.{Tally}
 use Rattle.sections.specs.declared.Section.the-variants.{Done}
 use Rattle.sections.specs.Sections.{Told}
 use Rattle.sections.proofs.Comes.{taken-on}
 use Rattle.sections.proofs.Counted.{counts-same, grown-same}
 use Rattle.sections.proofs.Alone as alone
-use Rattle.sections.proofs.Opening.{Matches, nothing-matches, Opening}
+use Rattle.condition_section.proofs.Opening.{Matches, nothing-matches, Opening}
 
 module _ {M : Model} {s : List ℕ} {o : ReadResult} {r : Reading} {t : Tally} (table : List ℕ) (told : Told M s o 0 (Done 0 t) r) (none : r .own 1 ≡ []) where
   abbrev Starts : ℕ → Type 0

@@ -16,12 +16,12 @@ use Rattle.format.proofs.Laws.{Stood, stood, Refuses, refused}
 use Rattle.instrument.specs.Model.{modelWith}
 use Rattle.refusals.specs.Step.{Modest, endsOne}
 use Rattle.refusals.proofs.Laws.{modest-past}
 use Rattle.sections.specs.declared.Section.the-variants.{Done}
 use Rattle.sections.specs.Sections.{Told}
-use Rattle.sections.proofs.Opening.{Opening, all-read, unfinished, ends, second-mark, later-section, still-open, no-step, past-symbol, past-end}
-use Rattle.sections.proofs.Marked.{begin}
-use Rattle.sections.proofs.read_conditions.Statement.{statement}
-use Rattle.sections.proofs.read_conditions.Tie as tie
+use Rattle.condition_section.proofs.Opening.{Opening, all-read, unfinished, ends, second-mark, later-section, still-open, no-step, past-symbol, past-end}
+use Rattle.condition_section.proofs.Marked.{begin}
+use Rattle.condition_section.proofs.read_conditions.Statement.{statement}
+use Rattle.condition_section.proofs.read_conditions.Tie as tie
 
 abbrev Inv-loop : tie.InvT-loop
 Inv-loop s limits table₀ at₀ start₀ begun₀ tally₀ table at start begun tally = Modest begun × (start ≤ at)
