@@ -2,4 +2,3 @@ pub mod Refusal
 pub mod Found
 pub mod Pairs
 pub mod Symbols
-pub mod Values

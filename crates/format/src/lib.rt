@@ -12,7 +12,6 @@ use kinds::lengths::body_length;
 
 pub mod listing; // listing.rt: the pairs of a certificate
 pub mod symbols; // symbols.rt: the symbols of a condition
-pub mod values; // values.rt: points, methods and steps as values
 
 // The refusals 1 to 10 and 12 to 14 of document 01 and 18 to 20 of document 02, with their places; specs/Refusal gives each its number.
 pub enum Refusal {

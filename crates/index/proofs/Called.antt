@@ -11,8 +11,8 @@ use Rattle.sheet.specs.Sheet.{Sheet, bodyIn, body, entryIn}
 use Rattle.sheet.specs.AtOffset.{methodAt}
 use Rattle.sheet.specs.Reading.{isNew}
 use Rattle.runs.specs.Rules.{entryAsked}
-use Rattle.format.specs.declared.values.Method.{Method}
-use Rattle.format.specs.Values.{methodValue}
+use Rattle.values.specs.declared.Method.{Method}
+use Rattle.values.specs.Values.{methodValue}
 use Rattle.index.specs.Indexed.{CalledIn}
 
 module _ {S : Sheet} {s methods : List ℕ} {m : ℕ} (x : CalledIn S s methods m) {new : Bool} (told : new ≡ isNew s) where

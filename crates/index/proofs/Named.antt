@@ -7,10 +7,10 @@ use Rattle.condition.specs.Condition.{Condition}
 use Rattle.sheet.specs.Sheet as sheet
 use Rattle.sheet.specs.Sheet.{normal, failed, Sheet, past, own, due, pre}
 use Rattle.sheet.specs.AtOffset.{pointAt, methodAt}
-use Rattle.format.specs.declared.values.Point.{Point}
-use Rattle.format.specs.declared.values.Declared.{Declared}
-use Rattle.format.specs.declared.values.Declaration.{Declaration}
-use Rattle.format.specs.Values.{pointValue, declaredValue, Declares, DeclaresFailed}
+use Rattle.values.specs.declared.Point.{Point}
+use Rattle.values.specs.declared.Declared.{Declared}
+use Rattle.values.specs.declared.Declaration.{Declaration}
+use Rattle.values.specs.Values.{pointValue, declaredValue, Declares, DeclaresFailed}
 use Rattle.index.specs.Indexed.{ConditionIn, PointIn, DeclaredIn, MethodIn, FailedIn}
 
 -- the numbers a, b and c are those of the conditions x, y and z

@@ -5,16 +5,16 @@ ghost use Prim.Native.Nat.{ℕ};
 ghost use Rattle.sheet.specs.Sheet.{Outcome, failed, Sheet};
 ghost use Rattle.condition.specs.Condition.{Condition};
 ghost use Rattle.runs.specs.Rules.{entryAsked};
-ghost use Rattle.format.specs.Values.{declaredValue};
+ghost use Rattle.values.specs.Values.{declaredValue};
 ghost use Rattle.postfix.specs.Parts.{StandsAt};
 ghost use Rattle.index.specs.Indexed.{ConditionIn, PointIn, DeclaredIn, MethodIn, FailedIn, CalledIn, entryValue, PointIs, MethodIs, OutcomeIs};
 use format::is_new;
-use format::values::Declared;
-use format::values::Method;
-use format::values::declaration_at;
-use format::values::failed_at;
-use format::values::method_at;
-use format::values::point_at;
+use values::Declared;
+use values::Method;
+use values::declaration_at;
+use values::failed_at;
+use values::method_at;
+use values::point_at;
 
 pub mod ways; // ways.rt: ways of returning, and what a call enters
 

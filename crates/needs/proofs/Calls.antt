@@ -11,8 +11,8 @@ use Rattle.sheet.specs.AtOffset.{stepAt}
 use Rattle.sheet.specs.Names.{StepNamed}
 use Rattle.runs.specs.Rules.{Rule, _of_says_, _isIn_, ifAny, returnRules, entryAsked, entryRules, stepRules, howMany, total}
 use Rattle.verdict.specs.Verdict.{certificatesNeeded}
-use Rattle.format.specs.declared.values.Step.{Step}
-use Rattle.format.specs.Values.{stepValue}
+use Rattle.values.specs.declared.Step.{Step}
+use Rattle.values.specs.Values.{stepValue}
 use Rattle.index.specs.declared.Entry.{Entry}
 use Rattle.index.specs.declared.Entry.the-variants.{Unasked, At}
 use Rattle.index.specs.Indexed.{entryValue}

@@ -11,8 +11,8 @@ use Rattle.sheet.specs.Sheet.{Sheet}
 use Rattle.runs.specs.Rules.{Claim, _isIn_, holdsEmpty, Rule, isAmong, methodRules, total}
 use Rattle.verdict.specs.Verdict.{needed, certificatesNeeded}
 use Rattle.claims.specs.Claims.{NthIs}
-use Rattle.format.specs.declared.values.Body.{Body}
-use Rattle.format.specs.Values.{bodyValue}
+use Rattle.values.specs.declared.Body.{Body}
+use Rattle.values.specs.Values.{bodyValue}
 use Rattle.method_claims.proofs.FailedExit.{failedRules}
 use Rattle.rules.specs.declared.order.Counts.{Counts}
 use Rattle.rules.specs.Order.{groups, mostRules, together, SheetIn}

@@ -6,18 +6,18 @@ ghost use Rattle.sheet.specs.Sheet.{Sheet};
 ghost use Rattle.runs.specs.Rules as runs;
 ghost use mathlib.Core.Path.{_≡_};
 ghost use Rattle.runs.specs.Rules.{ifAny, isAmong, methodRules, entryRules, stepRules, rules};
-ghost use Rattle.format.specs.Values.{methodValue, stepValue};
+ghost use Rattle.values.specs.Values.{methodValue, stepValue};
 ghost use Rattle.index.specs.Indexed.{entryValue};
 ghost use Rattle.claims.specs.Claims.{NthIs};
 ghost use Rattle.rules.specs.Order.{SheetIn, groups};
 ghost use Rattle.needs.specs.Needs.{Needed, oneEach, CallIn};
-use format::values::Method;
-use format::values::Step;
-use format::values::method_at;
-use format::values::step_at;
 use index::Entry;
 use index::entry_asked;
 use rules::order::Counts;
+use values::Method;
+use values::Step;
+use values::method_at;
+use values::step_at;
 
 // How many rules there are, and how many certificates they need.
 pub struct Needs {

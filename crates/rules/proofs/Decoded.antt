@@ -9,9 +9,9 @@ use Rattle.sheet.specs.Sheet.{Sheet, body}
 use Rattle.sheet.specs.AtOffset.{methodAt, stepAt}
 use Rattle.sheet.specs.Names.{BodyNamed, StepNamed, TargetsFit, EventBelow}
 use Rattle.runs.specs.Rules.{methodRules, stepRules}
-use Rattle.format.specs.declared.values.Method.{Method}
-use Rattle.format.specs.declared.values.Step.{Step}
-use Rattle.format.specs.Values.{methodValue, stepValue}
+use Rattle.values.specs.declared.Method.{Method}
+use Rattle.values.specs.declared.Step.{Step}
+use Rattle.values.specs.Values.{methodValue, stepValue}
 use Rattle.index.specs.Indexed.{Indexes, FailedIn}
 use Rattle.index.proofs.Indexed.{failed-in, body-is, body-named, step-named, target-fits, event-fits}
 

@@ -8,19 +8,13 @@ ghost use Rattle.sheet.specs.AtOffset.{stepAt};
 ghost use Rattle.sheet.specs.Sheet.{Outcome, call-step, Sheet, body};
 ghost use Rattle.runs.specs.Rules as runs;
 ghost use Rattle.runs.specs.Rules.{isAmong, methodRules, entryAsked, stepRules};
-ghost use Rattle.format.specs.Values.{bodyValue, callValue};
+ghost use Rattle.values.specs.Values.{bodyValue, callValue};
 ghost use Rattle.index.specs.Indexed.{Indexes, PointIn, FailedIn, OutcomeIs};
 ghost use Rattle.index.specs.Ways.{WayIs, FailingIs, EnteredIs};
 ghost use Rattle.claims.specs.Claims.{NthIs};
 ghost use Rattle.rules.specs.Subjects.{SubjectIs};
 ghost use Rattle.rules.specs.Order.{SheetIn, groups};
 use crate::subjects::Subject;
-use format::values::Body;
-use format::values::CallStep;
-use format::values::Method;
-use format::values::Step;
-use format::values::method_at;
-use format::values::step_at;
 use index::Entry;
 use index::OutcomeConditions;
 use index::entry_asked;
@@ -30,6 +24,12 @@ use index::point_of;
 use index::ways::Entered;
 use index::ways::Failing;
 use index::ways::Way;
+use values::Body;
+use values::CallStep;
+use values::Method;
+use values::Step;
+use values::method_at;
+use values::step_at;
 
 // How many methods and steps a sheet has.
 pub struct Counts {

@@ -2,8 +2,8 @@ use mathlib.Core.Path.{refl, sym, ap, _∙_}
 use mathlib.Core.Bool.{true, false}
 use Rattle.runs.specs.Rules.{methodRules, total}
 use Rattle.verdict.specs.Verdict.{certificatesNeeded}
-use Rattle.format.specs.declared.values.Method.{Method}
-use Rattle.format.specs.Values.{methodValue}
+use Rattle.values.specs.declared.Method.{Method}
+use Rattle.values.specs.Values.{methodValue}
 use Rattle.needs.proofs.Summed.{needed-as, two-outcomes}
 use borrow.Author.Needs.{needs}
 use Rattle.needs.proofs.method_needs.Statement.{statement}

@@ -2,8 +2,8 @@ use mathlib.Core.Path.{refl, ap}
 use mathlib.Core.Option.{none, some}
 use Rattle.runs.specs.Rules.{stepRules, total}
 use Rattle.verdict.specs.Verdict.{certificatesNeeded}
-use Rattle.format.specs.declared.values.Step.{Step}
-use Rattle.format.specs.Values.{callValue, stepValue}
+use Rattle.values.specs.declared.Step.{Step}
+use Rattle.values.specs.Values.{callValue, stepValue}
 use Rattle.needs.proofs.Summed.{needed-as}
 use Rattle.needs.proofs.Calls.{others, call-needed, call-told}
 use borrow.Author.Needs.{needs}

@@ -1,6 +1,6 @@
 use mathlib.Core.Path.{refl}
 use Rattle.sheet.specs.Sheet.{normal}
-use Rattle.format.specs.Values.{bodyValue}
+use Rattle.values.specs.Values.{bodyValue}
 use Rattle.index.proofs.Indexed.{point-in, method-in}
 use Rattle.rules.proofs.order.body_subject.Statement.{statement}
 use Rattle.rules.proofs.order.body_subject.Tie as tie

@@ -1,6 +1,6 @@
 use mathlib.Core.Path.{refl}
 use Rattle.sheet.specs.Sheet.{normal}
-use Rattle.format.specs.Values.{callValue}
+use Rattle.values.specs.Values.{callValue}
 use Rattle.index.proofs.Indexed.{point-in, method-in}
 use Rattle.rules.proofs.order.call_subject.Statement.{statement}
 use Rattle.rules.proofs.order.call_subject.Tie as tie

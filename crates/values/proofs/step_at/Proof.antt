@@ -2,8 +2,8 @@ use mathlib.Core.Path.{sym, _∙_}
 use borrow.Author.Tests.{ne-eqb}
 use Rattle.sheet.specs.AtOffset.{stepAt}
 use borrow.Author.Needs.{needs}
-use Rattle.format.proofs.values.step_at.Statement.{statement}
-use Rattle.format.proofs.values.step_at.Tie as tie
+use Rattle.values.proofs.step_at.Statement.{statement}
+use Rattle.values.proofs.step_at.Tie as tie
 
 byte-at-requires : tie.Need-byte-at-requires
 byte-at-requires c κs = search needs

@@ -4,15 +4,15 @@ use mathlib.Core.Option.{Option, none, some}
 use Prim.Native.Nat.{ℕ}
 use Rattle.sheet.specs.Sheet as sheet
 use Rattle.sheet.specs.Sheet.{event-step, call-step, pass-step, stop-step}
-use Rattle.format.specs.declared.values.Point.{Point}
-use Rattle.format.specs.declared.values.Declared.{Declared}
-use Rattle.format.specs.declared.values.Declaration.{Declaration}
-use Rattle.format.specs.declared.values.Body.{Body}
-use Rattle.format.specs.declared.values.Method.{Method}
-use Rattle.format.specs.declared.values.Method.the-variants.{Primitive, WithBody, TwoOutcomePrimitive, TwoOutcomeBody}
-use Rattle.format.specs.declared.values.CallStep.{CallStep}
-use Rattle.format.specs.declared.values.Step.{Step}
-use Rattle.format.specs.declared.values.Step.the-variants.{Event, Call, TwoOutcomeCall, Pass, Stop}
+use Rattle.values.specs.declared.Point.{Point}
+use Rattle.values.specs.declared.Declared.{Declared}
+use Rattle.values.specs.declared.Declaration.{Declaration}
+use Rattle.values.specs.declared.Body.{Body}
+use Rattle.values.specs.declared.Method.{Method}
+use Rattle.values.specs.declared.Method.the-variants.{Primitive, WithBody, TwoOutcomePrimitive, TwoOutcomeBody}
+use Rattle.values.specs.declared.CallStep.{CallStep}
+use Rattle.values.specs.declared.Step.{Step}
+use Rattle.values.specs.declared.Step.the-variants.{Event, Call, TwoOutcomeCall, Pass, Stop}
 
 -- a point, what is declared of an outcome, a method, a call and a step, each by the value of the code
 abbrev pub pointValue : Point → sheet.Point

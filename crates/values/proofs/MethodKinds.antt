@@ -10,10 +10,10 @@ use borrow.Author.Tests.{eqb-true, eqb-false, ne-eqb}
 use Rattle.sheet.specs.Sheet as sheet
 use Rattle.sheet.specs.Record.{byteAt}
 use Rattle.sheet.specs.AtOffset.{shortAt, declaredAt, methodAt}
-use Rattle.format.specs.declared.values.Declared.{Declared}
-use Rattle.format.specs.declared.values.Declaration.{Declaration}
-use Rattle.format.specs.declared.values.Body.{Body}
-use Rattle.format.specs.Values.{declaredValue, bodyValue, methodWith, Declares, DeclaresFailed}
+use Rattle.values.specs.declared.Declared.{Declared}
+use Rattle.values.specs.declared.Declaration.{Declaration}
+use Rattle.values.specs.declared.Body.{Body}
+use Rattle.values.specs.Values.{declaredValue, bodyValue, methodWith, Declares, DeclaresFailed}
 
 -- a method that declares these conditions, with its failed outcome and its body
 pub built : {d : Declaration} {m : sheet.Method} {failing : Option sheet.Declared} {body : Option sheet.Body}

@@ -1,7 +1,7 @@
 use Rattle.sheet.specs.AtOffset.{methodAt}
 use borrow.Author.Needs.{needs}
-use Rattle.format.proofs.values.declaration_at.Statement.{statement}
-use Rattle.format.proofs.values.declaration_at.Tie as tie
+use Rattle.values.proofs.declaration_at.Statement.{statement}
+use Rattle.values.proofs.declaration_at.Tie as tie
 
 declared-at-requires : tie.Need-declared-at-requires
 declared-at-requires c κs = search needs

@@ -1,8 +1,8 @@
 use mathlib.Core.Path.{sym, _∙_}
-use Rattle.format.proofs.MethodKinds.{declares-15, declares-16}
+use Rattle.values.proofs.MethodKinds.{declares-15, declares-16}
 use borrow.Author.Needs.{needs}
-use Rattle.format.proofs.values.failed_at.Statement.{statement}
-use Rattle.format.proofs.values.failed_at.Tie as tie
+use Rattle.values.proofs.failed_at.Statement.{statement}
+use Rattle.values.proofs.failed_at.Tie as tie
 
 byte-at-requires : tie.Need-byte-at-requires
 byte-at-requires c κs = search needs

@@ -1,7 +1,7 @@
 use Rattle.sheet.specs.AtOffset.{declaredAt}
 use borrow.Author.Needs.{needs}
-use Rattle.format.proofs.values.declared_at.Statement.{statement}
-use Rattle.format.proofs.values.declared_at.Tie as tie
+use Rattle.values.proofs.declared_at.Statement.{statement}
+use Rattle.values.proofs.declared_at.Tie as tie
 
 add-first : tie.Need-add-first
 add-first c = search needs

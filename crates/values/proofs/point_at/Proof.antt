@@ -1,7 +1,7 @@
 use Rattle.sheet.specs.AtOffset.{pointAt}
 use borrow.Author.Needs.{needs}
-use Rattle.format.proofs.values.point_at.Statement.{statement}
-use Rattle.format.proofs.values.point_at.Tie as tie
+use Rattle.values.proofs.point_at.Statement.{statement}
+use Rattle.values.proofs.point_at.Tie as tie
 
 add-short-at : tie.Need-add-short-at
 add-short-at c = search needs

@@ -1,8 +1,8 @@
 use mathlib.Core.Path.{sym, _∙_}
-use Rattle.format.proofs.MethodKinds.{built, failing-is, failed-primitive, failed-body, not-failing-8, not-failing, no-body-8, no-body-15, body-16, body-other}
+use Rattle.values.proofs.MethodKinds.{built, failing-is, failed-primitive, failed-body, not-failing-8, not-failing, no-body-8, no-body-15, body-16, body-other}
 use borrow.Author.Needs.{needs}
-use Rattle.format.proofs.values.method_at.Statement.{statement}
-use Rattle.format.proofs.values.method_at.Tie as tie
+use Rattle.values.proofs.method_at.Statement.{statement}
+use Rattle.values.proofs.method_at.Tie as tie
 
 declaration-at-requires : tie.Need-declaration-at-requires
 declaration-at-requires c κs = search needs
