@@ -172,7 +172,7 @@ class Source(unittest.TestCase):
             self.assertEqual(self.arrays(line), [])
 
     def test_no_array(self):
-        files = [path for crate in ("kinds", "format")
+        files = [path for crate in ("kinds", "format", "values")
                  for path in sorted((CRATES / crate / "src").rglob("*.rt"))]
         self.assertIn("lengths.rt", [path.name for path in files])
         for path in files:
