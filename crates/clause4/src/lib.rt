@@ -8,7 +8,7 @@ ghost use lib.Bits.{bitAnd};
 ghost use lib.ListN.{length};
 ghost use Rattle.bits.specs.Bits.{has};
 ghost use Rattle.certificate.specs.Certificate.{inOrder};
-ghost use Rattle.sheet.specs.AtOffset.{certificateAt};
+ghost use Rattle.sheet_laws.specs.AtOffset.{certificateAt};
 ghost use Rattle.faults.specs.Fault.{findingOf};
 ghost use Rattle.looks.specs.Looks.{Searched};
 ghost use Rattle.clause4.specs.Clause4.{Active, Scoped, Wanted, Served, Hint, missingAt, clause4ByTables};

@@ -10,7 +10,7 @@ use lib.Dec.{eqb}
 use Rattle.condition.specs.Condition.{Condition}
 use Rattle.certificate.specs.Certificate.{Pair, Certificate, pairOf, Finding, fine, found, fault, _then_, inOrder, unless, startsRight, pairFinding, check}
 use Rattle.certificate.proofs.Findings.{is-fine, inOrder-stops}
-use Rattle.sheet.specs.AtOffset.{certificateAt}
+use Rattle.sheet_laws.specs.AtOffset.{certificateAt}
 use Rattle.faults.specs.Fault.{faultOf, findingOf}
 use Rattle.faults.specs.declared.Fault.{Fault}
 use Rattle.faults.specs.declared.Finding as code

@@ -5,7 +5,7 @@ use Prim.Native.Nat.{ℕ, suc, _+_, _*_, _≤_, _<_}
 use lib.ListN.{length}
 use Rattle.condition.specs.Condition.{Condition}
 use Rattle.certificate.specs.Certificate.{Certificate, pairOf, Finding, fine, found, pairFinding}
-use Rattle.sheet.specs.AtOffset.{certificateAt}
+use Rattle.sheet_laws.specs.AtOffset.{certificateAt}
 use Rattle.faults.specs.Fault.{faultOf}
 use Rattle.clause4.specs.Clause4.{Scoped}
 use Rattle.clauses.specs.declared.Task.{Task}

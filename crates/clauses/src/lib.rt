@@ -8,7 +8,7 @@ ghost use lib.ListN.{length};
 ghost use Rattle.bits.specs.Bits.{has, _⇒_};
 ghost use Rattle.condition.specs.Condition.{Condition};
 ghost use Rattle.certificate.specs.Certificate.{fine, startsRight, pairFinding, inOrder, check};
-ghost use Rattle.sheet.specs.AtOffset.{certificateAt};
+ghost use Rattle.sheet_laws.specs.AtOffset.{certificateAt};
 ghost use Rattle.faults.specs.Fault.{findingOf};
 ghost use Rattle.format.specs.Pairs.{pairIs};
 ghost use Rattle.places.specs.Tables.{Tables};

@@ -10,7 +10,7 @@ use Rattle.sheet.specs.Model.{Model}
 use Rattle.sheet.specs.Kind.{edition, kindOf, sectionOf}
 use Rattle.sheet.specs.Record.{byteAt}
 use Rattle.sheet.specs.Reading.{Opened, nothing, Reading, isNew, refusalOf, pastAt, ReadResult}
-use Rattle.sheet.proofs.Editions.{mark-taken, mark-next, mark-past}
+use Rattle.sheet_laws.proofs.Editions.{mark-taken, mark-next, mark-past}
 use Rattle.kinds.specs.Kinds.{countsOne}
 use Rattle.format.proofs.Laws.{inside, Stood}
 use Rattle.refusals.specs.declared.Begun.{Begun}

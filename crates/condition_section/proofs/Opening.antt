@@ -12,9 +12,9 @@ use Rattle.sheet.specs.Model.{Model, conditionLimit, symbolLimit, leafLimit}
 use Rattle.sheet.specs.Kind.{Role, symbol, a-pair, counts, edition, kindOf, sectionOf}
 use Rattle.sheet.specs.Record.{byteAt, recordAt}
 use Rattle.sheet.specs.Reading.{Opened, nothing, Reading, tally, startOf, inCondition, wrongItems, isLeaf, full, overLimit, refusalOf, openedPast, pastAt, ReadResult, whole, refusal}
-use Rattle.sheet.proofs.Take.{next-lt}
-use Rattle.sheet.proofs.Order.{is-4, is-19, is-20, is-5, is-6, all-named, is-9, is-18, four, five, six, takes}
-use Rattle.sheet.proofs.Editions.{mark-late}
+use Rattle.sheet_laws.proofs.Take.{next-lt}
+use Rattle.sheet_laws.proofs.Order.{is-4, is-19, is-20, is-5, is-6, all-named, is-9, is-18, four, five, six, takes}
+use Rattle.sheet_laws.proofs.Editions.{mark-late}
 use Rattle.format.specs.declared.Refusal.{Refusal}
 use Rattle.format.specs.declared.Refusal.the-variants.{WrongSection, Unfinished, EditionNotFirst}
 use Rattle.kinds.specs.Kinds.{lastKind, countsOne, takesItems, leafKind}

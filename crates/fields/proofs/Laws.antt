@@ -5,7 +5,7 @@ use Prim.Native.Nat.{ℕ, _+_, _*_, _≤_}
 use native.Mathlib.Omega.{arith}
 use lib.ListN.{length, List·getD-eq-default}
 use Rattle.sheet.specs.Record.{byteAt}
-use Rattle.sheet.specs.AtOffset.{shortAt, setAt}
+use Rattle.sheet_laws.specs.AtOffset.{shortAt, setAt}
 
 module _ (s : List ℕ) (i : ℕ) (past : length s ≤ i) where
   pub byte-past : byteAt s i ≡ 0

@@ -3,7 +3,7 @@ ghost use mathlib.Core.Path.{_≡_};
 ghost use Prim.Native.Nat.{_+_, _*_, _≤_};
 ghost use lib.ListN.{length};
 ghost use Rattle.sheet.specs.Record.{byteAt};
-ghost use Rattle.sheet.specs.AtOffset.{shortAt, setAt};
+ghost use Rattle.sheet_laws.specs.AtOffset.{shortAt, setAt};
 
 // The byte at an offset.
 pub fn byte_at(s: &[u8], i: usize) -> u8

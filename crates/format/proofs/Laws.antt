@@ -12,8 +12,8 @@ use Rattle.sheet.specs.Model.{Model}
 use Rattle.sheet.specs.Kind.{bodyLength}
 use Rattle.sheet.specs.Record.{byteAt, recordAt, nextAt}
 use Rattle.sheet.specs.Reading.{Reading, refusalOf}
-use Rattle.sheet.proofs.Take.{next-is}
-use Rattle.sheet.proofs.Order.{two, three}
+use Rattle.sheet_laws.proofs.Take.{next-is}
+use Rattle.sheet_laws.proofs.Order.{two, three}
 use Rattle.kinds.specs.declared.lengths.Length.the-variants.{Of, Nothing}
 use Rattle.kinds.specs.Kinds.{lastKind, isKnown}
 use Rattle.kinds.specs.Lengths.{lengthOf}

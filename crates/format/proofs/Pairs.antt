@@ -8,8 +8,8 @@ use lib.ListN.{length}
 use borrow.Author.Tests.{lt-ltb, le-ltb}
 use Rattle.certificate.specs.Certificate as certificate
 use Rattle.sheet.specs.Record.{byteAt}
-use Rattle.sheet.specs.AtOffset.{setAt, pairAt, hasPair}
-use Rattle.sheet.proofs.Pairs.{pair-out}
+use Rattle.sheet_laws.specs.AtOffset.{setAt, pairAt, hasPair}
+use Rattle.sheet_laws.proofs.Pairs.{pair-out}
 use Rattle.format.specs.Pairs.{pairIs, listedAt}
 use Rattle.format.specs.declared.listing.Pair.{Pair}
 use Rattle.format.specs.declared.listing.Listed.{Listed}

@@ -8,10 +8,11 @@ use native.Mathlib.Omega.{arith}
 use lib.ListN.{getD}
 use Rattle.sheet.specs.Kind.{bodyLength}
 use Rattle.sheet.specs.Record.{byteAt}
-use Rattle.sheet.specs.AtOffset.{symbolsByKind}
-use Rattle.sheet.specs.AtOffset as sheet
-use Rattle.sheet.proofs.Kind.{_and_, numbered, symbol-is}
-use Rattle.sheet.proofs.Take.{next-is}
+use Rattle.sheet_laws.specs.AtOffset.{symbolsByKind}
+use Rattle.sheet_laws.specs.AtOffset as sheet
+use Rattle.sheet.proofs.Kind.{_and_, numbered}
+use Rattle.sheet_laws.proofs.Kind.{symbol-is}
+use Rattle.sheet_laws.proofs.Take.{next-is}
 use Rattle.format.specs.declared.symbols.Symbol.{Symbol}
 use Rattle.format.specs.declared.symbols.Symbol.the-variants.{None}
 use Rattle.format.specs.Symbols.{valueOf, bytesOf, IsSymbolAt}

@@ -7,7 +7,7 @@ use lib.ListN.{length}
 use Rattle.certificate.specs.Certificate as certificate
 use Rattle.certificate.specs.Certificate.{pair}
 use Rattle.sheet.specs.Record.{byteAt}
-use Rattle.sheet.specs.AtOffset.{setAt}
+use Rattle.sheet_laws.specs.AtOffset.{setAt}
 use Rattle.format.specs.declared.listing.Pair.{Pair}
 use Rattle.format.specs.declared.listing.Listed.{Listed}
 

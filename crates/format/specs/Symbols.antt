@@ -6,8 +6,8 @@ use mathlib.Core.List.{List}
 use Prim.Native.Nat.{ℕ, _+_, _<_}
 use lib.ListN.{length}
 use Rattle.sheet.specs.Record.{nextAt}
-use Rattle.sheet.specs.AtOffset.{leaf-symbol, empty-symbol, join-symbol, either-symbol, star-symbol, symbolAt}
-use Rattle.sheet.specs.AtOffset as sheet
+use Rattle.sheet_laws.specs.AtOffset.{leaf-symbol, empty-symbol, join-symbol, either-symbol, star-symbol, symbolAt}
+use Rattle.sheet_laws.specs.AtOffset as sheet
 use Rattle.format.specs.declared.symbols.Symbol.{Symbol}
 use Rattle.format.specs.declared.symbols.Symbol.the-variants.{None, Leaf, Empty, Join, Either, Star}
 

@@ -2,7 +2,7 @@
 ghost use mathlib.Core.Path.{_≡_};
 ghost use Prim.Native.Nat.{_+_, _-_, _<_};
 ghost use lib.ListN.{length};
-ghost use Rattle.sheet.specs.AtOffset.{pairAt};
+ghost use Rattle.sheet_laws.specs.AtOffset.{pairAt};
 ghost use Rattle.format.specs.Pairs.{pairIs, listedAt};
 use fields::index;
 use fields::set_inside;

@@ -8,7 +8,7 @@ use lib.ListN.{getD}
 use borrow.Author.Tests.{not-true, not-false}
 use Rattle.sheet.specs.Sheet as sheet
 use Rattle.sheet.specs.Sheet.{Sheet, bodyIn, body, entryIn}
-use Rattle.sheet.specs.AtOffset.{methodAt}
+use Rattle.sheet_laws.specs.AtOffset.{methodAt}
 use Rattle.sheet.specs.Reading.{isNew}
 use Rattle.runs.specs.Rules.{entryAsked}
 use Rattle.values.specs.declared.Method.{Method}

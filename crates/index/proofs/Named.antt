@@ -6,7 +6,7 @@ use lib.ListN.{getD}
 use Rattle.condition.specs.Condition.{Condition}
 use Rattle.sheet.specs.Sheet as sheet
 use Rattle.sheet.specs.Sheet.{normal, failed, Sheet, past, own, due, pre}
-use Rattle.sheet.specs.AtOffset.{pointAt, methodAt}
+use Rattle.sheet_laws.specs.AtOffset.{pointAt, methodAt}
 use Rattle.values.specs.declared.Point.{Point}
 use Rattle.values.specs.declared.Declared.{Declared}
 use Rattle.values.specs.declared.Declaration.{Declaration}

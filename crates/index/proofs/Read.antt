@@ -9,9 +9,9 @@ use Rattle.sheet.specs.Sheet.{Method, Step, event-step, call-step, pass-step, s
 use Rattle.sheet.specs.Kind.{conditions, points, methods, steps}
 use Rattle.sheet.specs.Reading.{Reading, startsOf, whole, readSheet}
 use Rattle.sheet.specs.Decode.{sheetOf}
-use Rattle.sheet.specs.Names.{HasBody, EventBelow}
+use Rattle.sheet_laws.specs.Names.{HasBody, EventBelow}
 use Rattle.sheet.proofs.Each.{each-map}
-use Rattle.sheet.proofs.Located.{Found, Located, located}
+use Rattle.sheet_laws.proofs.Located.{Found, Located, located}
 use Rattle.index.specs.Indexed.{Tabled, ConditionsIn, Indexes}
 
 -- a table has these offsets, and behind them whatever it has

@@ -5,8 +5,8 @@ use Prim.Native.Nat.{ℕ, _+_}
 use native.Mathlib.Omega.{arith}
 use lib.ListN.{length}
 use Rattle.certificate.specs.Certificate.{Certificate, Finding, fine, found}
-use Rattle.sheet.specs.AtOffset.{certificateAt}
-use Rattle.sheet.proofs.Certified.{Chain, no-certificate, a-certificate-more}
+use Rattle.sheet_laws.specs.AtOffset.{certificateAt}
+use Rattle.sheet_laws.proofs.Certified.{Chain, no-certificate, a-certificate-more}
 use Rattle.runs.specs.Rules.{Claim, _isIn_, holdsEmpty, Rule, _of_says_}
 use Rattle.verdict.specs.Verdict.{Report, testOf, needed, certificatesNeeded, leftAfter, nextOf, reported, firstFault}
 use Rattle.verdict.proofs.Judged.{needed-is, first-is}

@@ -11,8 +11,8 @@ use Rattle.sheet.specs.Model.{Model}
 use Rattle.sheet.specs.Kind.{certificates}
 use Rattle.sheet.specs.Reading.{Reading, startsOf, whole, refusal, readSheet}
 use Rattle.sheet.specs.Decode.{sheetOf}
-use Rattle.sheet.proofs.Located.{certificates-are, certificates-counted}
-use Rattle.sheet.proofs.Certified.{Chain, no-certificate, a-certificate-more}
+use Rattle.sheet_laws.proofs.Located.{certificates-are, certificates-counted}
+use Rattle.sheet_laws.proofs.Certified.{Chain, no-certificate, a-certificate-more}
 use Rattle.runs.specs.Rules.{rules, count}
 use Rattle.verdict.specs.Verdict.{accepted, refused, certificatesNeeded, firstFault, verdictAfter, verdictOf}
 use Rattle.verdict.proofs.Loads.{verdict-is, after-whole, after-refusal, enough, first, judged-is}

@@ -7,10 +7,10 @@ use lib.ListN.{length, getD, getElem?}
 use Rattle.condition.specs.Condition.{Condition}
 use Rattle.sheet.specs.Each.{Each}
 use Rattle.sheet.specs.Model.{conditionLimit, methodLimit, stepLimit}
-use Rattle.sheet.specs.AtOffset.{pointAt, methodAt, stepAt}
+use Rattle.sheet_laws.specs.AtOffset.{pointAt, methodAt, stepAt}
 use Rattle.sheet.specs.Reading.{isNew}
 use Rattle.sheet.specs.Sheet.{Outcome, normal, failed, Declared, Sheet, condition, past, own, due, pre, trace, future}
-use Rattle.sheet.specs.Names.{NamesExist, OutcomesFit, EventBelow}
+use Rattle.sheet_laws.specs.Names.{NamesExist, OutcomesFit, EventBelow}
 use Rattle.postfix.specs.Parts.{StandsAt}
 use Rattle.index.specs.declared.PointConditions.{PointConditions}
 use Rattle.index.specs.declared.OutcomeConditions.{OutcomeConditions}

@@ -4,7 +4,7 @@ use mathlib.Core.List.{List, [], _∷_}
 use lib.ListN.{length}
 use Rattle.certificate.specs.Certificate.{Fault, Finding, fine, found, check}
 use Rattle.condition.specs.Places.{nullable}
-use Rattle.sheet.specs.AtOffset.{certificateAt}
+use Rattle.sheet_laws.specs.AtOffset.{certificateAt}
 use Rattle.runs.specs.Rules.{Claim, _isIn_, holdsEmpty, Rule}
 use Rattle.verdict.specs.Verdict.{Report, unproved, testOf}
 

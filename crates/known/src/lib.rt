@@ -6,7 +6,7 @@ ghost use lib.Dec.{eqb};
 ghost use lib.Bits.{bitAnd};
 ghost use lib.ListN.{length};
 ghost use Rattle.certificate.specs.Certificate.{fine, inOrder};
-ghost use Rattle.sheet.specs.AtOffset.{certificateAt};
+ghost use Rattle.sheet_laws.specs.AtOffset.{certificateAt};
 ghost use Rattle.faults.specs.Fault.{findingOf};
 ghost use Rattle.clause4.specs.Clause4.{Scoped, clause4ByTables};
 ghost use Rattle.known.specs.Known.{AllServed, Next};

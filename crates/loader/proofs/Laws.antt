@@ -8,7 +8,7 @@ use Rattle.sheet.specs.Model.{Model}
 use Rattle.sheet.specs.Record.{Bytes}
 use Rattle.sheet.specs.Sheet.{Sheet}
 use Rattle.sheet.specs.Decode.{sheetOf}
-use Rattle.sheet.proofs.Certified.{certificates-chained}
+use Rattle.sheet_laws.proofs.Certified.{certificates-chained}
 use Rattle.runs.specs.Rules as runs
 use Rattle.runs.specs.Rules.{rules, count}
 use Rattle.runs.proofs.Count.{counted}

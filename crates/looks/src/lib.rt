@@ -9,7 +9,7 @@ ghost use lib.Bits.{bitAnd};
 ghost use lib.ListN.{length};
 ghost use Rattle.bits.specs.Bits.{has};
 ghost use Rattle.certificate.specs.Certificate.{pairOf};
-ghost use Rattle.sheet.specs.AtOffset.{certificateAt};
+ghost use Rattle.sheet_laws.specs.AtOffset.{certificateAt};
 ghost use Rattle.meets.specs.Meets.{tableRows, Surveyed};
 ghost use Rattle.looks.specs.Looks.{Searched, Passed, Takes, Left};
 use bits::bit;

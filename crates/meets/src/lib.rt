@@ -7,7 +7,7 @@ ghost use lib.ListN.{length};
 ghost use lib.Dec.{ltb};
 ghost use Rattle.bits.specs.Bits.{has};
 ghost use Rattle.certificate.specs.Certificate.{Certificate, pairOf};
-ghost use Rattle.sheet.specs.AtOffset.{certificateAt};
+ghost use Rattle.sheet_laws.specs.AtOffset.{certificateAt};
 ghost use Rattle.meets.specs.Meets.{allHold, tableRows, PairRows, GroupRows, Surveyed};
 use bits::below;
 use pairs::Entry;

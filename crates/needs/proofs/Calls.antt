@@ -7,8 +7,8 @@ use native.Mathlib.Omega.{arith}
 use lib.ListN.{length, length-append, getD}
 use Rattle.sheet.specs.Sheet as sheet
 use Rattle.sheet.specs.Sheet.{normal, failed, CallStep, event-step, call-step, pass-step, stop-step, Sheet, past, pre}
-use Rattle.sheet.specs.AtOffset.{stepAt}
-use Rattle.sheet.specs.Names.{StepNamed}
+use Rattle.sheet_laws.specs.AtOffset.{stepAt}
+use Rattle.sheet_laws.specs.Names.{StepNamed}
 use Rattle.runs.specs.Rules.{Rule, _of_says_, _isIn_, ifAny, returnRules, entryAsked, entryRules, stepRules, howMany, total}
 use Rattle.verdict.specs.Verdict.{certificatesNeeded}
 use Rattle.values.specs.declared.Step.{Step}

@@ -10,8 +10,8 @@ use lib.Seq.{getD-drop}
 use borrow.Author.Tests.{lt-ltb, le-ltb, ltb-true, ltb-false}
 use Rattle.certificate.specs.Certificate.{Pair, Certificate, pairOf}
 use Rattle.sheet.specs.Record.{Bytes, byteAt, nextAt}
-use Rattle.sheet.specs.AtOffset.{setAt, pairAt, hasPair, pairsOn, certificateAt}
-use Rattle.sheet.proofs.Pairs.{pair-out, pair-on, pair-off}
+use Rattle.sheet_laws.specs.AtOffset.{setAt, pairAt, hasPair, pairsOn, certificateAt}
+use Rattle.sheet_laws.proofs.Pairs.{pair-out, pair-on, pair-off}
 use Rattle.fields.proofs.Laws.{set-is}
 use Rattle.format.specs.Pairs.{pairIs, listedAt}
 use Rattle.format.proofs.Pairs.{listed-there, listed-pair}

@@ -3,7 +3,7 @@ ghost use mathlib.Core.Path.{_≡_};
 ghost use Prim.Native.Nat.{_+_, _*_, _^_, _≤_, _<_};
 ghost use lib.ListN.{length, drop};
 ghost use Rattle.certificate.specs.Certificate.{pairOf};
-ghost use Rattle.sheet.specs.AtOffset.{certificateAt};
+ghost use Rattle.sheet_laws.specs.AtOffset.{certificateAt};
 ghost use Rattle.format.specs.Pairs.{pairIs, listedAt};
 ghost use Rattle.pairs.specs.Found.{pairFound};
 use format::listing::END_BYTES;

@@ -11,9 +11,9 @@ use lib.Dec.{ltb, leb}
 use borrow.Author.Tests.{le-leb, lt-leb, leb-true, ltb-true, ltb-false}
 use Rattle.bits.proofs.Tests.{and-out, T-true}
 use Rattle.condition.specs.Condition.{Condition}
-use Rattle.sheet.specs.AtOffset.{Symbol, leaf-symbol, empty-symbol, join-symbol, either-symbol, star-symbol}
-use Rattle.sheet.specs.AtOffset.{symbolAt}
-use Rattle.sheet.specs.AtOffset.{symbolsOn, symbolsAt, postfix}
+use Rattle.sheet_laws.specs.AtOffset.{Symbol, leaf-symbol, empty-symbol, join-symbol, either-symbol, star-symbol}
+use Rattle.sheet_laws.specs.AtOffset.{symbolAt}
+use Rattle.sheet_laws.specs.AtOffset.{symbolsOn, symbolsAt, postfix}
 use Rattle.format.specs.declared.symbols.Symbol as value
 use Rattle.format.specs.declared.symbols.Symbol.the-variants.{None, Leaf, Empty, Join, Either, Star}
 use Rattle.format.specs.Symbols.{valueOf, isSymbol, itemsTaken, leavesIn, bytesOf, IsSymbolAt}

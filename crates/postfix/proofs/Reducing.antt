@@ -7,10 +7,10 @@ use native.Mathlib.Omega.{arith}
 use lib.ListN.{length}
 use Rattle.condition.specs.Condition.{Condition, leaf, empty, join, either, star}
 use Rattle.condition.specs.Places.{leaves}
-use Rattle.sheet.specs.AtOffset.{Symbol, leaf-symbol, empty-symbol, join-symbol, either-symbol, star-symbol}
+use Rattle.sheet_laws.specs.AtOffset.{Symbol, leaf-symbol, empty-symbol, join-symbol, either-symbol, star-symbol}
 use Rattle.sheet.specs.Record.{nextAt}
-use Rattle.sheet.specs.AtOffset.{symbolAt}
-use Rattle.sheet.specs.AtOffset.{symbolsOn, postfix}
+use Rattle.sheet_laws.specs.AtOffset.{symbolAt}
+use Rattle.sheet_laws.specs.AtOffset.{symbolsOn, postfix}
 use Rattle.format.specs.declared.symbols.Symbol as value
 use Rattle.format.specs.Symbols.{valueOf, itemsTaken, leavesIn}
 use Rattle.items.specs.Stack.{Makes, a-leaf, an-empty, a-join, an-either, a-star}

@@ -7,7 +7,7 @@ use lib.ListN.{length}
 use Rattle.condition.specs.Condition.{Condition, event}
 use Rattle.condition.specs.Places.{leaves}
 use Rattle.sheet.specs.Model.{symbolLimit, leafLimit}
-use Rattle.sheet.specs.AtOffset.{symbolsAt, postfix}
+use Rattle.sheet_laws.specs.AtOffset.{symbolsAt, postfix}
 use Rattle.items.specs.Stack.{Stacked, Roomy, Rows}
 use Rattle.postfix.specs.declared.Part.{Part}
 use Rattle.postfix.specs.declared.Part.the-variants.{Condition as ConditionAt, Event}

@@ -9,8 +9,8 @@ use Rattle.sheet.specs.Sheet.{Sheet}
 use Rattle.sheet.specs.Kind.{conditions, points, methods, steps, certificates}
 use Rattle.sheet.specs.Reading.{Counted, startOf, startsOf}
 use Rattle.sheet.specs.Decode.{sheetOf}
-use Rattle.sheet.proofs.Laws.{own-tally}
-use Rattle.sheet.proofs.Located.{Located, located}
+use Rattle.sheet_laws.proofs.Laws.{own-tally}
+use Rattle.sheet_laws.proofs.Located.{Located, located}
 use Rattle.tally.specs.Tally.{countOf}
 use Rattle.sections.specs.declared.Contents.{Contents}
 use Rattle.sections.specs.Sections.{overwritten}

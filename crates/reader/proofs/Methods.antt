@@ -13,10 +13,10 @@ use Rattle.sheet.specs.Each.{Each, nil, cons}
 use Rattle.sheet.specs.Kind.{Role, methods, sectionOf}
 use Rattle.sheet.specs.Record.{byteAt, recordAt, nextAt}
 use Rattle.sheet.specs.Reading.{Counted, Reading, fresh, tally, startOf, startsOf, full, overLimit, methodRecord, twoOutcomesIn, refusalOf, pastAt, ReadResult, refusal, whole, stateOf, atEnd, readOn}
-use Rattle.sheet.proofs.Take.{Took, took, next-lt}
-use Rattle.sheet.proofs.ReadOn.{afterRecord, on-end, on-record}
-use Rattle.sheet.proofs.Own.{counted, own-cases}
-use Rattle.sheet.proofs.Outcomes.{KindAt, MethodsStand, method-outcomes, Reached, at-start, past, reached-methods}
+use Rattle.sheet_laws.proofs.Take.{Took, took, next-lt}
+use Rattle.sheet_laws.proofs.ReadOn.{afterRecord, on-end, on-record}
+use Rattle.sheet_laws.proofs.Own.{counted, own-cases}
+use Rattle.sheet_laws.proofs.Outcomes.{KindAt, MethodsStand, method-outcomes, Reached, at-start, past, reached-methods}
 use Rattle.kinds.specs.Kinds.{twoOutcomeKind}
 use Rattle.refusals.specs.Outcomes.{kindListed}
 use Rattle.sections.specs.declared.Section.{Section}

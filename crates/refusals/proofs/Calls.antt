@@ -4,7 +4,7 @@ use mathlib.Core.Bool.{Bool, true, false, not, _||_}
 use mathlib.Core.List.{List}
 use Prim.Native.Nat.{ℕ, _+_}
 use borrow.Author.Tests.{ne-eqb}
-use Rattle.sheet.specs.AtOffset.{shortAt}
+use Rattle.sheet_laws.specs.AtOffset.{shortAt}
 use Rattle.kinds.specs.Kinds.{twoOutcomeKind}
 use Rattle.refusals.specs.Outcomes.{kindListed, wrongOutcomesAt}
 

@@ -9,10 +9,10 @@ use lib.Dec.{ltb, eqb, lit≤}
 use borrow.Author.Tests.{lt-ltb, le-ltb, ne-eqb}
 use Rattle.sheet.specs.Kind.{conditions, points, methods, steps, Field, a-name, an-event, kindOf, sectionOf, widths, bodyLength}
 use Rattle.sheet.specs.Record.{byteAt, numberAt, valuesAt, recordAt}
-use Rattle.sheet.specs.AtOffset.{shortAt}
+use Rattle.sheet_laws.specs.AtOffset.{shortAt}
 use Rattle.sheet.specs.Reading.{allExist}
 use Rattle.sheet.proofs.Kind.{_and_}
-use Rattle.sheet.proofs.Take.{next-is}
+use Rattle.sheet_laws.proofs.Take.{next-is}
 use Rattle.kinds.specs.Kinds.{lastKind}
 use Rattle.kinds.proofs.Table.{by-rows}
 use Rattle.tally.specs.declared.Tally.{Tally}

@@ -7,7 +7,7 @@ use lib.ListN.{length}
 use lib.Dec.{ltb}
 use Rattle.sheet.specs.Kind.{points, steps, sectionOf}
 use Rattle.sheet.specs.Record.{byteAt, nextAt}
-use Rattle.sheet.specs.AtOffset.{shortAt}
+use Rattle.sheet_laws.specs.AtOffset.{shortAt}
 
 -- a point, a method or a step of a kind stands at an offset, inside the sheet
 pub record Named (s : List ℕ) (at kind : ℕ) : Type 0 where

@@ -5,7 +5,7 @@ use Prim.Native.Nat.{ℕ, _+_}
 use lib.ListN.{length, getD}
 use lib.Dec.{ltb}
 use Rattle.sheet.specs.Record.{byteAt}
-use Rattle.sheet.specs.AtOffset.{shortAt}
+use Rattle.sheet_laws.specs.AtOffset.{shortAt}
 use Rattle.kinds.specs.Kinds.{twoOutcomeKind, callKind, twoOutcomeCallKind}
 
 -- the kind of the method m of a table, 0 past its end

@@ -5,7 +5,7 @@ ghost use lib.ListN.{length};
 ghost use lib.Dec.{ltb};
 ghost use Rattle.sheet.specs.Kind.{kindOf, sectionOf, steps};
 ghost use Rattle.sheet.specs.Record.{recordAt};
-ghost use Rattle.sheet.specs.AtOffset.{shortAt};
+ghost use Rattle.sheet_laws.specs.AtOffset.{shortAt};
 ghost use Rattle.sheet.specs.Reading.{allExist};
 ghost use Rattle.tally.specs.Tally.{countOf};
 ghost use Rattle.refusals.specs.Names.{Named, twoBelow, threeBelow};

@@ -6,8 +6,8 @@ use Prim.Native.Nat.{ℕ, _<_}
 use lib.ListN.{length, getD}
 use Rattle.sheet.specs.Sheet as sheet
 use Rattle.sheet.specs.Sheet.{Sheet, body}
-use Rattle.sheet.specs.AtOffset.{methodAt, stepAt}
-use Rattle.sheet.specs.Names.{BodyNamed, StepNamed, TargetsFit, EventBelow}
+use Rattle.sheet_laws.specs.AtOffset.{methodAt, stepAt}
+use Rattle.sheet_laws.specs.Names.{BodyNamed, StepNamed, TargetsFit, EventBelow}
 use Rattle.runs.specs.Rules.{methodRules, stepRules}
 use Rattle.values.specs.declared.Method.{Method}
 use Rattle.values.specs.declared.Step.{Step}

@@ -4,7 +4,7 @@ ghost use mathlib.Core.Option.{Option, some};
 ghost use mathlib.Core.List.{List};
 ghost use Prim.Native.Nat.{ℕ, _+_, _≤_, _<_};
 ghost use lib.ListN.{length, getD};
-ghost use Rattle.sheet.specs.AtOffset.{stepAt};
+ghost use Rattle.sheet_laws.specs.AtOffset.{stepAt};
 ghost use Rattle.sheet.specs.Sheet.{Outcome, call-step, Sheet, body};
 ghost use Rattle.runs.specs.Rules as runs;
 ghost use Rattle.runs.specs.Rules.{isAmong, methodRules, entryAsked, stepRules};

@@ -11,7 +11,7 @@ use Rattle.sheet.proofs.Each.{each-map, each-zip, each-all}
 use Rattle.sheet.specs.Sheet.{Outcome, Body, CallStep, call-step, Sheet, past, due, body, exitIn, targetFor}
 use Rattle.runs.specs.Runs.{Call, Returned, State, preOf, traceOf, futureOf, entryOf, start, Move, raise, newCall, openCall, returnedNow, stop, madeBy, targetOr, noneOpen, close, run}
 use Rattle.runs.specs.Owing.{IsCaller, InCaller}
-use Rattle.sheet.specs.Names.{HasBody}
+use Rattle.sheet_laws.specs.Names.{HasBody}
 use Rattle.runs.proofs.Rules.{ExitRules, BodyRules, Leads, ReturnRules, CallRules, MethodRules, StepRules, SheetRules}
 use Rattle.runs.proofs.Adds.{Adds, adds-more, adds-weaker, adds-nothing}
 use Rattle.runs.proofs.Moves.{Makes, event-made, pass-made, primitive-made, open-made, stop-made, return-made, run-keeps}

@@ -15,7 +15,7 @@ use Rattle.condition.specs.Places.{accepts}
 use Rattle.certificate.specs.Certificate.{Certificate}
 use Rattle.sheet.specs.Sheet.{normal, Point, CallStep, event-step, call-step, pass-step, Sheet, body}
 use Rattle.sheet.proofs.Each.{each-member}
-use Rattle.sheet.specs.Names.{HasBody}
+use Rattle.sheet_laws.specs.Names.{HasBody}
 use Rattle.runs.specs.Rules.{rulesFrom, AllMet}
 use Rattle.runs.specs.Runs.{Returned, State, traceOf, futureOf, since, Move, return, by-step, raise, newCall, returnedNow, move, runOn, run}
 use Rattle.runs.proofs.Moves.{Makes, event-made, pass-made, primitive-made, open-made, stop-made, return-made, run-on-append, run-append, run-on-keeps, step-made, by-trace}

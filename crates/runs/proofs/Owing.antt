@@ -6,7 +6,7 @@ use Rattle.sheet.specs.Sheet.{Sheet, body}
 use Rattle.runs.specs.Rules.{rulesFrom, AllMet}
 use Rattle.runs.specs.Runs.{State, Move, run}
 use Rattle.runs.specs.Owing.{Owing}
-use Rattle.sheet.specs.Names.{HasBody}
+use Rattle.sheet_laws.specs.Names.{HasBody}
 use Rattle.runs.proofs.Rules.{by-number}
 use Rattle.runs.proofs.Adds.{adds-since}
 use Rattle.runs.proofs.Invariant.{Good, running, over}

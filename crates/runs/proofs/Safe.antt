@@ -9,7 +9,7 @@ use Rattle.sheet.proofs.Each.{each-map, each-append, each-mapped}
 use Rattle.sheet.specs.Sheet.{Sheet, body}
 use Rattle.runs.specs.Rules.{rulesFrom, AllMet}
 use Rattle.runs.specs.Runs.{Returned, State, traceOf, raised, Move, run, Safe}
-use Rattle.sheet.specs.Names.{HasBody}
+use Rattle.sheet_laws.specs.Names.{HasBody}
 use Rattle.runs.proofs.Rules.{by-number}
 use Rattle.runs.proofs.Adds.{adds-since}
 use Rattle.runs.proofs.Invariant.{Begun, Well, Good, running, over}

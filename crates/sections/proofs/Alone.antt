@@ -11,7 +11,7 @@ use Rattle.sheet.specs.Model.{Model}
 use Rattle.sheet.specs.Kind.{Role, symbol, a-pair, counts, edition, methods, steps, kindOf, sectionOf}
 use Rattle.sheet.specs.Record.{byteAt, recordAt}
 use Rattle.sheet.specs.Reading.{Opened, Counted, Reading, tally, startOf, startsOf, wrongItems, full, overLimit, inCondition, allExist, twoOutcomesIn, pastAt, ReadResult}
-use Rattle.sheet.proofs.Order.{is-4, is-19, is-20, is-5, is-6, all-named, is-9, is-18, twenty, six, seven, nine, eighteen, takes}
+use Rattle.sheet_laws.proofs.Order.{is-4, is-19, is-20, is-5, is-6, all-named, is-9, is-18, twenty, six, seven, nine, eighteen, takes}
 use Rattle.format.specs.declared.Refusal.{Refusal}
 use Rattle.format.specs.declared.Refusal.the-variants.{WrongSection, StopInOldSheet, OverLimit, UnknownName, NoFirstBody, WrongOutcomes}
 use Rattle.kinds.specs.Kinds.{primitiveKind, twoOutcomeKind}

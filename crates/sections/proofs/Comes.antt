@@ -9,8 +9,8 @@ use lib.Dec.{eqb}
 use borrow.Author.Tests.{lt-ltb, le-ltb}
 use Rattle.sheet.specs.Model.{Model}
 use Rattle.sheet.specs.Reading.{Reading, refusalOf, pastAt, ReadResult, refusal, atEnd, readOn, readFrom}
-use Rattle.sheet.proofs.Take.{next-lt}
-use Rattle.sheet.proofs.ReadOn.{afterRecord, on-end, on-record, from-is}
+use Rattle.sheet_laws.proofs.Take.{next-lt}
+use Rattle.sheet_laws.proofs.ReadOn.{afterRecord, on-end, on-record, from-is}
 use Rattle.format.specs.declared.Refusal.{Refusal}
 use Rattle.format.specs.declared.Refusal.the-variants.{TooLong, UnknownKind, BodyPastEnd, WrongSection, WrongItems, OverLimit, UnknownName, Unfinished, NoFirstBody, CertificateCount, WordTooLong, StrayEvent, NoSuchCondition, WrongOutcomes, EditionNotFirst, StopInOldSheet}
 use Rattle.format.specs.Refusal.{numberOf}

@@ -10,7 +10,7 @@ use borrow.Author.Tests.{eq-eqb, ne-eqb, eqb-true, eqb-false}
 use Rattle.sheet.specs.Kind.{Role, symbol, a-pair, counts, edition, kindOf, sectionOf}
 use Rattle.sheet.specs.Record.{byteAt, recordAt}
 use Rattle.sheet.specs.Reading.{nothing, Counted, Reading, tally, startOf, startsOf, openedPast, ownPast, pastAt}
-use Rattle.sheet.proofs.Certified.{starts-more}
+use Rattle.sheet_laws.proofs.Certified.{starts-more}
 use Rattle.kinds.specs.Kinds.{countsOne}
 use Rattle.tally.specs.declared.Tally.{Tally}
 use Rattle.tally.specs.Tally.{countOf, plusIf, tallyAfter}

@@ -11,7 +11,7 @@ use Rattle.sheet.specs.Model.{Model}
 use Rattle.sheet.specs.Kind.{Role, symbol, a-pair, counts, edition, kindOf, sectionOf}
 use Rattle.sheet.specs.Record.{byteAt, recordAt}
 use Rattle.sheet.specs.Reading.{Opened, Counted, Reading, tally, startOf, startsOf, wrongItems, full, overLimit, refusalOf, openedPast, pastAt, ReadResult, whole, refusal}
-use Rattle.sheet.proofs.Order.{is-4, is-5, is-6, takes}
+use Rattle.sheet_laws.proofs.Order.{is-4, is-5, is-6, takes}
 use Rattle.format.specs.declared.Refusal.{Refusal}
 use Rattle.format.specs.declared.Refusal.the-variants.{WrongSection, Unfinished, NoFirstBody}
 use Rattle.kinds.specs.Kinds.{countsOne}

@@ -9,11 +9,11 @@ use lib.Dec.{T, eqb, ltb, ltb→lt}
 use borrow.Author.Tests.{eqb-true}
 use Rattle.sheet.specs.Kind.{methods, steps, kindOf, sectionOf}
 use Rattle.sheet.specs.Record.{Record, byteAt, valuesAt, recordAt, value}
-use Rattle.sheet.specs.AtOffset.{shortAt}
+use Rattle.sheet_laws.specs.AtOffset.{shortAt}
 use Rattle.sheet.specs.Reading.{Reading, tally, allExist, methodRecord, twoOutcomesIn, wrongOutcomes}
-use Rattle.sheet.proofs.Fields.{shortsThen, names-alone}
-use Rattle.sheet.proofs.Named.{FieldsExist, at-exists}
-use Rattle.sheet.proofs.Outcomes.{never-wrong}
+use Rattle.sheet_laws.proofs.Fields.{shortsThen, names-alone}
+use Rattle.sheet_laws.proofs.Named.{FieldsExist, at-exists}
+use Rattle.sheet_laws.proofs.Outcomes.{never-wrong}
 use Rattle.kinds.specs.Kinds.{twoOutcomeKind}
 use Rattle.refusals.specs.Outcomes.{kindListed, wrongOutcomesAt}
 

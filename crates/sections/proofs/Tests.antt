@@ -11,8 +11,8 @@ use Rattle.sheet.specs.Model.{Model}
 use Rattle.sheet.specs.Kind.{kindOf, sectionOf}
 use Rattle.sheet.specs.Record.{byteAt, recordAt, nextAt}
 use Rattle.sheet.specs.Reading.{Reading, tally, inCondition, isNew, allExist, isPrimitive}
-use Rattle.sheet.proofs.Order.{is-3, is-4, is-19, is-20, all-named, is-9, is-18, four}
-use Rattle.sheet.proofs.Outcomes.{never-wrong}
+use Rattle.sheet_laws.proofs.Order.{is-3, is-4, is-19, is-20, all-named, is-9, is-18, four}
+use Rattle.sheet_laws.proofs.Outcomes.{never-wrong}
 use Rattle.format.specs.declared.Refusal.the-variants.{WrongSection}
 use Rattle.kinds.specs.Kinds.{primitiveKind}
 use Rattle.kinds.proofs.Table.{not-primitive}

@@ -5,5 +5,3 @@ pub mod Kind
 pub mod Record
 pub mod Reading
 pub mod Decode
-pub mod AtOffset
-pub mod Names

@@ -7,7 +7,7 @@ use Rattle.bits.specs.Bits.{has}
 use Rattle.condition.specs.Condition.{Condition}
 use Rattle.condition.specs.Places.{nullable, ends}
 use Rattle.certificate.specs.Certificate.{Finding, fault, unless}
-use Rattle.sheet.specs.AtOffset.{certificateAt}
+use Rattle.sheet_laws.specs.AtOffset.{certificateAt}
 use Rattle.runs.specs.Rules as runs
 use Rattle.verdict.specs.Verdict.{testOf}
 use Rattle.places.specs.declared.Side.{Side}

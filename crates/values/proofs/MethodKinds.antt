@@ -9,7 +9,7 @@ use lib.Dec.{eqb}
 use borrow.Author.Tests.{eqb-true, eqb-false, ne-eqb}
 use Rattle.sheet.specs.Sheet as sheet
 use Rattle.sheet.specs.Record.{byteAt}
-use Rattle.sheet.specs.AtOffset.{shortAt, declaredAt, methodAt}
+use Rattle.sheet_laws.specs.AtOffset.{shortAt, declaredAt, methodAt}
 use Rattle.values.specs.declared.Declared.{Declared}
 use Rattle.values.specs.declared.Declaration.{Declaration}
 use Rattle.values.specs.declared.Body.{Body}

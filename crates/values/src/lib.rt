@@ -2,7 +2,7 @@
 ghost use mathlib.Core.Path.{_≡_};
 ghost use Prim.Native.Nat.{_+_, _≤_, _<_};
 ghost use lib.ListN.{length};
-ghost use Rattle.sheet.specs.AtOffset.{shortAt, declaredAt, pointAt, methodAt, stepAt};
+ghost use Rattle.sheet_laws.specs.AtOffset.{shortAt, declaredAt, pointAt, methodAt, stepAt};
 ghost use Rattle.values.specs.Values.{pointValue, declaredValue, Declares, DeclaresFailed, methodValue, stepValue};
 use fields::byte_at;
 use fields::index;

@@ -14,8 +14,8 @@ use Rattle.certificate.specs.Certificate.{Fault}
 use Rattle.sheet.specs.Model.{Model, large, entry, NoLarger, withKinds}
 use Rattle.sheet.specs.Record.{byteAt}
 use Rattle.sheet.specs.Reading.{Reading, ReadResult, whole, refusal, readSheet}
-use Rattle.sheet.proofs.Outcomes.{Reached}
-use Rattle.sheet.proofs.Before.{WithoutKindsAbove, fewer-kinds}
+use Rattle.sheet_laws.proofs.Outcomes.{Reached}
+use Rattle.sheet_laws.proofs.Before.{WithoutKindsAbove, fewer-kinds}
 use Rattle.verdict.specs.Verdict.{Report, accepted, refused, unproved, verdictOf}
 use Rattle.verdict.specs.WordTest.{Answer, tested, untested, wordTest}
 use Rattle.verdict.specs.Reply.{Reply, _giving_, replyOf, answerReply}

@@ -2,11 +2,11 @@
 use Rattle.condition.proofs.Words.{nullable-holds, words}
 use Rattle.sheet.specs.Model.{Model}
 use Rattle.sheet.specs.Decode.{sheetOf}
-use Rattle.sheet.proofs.Standing.{conditions-in-postfix}
-use Rattle.sheet.proofs.Named.{names-exist, events-below}
-use Rattle.sheet.proofs.First.{first-has-body}
-use Rattle.sheet.proofs.Outcomes.{outcomes-fit}
-use Rattle.sheet.proofs.Editions.{edition, stops-fit}
+use Rattle.sheet_laws.proofs.Standing.{conditions-in-postfix}
+use Rattle.sheet_laws.proofs.Named.{names-exist, events-below}
+use Rattle.sheet_laws.proofs.First.{first-has-body}
+use Rattle.sheet_laws.proofs.Outcomes.{outcomes-fit}
+use Rattle.sheet_laws.proofs.Editions.{edition, stops-fit}
 use Rattle.runs.specs.Rules.{rules}
 use Rattle.runs.proofs.Count.{counted}
 use Rattle.runs.proofs.Moves.{made-by-trace}

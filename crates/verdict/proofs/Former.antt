@@ -18,11 +18,11 @@ use Rattle.sheet.specs.Record.{Record, byteAt, recordAt, value}
 use Rattle.sheet.specs.Reading.{Counted, Reading, isPrimitive, hasTwoOutcomes, whole, readSheet}
 use Rattle.sheet.specs.Decode.{methodOf, stepOf, sheetOf}
 use Rattle.sheet.proofs.Each.{each-map, each-mapped, each-get}
-use Rattle.sheet.proofs.Take.{or-false}
-use Rattle.sheet.proofs.Own.{each-own}
-use Rattle.sheet.proofs.Kind.{step-cases}
-use Rattle.sheet.proofs.SheetOf.{sheet-is}
-use Rattle.sheet.proofs.Editions.{NoStop, no-stops, old-edition as unmarked}
+use Rattle.sheet_laws.proofs.Take.{or-false}
+use Rattle.sheet_laws.proofs.Own.{each-own}
+use Rattle.sheet_laws.proofs.Kind.{step-cases}
+use Rattle.sheet_laws.proofs.SheetOf.{sheet-is}
+use Rattle.sheet_laws.proofs.Editions.{NoStop, no-stops, old-edition as unmarked}
 use Rattle.verdict.specs.Facts.{OldEdition, OneOutcome}
 use Rattle.runs.specs.Runs.{Call, State, return, by-step, newCall, openCall, makeCall, tryStep, tryReturn, move}
 use Rattle.runs.specs.Rules.{howMany, failedExits, failedExitCount, failedCallCount, stopCount}

@@ -15,11 +15,11 @@ use Rattle.sheet.specs.Sheet.{Sheet, body}
 use Rattle.sheet.specs.Record.{Bytes}
 use Rattle.sheet.specs.Reading.{Reading, ReadResult, whole, refusal, readSheet}
 use Rattle.sheet.specs.Decode.{sheetOf}
-use Rattle.sheet.specs.Names.{HasBody}
-use Rattle.sheet.proofs.SheetOf.{sheet-is}
-use Rattle.sheet.proofs.Named.{events-below}
-use Rattle.sheet.proofs.First.{first-has-body}
-use Rattle.sheet.proofs.Narrow.{conditions-below}
+use Rattle.sheet_laws.specs.Names.{HasBody}
+use Rattle.sheet_laws.proofs.SheetOf.{sheet-is}
+use Rattle.sheet_laws.proofs.Named.{events-below}
+use Rattle.sheet_laws.proofs.First.{first-has-body}
+use Rattle.sheet_laws.proofs.Narrow.{conditions-below}
 use Rattle.runs.specs.Rules.{rules, rulesFrom, AllMet, count}
 use Rattle.runs.specs.Runs.{Move, run, Safe}
 use Rattle.runs.specs.Owing.{Owing, OwingWhenOpen}

@@ -7,8 +7,8 @@ use native.Mathlib.Omega.{arith}
 use Rattle.condition.specs.Condition.{Word}
 use Rattle.sheet.specs.Model.{Model, NoLarger, withKinds}
 use Rattle.sheet.specs.Reading.{fresh, ReadResult, whole, refusal, readSheet}
-use Rattle.sheet.proofs.Models.{ReadsLike, too-long as reads-too-long, over-limit as reads-over-limit, unknown-kind as reads-unknown-kind, the-same as reads-the-same, reads-like}
-use Rattle.sheet.proofs.Before.{WithoutKindsAbove, fewer-kinds, reads-as-before}
+use Rattle.sheet_laws.proofs.Models.{ReadsLike, too-long as reads-too-long, over-limit as reads-over-limit, unknown-kind as reads-unknown-kind, the-same as reads-the-same, reads-like}
+use Rattle.sheet_laws.proofs.Before.{WithoutKindsAbove, fewer-kinds, reads-as-before}
 use Rattle.verdict.specs.Verdict.{Report, accepted, verdictAfter, verdictOf}
 use Rattle.verdict.specs.WordTest.{testedAfter, wordTest}
 use Rattle.verdict.specs.Reply.{Reply, _giving_, replyOf, answerReply}

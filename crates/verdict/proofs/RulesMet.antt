@@ -16,7 +16,7 @@ use Rattle.certificate.proofs.Complete.{complete}
 use Rattle.sheet.specs.Each.{Each, nil, cons}
 use Rattle.sheet.specs.Sheet.{Outcome, normal, failed, Point, Declared, Body, Method, CallStep, Step, event-step, call-step, pass-step, stop-step, Sheet, condition, conditionNamed, past, own, due, declaredIn, pre, trace, future}
 use Rattle.sheet.proofs.Each.{each-head, each-tail, each-append}
-use Rattle.sheet.specs.Names.{EventBelow}
+use Rattle.sheet_laws.specs.Names.{EventBelow}
 use Rattle.runs.specs.Rules.{Claim, _isIn_, holdsEmpty, Met, Rule, _of_says_, isAmong, ifAny, exitRules, failedExitRules, methodRules, returnRules, entryAsked, entryRules, stepRules, firstsRules, methodsRules, stepsRules, rulesFrom, AllMet}
 use Rattle.verdict.specs.Promise.{EachCertified, done, bare, certified, Passes, ExactFor}
 

@@ -14,9 +14,9 @@ use Rattle.sheet.specs.Sheet.{Outcome, failed, Body, Method, CallStep, Step, ev
 use Rattle.sheet.specs.Each.{Each}
 use Rattle.sheet.specs.Record.{byteAt}
 use Rattle.sheet.specs.Reading.{Reading, whole, readSheet}
-use Rattle.sheet.specs.Names.{HasBody, isSome, ExitsFit, TargetsFit, EventBelow, StopFits}
+use Rattle.sheet_laws.specs.Names.{HasBody, isSome, ExitsFit, TargetsFit, EventBelow, StopFits}
 use Rattle.sheet.specs.Decode.{sheetOf}
-use Rattle.sheet.specs.AtOffset.{empty-symbol, symbolsAt, postfix}
+use Rattle.sheet_laws.specs.AtOffset.{empty-symbol, symbolsAt, postfix}
 use Rattle.sheet.proofs.Each.{each-head, each-member}
 use Rattle.runs.specs.Rules.{Rule, rules, stopCount, total, count}
 use Rattle.runs.specs.Runs.{State, Grown, Move, by-step, newCall, raise, returnedNow, move, run}

@@ -17,8 +17,8 @@ use Rattle.sheet.specs.Kind.{conditions}
 use Rattle.sheet.specs.Record.{Bytes, byteAt}
 use Rattle.sheet.specs.Reading.{Reading, whole, readSheet}
 use Rattle.sheet.specs.Decode.{sheetOf}
-use Rattle.sheet.specs.AtOffset.{InPostfix}
-use Rattle.sheet.specs.Names.{NamesExist, HasBody, OutcomesFit, EventBelow, StopFits}
+use Rattle.sheet_laws.specs.AtOffset.{InPostfix}
+use Rattle.sheet_laws.specs.Names.{NamesExist, HasBody, OutcomesFit, EventBelow, StopFits}
 use Rattle.runs.specs.Rules.{Rule, rules, bodyCount, eventCount, callCount, passCount, failedExitCount, failedCallCount, stopCount, total, count}
 use Rattle.runs.specs.Runs.{State, Grown, Move, MadeByTrace, run}
 use Rattle.runs.specs.Owing.{OwingWhenOpen}

@@ -1,6 +1,6 @@
 -- `cases::first_short` meets its contract: a byte is below 256.
 use native.Mathlib.Omega.{arith}
-use Rattle.sheet.proofs.Fields.{short-lt}
+use Rattle.sheet_laws.proofs.Fields.{short-lt}
 use borrow.Author.Needs.{needs}
 use Rattle.cases.proofs.first_short.Statement.{statement}
 use Rattle.cases.proofs.first_short.Tie as tie

@@ -1,6 +1,6 @@
 -- `clause4` meets its contract: what the followers want and no pair serves is what clause 4 misses (`FirstMissing`).
 use mathlib.Core.Path.{_∙_}
-use Rattle.sheet.specs.AtOffset.{certificateAt}
+use Rattle.sheet_laws.specs.AtOffset.{certificateAt}
 use Rattle.clause4.proofs.FirstMissing.{clause4-is}
 use borrow.Author.Needs.{needs}
 use Rattle.clause4.proofs.clause4.Statement.{statement}

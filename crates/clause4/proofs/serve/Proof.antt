@@ -3,7 +3,7 @@ use mathlib.Core.Path.{sym, subst}
 use mathlib.Core.Logic.{⊎-elim}
 use Prim.Native.Nat.{ℕ, _<_}
 use native.Mathlib.Omega.{arith}
-use Rattle.sheet.specs.AtOffset.{certificateAt}
+use Rattle.sheet_laws.specs.AtOffset.{certificateAt}
 use Rattle.clause4.specs.Clause4.{Hint}
 use Rattle.clause4.proofs.Seen.{toSee, to-see-on, to-see-turned, stands-within}
 use Rattle.clause4.proofs.Serving.{Going, going-none, going-inside, going-passed, going-more, going-turned, served-all, served-stop, hint-none, hint-at}

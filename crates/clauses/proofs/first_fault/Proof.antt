@@ -1,7 +1,7 @@
 -- `first_fault` meets its contract: clause 1 by the first pair, then the pairs in order (`AllPairs`).
 use mathlib.Core.Path.{sym, _∙_}
 use native.Mathlib.Omega.{arith}
-use Rattle.sheet.specs.AtOffset.{certificateAt}
+use Rattle.sheet_laws.specs.AtOffset.{certificateAt}
 use Rattle.clauses.specs.Clauses.{Spans}
 use Rattle.clauses.proofs.AllPairs.{when-failed, wrong-start, right-start, spans}
 use borrow.Author.Needs.{needs}

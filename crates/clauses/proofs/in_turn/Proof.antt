@@ -5,7 +5,7 @@ use native.Mathlib.Omega.{arith}
 use lib.ListN.{length}
 use Rattle.condition.specs.Condition.{Condition}
 use Rattle.certificate.specs.Certificate.{inOrder, fine}
-use Rattle.sheet.specs.AtOffset.{certificateAt}
+use Rattle.sheet_laws.specs.AtOffset.{certificateAt}
 use Rattle.faults.specs.Fault.{findingOf}
 use Rattle.places.specs.Tables.{Tables}
 use Rattle.pairs.proofs.Laws.{pair-inside, pairs-near}

@@ -3,7 +3,7 @@ use Prim.Native.Nat.{_^_, _<_}
 use mathlib.Core.Path.{sym, _∙_}
 use native.Mathlib.Omega.{arith}
 use lib.Dec.{ltb}
-use Rattle.sheet.specs.AtOffset.{certificateAt}
+use Rattle.sheet_laws.specs.AtOffset.{certificateAt}
 use Rattle.clauses.proofs.ByTables.{inside-place, at-clause2, at-clause3, at-clause4}
 use borrow.Author.Needs.{needs}
 use Rattle.clauses.proofs.pair_fault.Statement.{statement}

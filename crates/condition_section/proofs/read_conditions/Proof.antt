@@ -10,7 +10,7 @@ use borrow.Author.Needs.{needs}
 use Rattle.sheet.specs.Model.{conditionLimit}
 use Rattle.sheet.specs.Kind.{kindOf, sectionOf}
 use Rattle.sheet.specs.Reading.{Reading, inCondition, ReadResult}
-use Rattle.sheet.proofs.Take.{next-lt}
+use Rattle.sheet_laws.proofs.Take.{next-lt}
 use Rattle.format.specs.declared.Refusal.{Refusal}
 use Rattle.format.proofs.Laws.{Stood, stood, Refuses, refused}
 use Rattle.instrument.specs.Model.{modelWith}

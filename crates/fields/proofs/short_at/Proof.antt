@@ -3,7 +3,7 @@ use mathlib.Core.Path.{sym}
 use Prim.Native.Nat.{_+_}
 use native.Mathlib.Omega.{arith}
 use Rattle.sheet.specs.Record.{byteAt}
-use Rattle.sheet.specs.AtOffset.{shortAt}
+use Rattle.sheet_laws.specs.AtOffset.{shortAt}
 use Rattle.fields.proofs.Laws.{byte-past, short-past}
 use borrow.Author.Needs.{needs}
 use Rattle.fields.proofs.short_at.Statement.{statement}

@@ -1,5 +1,5 @@
 use Rattle.sheet.specs.Record.{byteAt}
-use Rattle.sheet.specs.AtOffset.{shortAt}
+use Rattle.sheet_laws.specs.AtOffset.{shortAt}
 use borrow.Author.Needs.{needs}
 use Rattle.fields.proofs.short_inside.Statement.{statement}
 use Rattle.fields.proofs.short_inside.Tie as tie

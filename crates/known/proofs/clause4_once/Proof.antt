@@ -1,7 +1,7 @@
 -- `clause4_once` meets its contract: what is known to be served says that clause 4 holds (`Covered`), or the search finds what it finds.
 use mathlib.Core.Path.{sym, _∙_}
 use native.Mathlib.Omega.{arith}
-use Rattle.sheet.specs.AtOffset.{certificateAt}
+use Rattle.sheet_laws.specs.AtOffset.{certificateAt}
 use Rattle.known.proofs.Covered.{served-of, of-served, served-less}
 use borrow.Author.Needs.{needs}
 use Rattle.known.proofs.clause4_once.Statement.{statement}

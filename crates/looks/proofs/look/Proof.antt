@@ -10,7 +10,7 @@ use Rattle.bits.specs.Bits.{has}
 use Rattle.bits.proofs.Least.{number-lt}
 use Rattle.meets.specs.Meets.{tableRows}
 use Rattle.certificate.specs.Certificate.{Pair}
-use Rattle.sheet.specs.AtOffset.{certificateAt}
+use Rattle.sheet_laws.specs.AtOffset.{certificateAt}
 use Rattle.looks.proofs.Leaving.{and-both, left-off, left-row, leaves-row, left-of, takes-of}
 use borrow.Author.Needs.{needs}
 use Rattle.looks.proofs.look.Statement.{statement}

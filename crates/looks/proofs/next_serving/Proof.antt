@@ -5,7 +5,7 @@ use native.Mathlib.Nat.{le-antisymm}
 use native.Mathlib.Omega.{arith}
 use borrow.Author.Tests.{lt-ltb}
 use Rattle.certificate.specs.Certificate.{Pair}
-use Rattle.sheet.specs.AtOffset.{certificateAt}
+use Rattle.sheet_laws.specs.AtOffset.{certificateAt}
 use Rattle.looks.specs.Looks.{Passed}
 use Rattle.looks.proofs.Passing.{passed-none, passed-more, passed-to, off-row}
 use borrow.Author.Needs.{needs}

@@ -6,7 +6,7 @@ use native.Mathlib.Omega.{arith}
 use mathlib.Core.Path.{_≡_, refl, sym, subst}
 use lib.Bits.{bitAnd}
 use Rattle.certificate.specs.Certificate.{Pair}
-use Rattle.sheet.specs.AtOffset.{certificateAt}
+use Rattle.sheet_laws.specs.AtOffset.{certificateAt}
 use Rattle.looks.specs.Looks.{Passed}
 use Rattle.looks.proofs.Passing.{passed-none, passed-more, passed-to, off-followers}
 use borrow.Author.Needs.{needs}

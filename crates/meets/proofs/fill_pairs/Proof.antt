@@ -6,7 +6,7 @@ use mathlib.Core.Logic.{⊎-elim}
 use Prim.Native.Nat.{ℕ, _+_, _-_, _≤_, _<_}
 use native.Mathlib.Omega.{arith}
 use lib.ListN.{length}
-use Rattle.sheet.specs.AtOffset.{certificateAt}
+use Rattle.sheet_laws.specs.AtOffset.{certificateAt}
 use Rattle.certificate.specs.Certificate.{pairOf}
 use Rattle.format.specs.Pairs.{pairIs}
 use Rattle.pairs.proofs.Laws.{pair-inside, found-pair, found-end}

@@ -11,7 +11,7 @@ use borrow.Author.Needs.{needs}
 use Rattle.sheet.specs.Kind.{kindOf, sectionOf}
 use Rattle.sheet.specs.Record.{recordAt}
 use Rattle.sheet.specs.Reading.{Reading, allExist, ReadResult}
-use Rattle.sheet.proofs.Take.{next-lt}
+use Rattle.sheet_laws.proofs.Take.{next-lt}
 use Rattle.format.specs.declared.Refusal.{Refusal}
 use Rattle.kinds.specs.Kinds.{primitiveKind}
 use Rattle.format.proofs.Laws.{Stood, stood, Refuses, refused}

@@ -8,7 +8,7 @@ use lib.ListN.{length}
 use lib.Dec.{eqb}
 use borrow.Author.Needs.{needs}
 use Rattle.sheet.specs.Reading.{Reading, ReadResult}
-use Rattle.sheet.proofs.Take.{next-lt}
+use Rattle.sheet_laws.proofs.Take.{next-lt}
 use Rattle.format.specs.declared.Refusal.{Refusal}
 use Rattle.format.proofs.Laws.{Stood, stood, Refuses, refused}
 use Rattle.instrument.specs.Model.{modelWith}

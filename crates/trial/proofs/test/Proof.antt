@@ -4,7 +4,7 @@ use Prim.Native.Nat.{ℕ, suc, _+_, _*_}
 use native.Mathlib.Omega.{arith}
 use lib.ListN.{length, length-drop}
 use Rattle.certificate.specs.Certificate.{fine, check}
-use Rattle.sheet.specs.AtOffset.{certificateAt}
+use Rattle.sheet_laws.specs.AtOffset.{certificateAt}
 use Rattle.index.specs.Trial.{passed}
 use Rattle.clauses.specs.Clauses.{checkedFinding, Spans}
 use Rattle.pairs.proofs.Laws.{certificate-part}

@@ -1,4 +1,4 @@
-use Rattle.sheet.specs.AtOffset.{methodAt}
+use Rattle.sheet_laws.specs.AtOffset.{methodAt}
 use borrow.Author.Needs.{needs}
 use Rattle.values.proofs.declaration_at.Statement.{statement}
 use Rattle.values.proofs.declaration_at.Tie as tie

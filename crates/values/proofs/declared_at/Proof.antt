@@ -1,4 +1,4 @@
-use Rattle.sheet.specs.AtOffset.{declaredAt}
+use Rattle.sheet_laws.specs.AtOffset.{declaredAt}
 use borrow.Author.Needs.{needs}
 use Rattle.values.proofs.declared_at.Statement.{statement}
 use Rattle.values.proofs.declared_at.Tie as tie

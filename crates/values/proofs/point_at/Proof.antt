@@ -1,4 +1,4 @@
-use Rattle.sheet.specs.AtOffset.{pointAt}
+use Rattle.sheet_laws.specs.AtOffset.{pointAt}
 use borrow.Author.Needs.{needs}
 use Rattle.values.proofs.point_at.Statement.{statement}
 use Rattle.values.proofs.point_at.Tie as tie

@@ -1,6 +1,6 @@
 use mathlib.Core.Path.{sym, _∙_}
 use borrow.Author.Tests.{ne-eqb}
-use Rattle.sheet.specs.AtOffset.{stepAt}
+use Rattle.sheet_laws.specs.AtOffset.{stepAt}
 use borrow.Author.Needs.{needs}
 use Rattle.values.proofs.step_at.Statement.{statement}
 use Rattle.values.proofs.step_at.Tie as tie

@@ -10,12 +10,12 @@ use native.Mathlib.Omega.{arith}
 use lib.ListN.{length}
 use lib.Dec.{T, eqb, ltb, leb}
 use borrow.Author.Tests.{leb-false, leb-true, lt-leb, ltb-false, ltb-true, le-ltb}
 use Rattle.sheet.specs.Model.{Model, NoLarger}
 use Rattle.sheet.specs.Kind.{Role, symbol, a-pair, counts, edition, kindOf}
 use Rattle.sheet.specs.Record.{Record, byteAt, recordAt, nextAt}
 use Rattle.sheet.specs.Reading.{Reading, tally, full, overLimit, _when_else_, refusalOf, pastAt, ReadResult, refusal, readOn, readFrom}
-use Rattle.sheet.proofs.Take.{or-false}
-use Rattle.sheet.proofs.Order.{is-3, is-4, is-19, is-20, is-5}
+use Rattle.sheet_laws.proofs.Take.{or-false}
+use Rattle.sheet_laws.proofs.Order.{is-3, is-4, is-19, is-20, is-5}
 
 -- what an instrument M reads, beside what M′ reads, which is no smaller: 1 where it takes fewer bytes, 6 where it takes fewer points, 2 at a record of a
 -- kind that M′ alone takes, or the same

@@ -7,13 +7,13 @@ use native.Mathlib.Nat.{le-refl}
 use native.Mathlib.Omega.{arith}
 use lib.ListN.{length}
 use lib.Dec.{eqb·suc-zero, ltb, leb}
 use Rattle.sheet.specs.Model.{Model, NoLarger, withKinds}
 use Rattle.sheet.specs.Record.{byteAt, nextAt}
 use Rattle.sheet.specs.Reading.{Reading, fresh, refusalOf, pastAt, ReadResult, refusal, atEnd, readOn, readSheet}
-use Rattle.sheet.proofs.Take.{took}
-use Rattle.sheet.proofs.ReadOn.{afterRecord}
-use Rattle.sheet.proofs.Outcomes.{Reached, at-start, past}
-use Rattle.sheet.proofs.Models.{Beside, two, six, same, numbers}
+use Rattle.sheet_laws.proofs.Take.{took}
+use Rattle.sheet_laws.proofs.ReadOn.{afterRecord}
+use Rattle.sheet_laws.proofs.Outcomes.{Reached, at-start, past}
+use Rattle.sheet_laws.proofs.Models.{Beside, two, six, same, numbers}
 
 -- no record that reading comes to is of a kind above k that the instrument M takes
 abbrev pub WithoutKindsAbove : ℕ → Model → List ℕ → Type 0

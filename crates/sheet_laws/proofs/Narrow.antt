@@ -7,19 +7,19 @@ use lib.ListN.{getD, drop}
 use lib.Pow.{pow-pos, pow-mono}
 use Rattle.condition.specs.Condition.{Condition, noWord}
 use Rattle.condition.proofs.Narrow.{EventsBelow}
 use Rattle.sheet.specs.Model.{Model}
 use Rattle.sheet.specs.Each.{Each, nil, cons}
 use Rattle.sheet.specs.Sheet.{Sheet, condition}
 use Rattle.sheet.specs.Kind.{Role, symbol, a-pair, counts, edition, Kind, a-kind, kinds, kindOf, sectionOf}
 use Rattle.sheet.specs.Record.{Bytes, Record, byteAt, recordAt, value}
 use Rattle.sheet.specs.Reading.{Opened, Counted, Reading, item, openedPast, pastAt, ReadResult, whole, refusal, readSheet}
 use Rattle.sheet.specs.Decode.{sheetIn, sheetOf}
 use Rattle.sheet.proofs.Each.{each-tail, each-mapped, each-getD}
-use Rattle.sheet.proofs.Fields.{value-lt}
+use Rattle.sheet_laws.proofs.Fields.{value-lt}
 use Rattle.sheet.proofs.Kind.{_and_, numbered}
-use Rattle.sheet.proofs.Take.{Took}
-use Rattle.sheet.proofs.Own.{each-own}
-use Rattle.sheet.proofs.SheetOf.{of-is}
+use Rattle.sheet_laws.proofs.Take.{Took}
+use Rattle.sheet_laws.proofs.Own.{each-own}
+use Rattle.sheet_laws.proofs.SheetOf.{of-is}
 
 module _ (n : ℕ) where
   abbrev AllBelow : List Condition → Type 0

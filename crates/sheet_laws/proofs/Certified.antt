@@ -7,16 +7,16 @@ use native.Mathlib.Omega.{arith}
 use lib.ListN.{length}
 use lib.Dec.{eqb}
 use Rattle.certificate.specs.Certificate.{Certificate}
 use Rattle.sheet.specs.Model.{Model}
 use Rattle.sheet.specs.Kind.{Role, symbol, a-pair, counts, edition, kindOf, sectionOf}
 use Rattle.sheet.specs.Record.{Record, byteAt, recordAt, nextAt}
 use Rattle.sheet.specs.Reading.{Opened, Counted, Reading, startOf, startsOf, inCondition, openedPast, ownPast, pastAt, whole, readSheet}
-use Rattle.sheet.specs.AtOffset.{certificateAt}
-use Rattle.sheet.proofs.Take.{next-lt, Took}
-use Rattle.sheet.proofs.ReadOn.{read-keeps}
-use Rattle.sheet.proofs.Pairs.{end-next, pairs-end, certificate-stands}
-use Rattle.sheet.proofs.Kind.{Fits, fits}
-use Rattle.sheet.proofs.Standing.{closed, pairs-now, OpenIn, still-open}
+use Rattle.sheet_laws.specs.AtOffset.{certificateAt}
+use Rattle.sheet_laws.proofs.Take.{next-lt, Took}
+use Rattle.sheet_laws.proofs.ReadOn.{read-keeps}
+use Rattle.sheet_laws.proofs.Pairs.{end-next, pairs-end, certificate-stands}
+use Rattle.sheet_laws.proofs.Kind.{Fits, fits}
+use Rattle.sheet_laws.proofs.Standing.{closed, pairs-now, OpenIn, still-open}
 
 -- certificates start at these offsets, the first at the offset `at`, each of the others behind the one before, and the last ends at `end`; a pair
 -- is six bytes, the end of a certificate one

@@ -8,21 +8,21 @@ use native.Mathlib.Nat.{not-suc-le-zero, le-of-suc-le-suc}
 use lib.ListN.{length, getD, getElem?, length-map}
 use Rattle.condition.specs.Condition.{noWord}
 use Rattle.certificate.specs.Certificate.{Certificate}
 use Rattle.sheet.specs.Model.{Model, conditionLimit, methodLimit, stepLimit}
 use Rattle.sheet.specs.Each.{Each, nil, cons}
 use Rattle.sheet.specs.Sheet.{Sheet, condition, body}
 use Rattle.sheet.specs.Kind.{conditions, points, methods, steps}
 use Rattle.sheet.specs.Reading.{Counted, Reading, startOf, startsOf, isNew, item, whole, readSheet}
 use Rattle.sheet.specs.Decode.{pointOf, methodOf, stepOf, sheetOf}
-use Rattle.sheet.specs.AtOffset.{pointAt, methodAt, stepAt, certificateAt}
-use Rattle.sheet.specs.Names.{NamesExist, HasBody, OutcomesFit, EventBelow}
-use Rattle.sheet.proofs.Laws.{Within, own-tally, none-over}
-use Rattle.sheet.proofs.Symbols.{Stands}
-use Rattle.sheet.proofs.Standing.{IsAt, ReadAt, read-at}
-use Rattle.sheet.proofs.SheetOf.{sheet-is}
-use Rattle.sheet.proofs.Named.{names-exist, events-below}
-use Rattle.sheet.proofs.First.{first-has-body}
-use Rattle.sheet.proofs.Outcomes.{outcomes-fit}
+use Rattle.sheet_laws.specs.AtOffset.{pointAt, methodAt, stepAt, certificateAt}
+use Rattle.sheet_laws.specs.Names.{NamesExist, HasBody, OutcomesFit, EventBelow}
+use Rattle.sheet_laws.proofs.Laws.{Within, own-tally, none-over}
+use Rattle.sheet_laws.proofs.Symbols.{Stands}
+use Rattle.sheet_laws.proofs.Standing.{IsAt, ReadAt, read-at}
+use Rattle.sheet_laws.proofs.SheetOf.{sheet-is}
+use Rattle.sheet_laws.proofs.Named.{names-exist, events-below}
+use Rattle.sheet_laws.proofs.First.{first-has-body}
+use Rattle.sheet_laws.proofs.Outcomes.{outcomes-fit}
 
 -- the element with a number is what stands at the offset with that number, inside the sheet
 pub record Found {A : Type 0} (s : List ℕ) (at : ℕ → A) (xs : List A) (os : List ℕ) (i : ℕ) : Type 0 where

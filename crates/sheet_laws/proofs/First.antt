@@ -6,15 +6,15 @@ use mathlib.Core.List.{List, [], _∷_, _++_, map}
 use Prim.Native.Nat.{ℕ}
 use lib.ListN.{length, getElem?}
 use lib.Dec.{T, eqb}
 use Rattle.sheet.specs.Model.{Model}
 use Rattle.sheet.specs.Sheet.{Body, Sheet, bodyIn, body}
 use Rattle.sheet.specs.Reading.{Counted, Reading, isPrimitive, pastAt, whole, readSheet}
 use Rattle.sheet.specs.Decode.{methodOf, sheetOf}
-use Rattle.sheet.specs.Names.{HasBody}
-use Rattle.sheet.proofs.Take.{Took}
-use Rattle.sheet.proofs.ReadOn.{read-keeps}
-use Rattle.sheet.proofs.Own.{counted, own-cases}
-use Rattle.sheet.proofs.SheetOf.{sheet-is}
+use Rattle.sheet_laws.specs.Names.{HasBody}
+use Rattle.sheet_laws.proofs.Take.{Took}
+use Rattle.sheet_laws.proofs.ReadOn.{read-keeps}
+use Rattle.sheet_laws.proofs.Own.{counted, own-cases}
+use Rattle.sheet_laws.proofs.SheetOf.{sheet-is}
 
 -- the first of these, if there is one, is no primitive
 abbrev FirstHasBody : List Counted → Type 0

@@ -8,9 +8,9 @@ use native.Mathlib.Omega.{arith}
 use lib.ListN.{length}
 use Rattle.condition.specs.Condition.{Condition, leaf, empty, join, either, star}
 use Rattle.condition.specs.Places.{leaves}
 use Rattle.sheet.specs.Record.{nextAt}
-use Rattle.sheet.specs.AtOffset.{Symbol, leaf-symbol, empty-symbol, join-symbol, either-symbol, star-symbol, symbolAt, inFront, symbolsOn, symbolsAt, postfix}
-use Rattle.sheet.proofs.Take.{next-lt}
+use Rattle.sheet_laws.specs.AtOffset.{Symbol, leaf-symbol, empty-symbol, join-symbol, either-symbol, star-symbol, symbolAt, inFront, symbolsOn, symbolsAt, postfix}
+use Rattle.sheet_laws.proofs.Take.{next-lt}
 
 -- Symbols in the bytes --------------------------------------------------------------------------------------------------
 

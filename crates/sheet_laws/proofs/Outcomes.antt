@@ -10,22 +10,22 @@ use native.Mathlib.Omega.{arith}
 use lib.ListN.{length, getD, getElem?}
 use lib.Dec.{T, eqb, ltb→lt}
 use borrow.Author.Tests.{eqb-true, not-false}
 use Rattle.sheet.specs.Model.{Model}
 use Rattle.sheet.specs.Each.{Each, nil, cons}
 use Rattle.sheet.specs.Sheet.{failed, Declared, Body, Method, declaredIn}
 use Rattle.sheet.specs.Kind.{methods, kindOf, sectionOf}
 use Rattle.sheet.specs.Record.{Record, byteAt, recordAt, nextAt, value}
 use Rattle.sheet.specs.Reading.{Counted, Reading, fresh, tally, startOf, startsOf, isNew, isPrimitive, hasTwoOutcomes, allExist, methodRecord, twoOutcomesIn, wrongOutcomes, pastAt, whole, readSheet}
 use Rattle.sheet.specs.Decode.{methodOf, stepOf, sheetRead, sheetOf}
-use Rattle.sheet.specs.Names.{isSome, ExitsFit, TargetsFit, OutcomesFit}
+use Rattle.sheet_laws.specs.Names.{isSome, ExitsFit, TargetsFit, OutcomesFit}
 use Rattle.sheet.proofs.Each.{each-map, each-all, each-append, each-mapped}
-use Rattle.sheet.proofs.Take.{or-false, and-false, Took}
-use Rattle.sheet.proofs.ReadOn.{read-keeps}
-use Rattle.sheet.proofs.Own.{counted, own-cases}
-use Rattle.sheet.proofs.Kind.{step-cases, not-inside}
-use Rattle.sheet.proofs.Standing.{closed, OpenIn, still-open, alone}
-use Rattle.sheet.proofs.SheetOf.{sheet-is}
-use Rattle.sheet.proofs.Named.{FieldsExist, at-exists}
+use Rattle.sheet_laws.proofs.Take.{or-false, and-false, Took}
+use Rattle.sheet_laws.proofs.ReadOn.{read-keeps}
+use Rattle.sheet_laws.proofs.Own.{counted, own-cases}
+use Rattle.sheet_laws.proofs.Kind.{step-cases, not-inside}
+use Rattle.sheet_laws.proofs.Standing.{closed, OpenIn, still-open, alone}
+use Rattle.sheet_laws.proofs.SheetOf.{sheet-is}
+use Rattle.sheet_laws.proofs.Named.{FieldsExist, at-exists}
 
 -- The method that a call names --------------------------------------------------------------------------------------------
 

@@ -8,18 +8,18 @@ use native.Mathlib.Omega.{arith}
 use lib.ListN.{length, getD, length-map}
 use lib.Dec.{T, ltb→lt}
 use Rattle.bits.proofs.Tests.{and-out}
 use Rattle.sheet.specs.Model.{Model}
 use Rattle.sheet.specs.Each.{Each}
 use Rattle.sheet.specs.Sheet.{Outcome, normal, failed, Method, Sheet, declaredFor}
 use Rattle.sheet.specs.Kind.{Field, a-set, Kind, a-kind, counts, kinds, kindOf, width}
 use Rattle.sheet.specs.Record.{Record, byteAt, valuesAt, recordAt, value}
 use Rattle.sheet.specs.Reading.{Counted, Reading, tally, isNew, exists, allExist, item, whole, readSheet}
 use Rattle.sheet.specs.Decode.{pointOf, methodOf, stepOf, sheetRead, sheetOf}
-use Rattle.sheet.specs.Names.{PointNamed, DeclaredNamed, MethodNamed, StepNamed, NamesExist, EventBelow}
+use Rattle.sheet_laws.specs.Names.{PointNamed, DeclaredNamed, MethodNamed, StepNamed, NamesExist, EventBelow}
 use Rattle.sheet.proofs.Each.{each-map, each-zip, each-mapped}
 use Rattle.sheet.proofs.Kind.{_and_, numbered}
-use Rattle.sheet.proofs.Laws.{Recorded, all-recorded, Named, all-named, own-tally}
-use Rattle.sheet.proofs.SheetOf.{sheet-is}
+use Rattle.sheet_laws.proofs.Laws.{Recorded, all-recorded, Named, all-named, own-tally}
+use Rattle.sheet_laws.proofs.SheetOf.{sheet-is}
 
 -- what a method declares of each outcome
 outcomes : (n : ℕ) (x : Method) (o : Outcome) → DeclaredNamed n (some (x .normal)) → DeclaredNamed n (x .failing) → DeclaredNamed n (declaredFor o x)

@@ -10,15 +10,15 @@ use lib.ListN.{length, length-append}
 use lib.Dec.{T, ltb→lt}
 use borrow.Author.Tests.{leb-false, lt-ltb}
 use Rattle.bits.proofs.Tests.{and-out}
 use Rattle.sheet.specs.Model.{Model, conditionLimit, methodLimit, stepLimit}
 use Rattle.sheet.specs.Each.{Each, nil, cons}
 use Rattle.sheet.specs.Kind.{Field, a-set, an-event, a-place, a-name, Role, counts, kindOf, sectionOf}
 use Rattle.sheet.specs.Record.{byteAt, recordAt, nextAt}
 use Rattle.sheet.specs.Reading.{Counted, Reading, fresh, tally, full, overLimit, exists, allExist, pastAt, whole, readSheet}
 use Rattle.sheet.proofs.Each.{each-map, each-append}
-use Rattle.sheet.proofs.Take.{Took}
-use Rattle.sheet.proofs.ReadOn.{read-keeps}
-use Rattle.sheet.proofs.Own.{counted, own-cases, each-own}
+use Rattle.sheet_laws.proofs.Take.{Took}
+use Rattle.sheet_laws.proofs.ReadOn.{read-keeps}
+use Rattle.sheet_laws.proofs.Own.{counted, own-cases, each-own}
 
 -- What counts is a record -------------------------------------------------------------------------------------------------
 

@@ -9,21 +9,21 @@ use native.Mathlib.Omega.{arith}
 use lib.ListN.{length}
 use lib.Dec.{T, eqb, ltb}
 use borrow.Author.Tests.{eqb-true, eq-eqb, ne-eqb, lt-ltb, le-ltb, ltb-false, not-false}
 use Rattle.sheet.specs.Model.{Model}
 use Rattle.sheet.specs.Each.{Each}
 use Rattle.sheet.specs.Sheet.{Step, event-step, call-step, pass-step, stop-step, Sheet}
 use Rattle.sheet.specs.Kind.{conditions, bodyLength, kindOf}
 use Rattle.sheet.specs.Record.{byteAt, recordAt, nextAt}
 use Rattle.sheet.specs.Reading.{Opened, nothing, Counted, Reading, isNew, openedPast, ownPast, refusalOf, pastAt, whole, readSheet}
 use Rattle.sheet.specs.Decode.{stepOf, sheetOf}
-use Rattle.sheet.specs.Names.{StopFits}
+use Rattle.sheet_laws.specs.Names.{StopFits}
 use Rattle.sheet.proofs.Each.{each-map, each-mapped}
-use Rattle.sheet.proofs.Take.{or-false, and-false, next-is, Took}
-use Rattle.sheet.proofs.Order.{is-2, is-3, is-4, nineteen}
-use Rattle.sheet.proofs.ReadOn.{first-taken}
-use Rattle.sheet.proofs.Own.{counted, each-own}
-use Rattle.sheet.proofs.Kind.{step-cases}
-use Rattle.sheet.proofs.SheetOf.{sheet-is}
+use Rattle.sheet_laws.proofs.Take.{or-false, and-false, next-is, Took}
+use Rattle.sheet_laws.proofs.Order.{is-2, is-3, is-4, nineteen}
+use Rattle.sheet_laws.proofs.ReadOn.{first-taken}
+use Rattle.sheet_laws.proofs.Own.{counted, each-own}
+use Rattle.sheet_laws.proofs.Kind.{step-cases}
+use Rattle.sheet_laws.proofs.SheetOf.{sheet-is}
 
 -- The mark ----------------------------------------------------------------------------------------------------------------
 

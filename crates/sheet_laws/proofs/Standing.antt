@@ -11,19 +11,19 @@ use lib.Dec.{T, eqb, leb}
 use borrow.Author.Tests.{ltb-false, leb-false, eqb-true, not-false}
 use Rattle.condition.specs.Condition.{Condition, noWord}
 use Rattle.certificate.specs.Certificate.{Pair, Certificate}
 use Rattle.sheet.specs.Model.{Model, symbolLimit, leafLimit}
 use Rattle.sheet.specs.Each.{Each}
 use Rattle.sheet.specs.Kind.{Role, symbol, a-pair, counts, edition, kindOf, sectionOf}
 use Rattle.sheet.specs.Record.{Record, byteAt, recordAt, nextAt, value}
 use Rattle.sheet.specs.Reading.{Opened, nothing, Counted, Reading, startOf, inCondition, wrongItems, isLeaf, overLimit, item, openedPast, pastAt, whole, readSheet}
 use Rattle.sheet.specs.Decode.{pointOf, methodOf, stepOf}
-use Rattle.sheet.specs.AtOffset.{pointAt, methodAt, stepAt, pairAt, symbolAt, InPostfix, certificateAt}
+use Rattle.sheet_laws.specs.AtOffset.{pointAt, methodAt, stepAt, pairAt, symbolAt, InPostfix, certificateAt}
 use Rattle.sheet.proofs.Each.{each-map}
-use Rattle.sheet.proofs.Take.{or-false, next-lt, Took}
-use Rattle.sheet.proofs.Own.{each-own}
-use Rattle.sheet.proofs.Symbols.{SymbolsTo, no-symbol, one-symbol-more, Stands, stands, symbolsIn, leavesIn, leaves-append, leaves-postfix}
-use Rattle.sheet.proofs.Pairs.{pair-next, PairsTo, no-pair, one-pair-more, certificate-stands}
-use Rattle.sheet.proofs.Kind.{IsSymbol, Counts, Fits, fits}
+use Rattle.sheet_laws.proofs.Take.{or-false, next-lt, Took}
+use Rattle.sheet_laws.proofs.Own.{each-own}
+use Rattle.sheet_laws.proofs.Symbols.{SymbolsTo, no-symbol, one-symbol-more, Stands, stands, symbolsIn, leavesIn, leaves-append, leaves-postfix}
+use Rattle.sheet_laws.proofs.Pairs.{pair-next, PairsTo, no-pair, one-pair-more, certificate-stands}
+use Rattle.sheet_laws.proofs.Kind.{IsSymbol, Counts, Fits, fits}
 
 -- What is open --------------------------------------------------------------------------------------------------------------
 

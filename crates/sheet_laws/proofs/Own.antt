@@ -5,14 +5,14 @@ use mathlib.Core.List.{List, [], _∷_, _++_}
 use Prim.Native.Nat.{ℕ}
 use lib.Dec.{eqb}
 use borrow.Author.Tests.{eqb-true}
 use Rattle.sheet.specs.Each.{Each, nil, cons}
 use Rattle.sheet.proofs.Each.{each-append}
 use Rattle.sheet.specs.Model.{Model}
 use Rattle.sheet.specs.Kind.{Role, symbol, a-pair, counts, edition, kindOf, sectionOf}
 use Rattle.sheet.specs.Record.{byteAt, recordAt, nextAt}
 use Rattle.sheet.specs.Reading.{Counted, Reading, fresh, ownPast, pastAt, whole, readSheet}
-use Rattle.sheet.proofs.Take.{Took}
-use Rattle.sheet.proofs.ReadOn.{read-keeps}
+use Rattle.sheet_laws.proofs.Take.{Took}
+use Rattle.sheet_laws.proofs.ReadOn.{read-keeps}
 
 -- what counts at the record at an offset, where it counts
 abbrev pub counted : List ℕ → ℕ → Reading → Counted

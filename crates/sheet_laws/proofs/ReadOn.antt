@@ -7,10 +7,10 @@ use Prim.Native.Nat.{ℕ, zero, suc, _≤_, _<_}
 use lib.ListN.{length}
 use lib.Dec.{T, eqb, eqb·suc-zero, ltb, leb}
 use borrow.Author.Tests.{lt-leb, le-leb}
 use Rattle.sheet.specs.Model.{Model}
 use Rattle.sheet.specs.Record.{nextAt}
 use Rattle.sheet.specs.Reading.{Reading, fresh, refusalOf, pastAt, ReadResult, whole, refusal, stateOf, atEnd, readOn, readFrom, readSheet}
-use Rattle.sheet.proofs.Take.{Took, took}
+use Rattle.sheet_laws.proofs.Take.{Took, took}
 
 -- what follows in the state r at an offset before the end, where n is the number of the refusal there
 abbrev pub afterRecord : Model → List ℕ → ℕ → ℕ → Reading → ℕ → ReadResult

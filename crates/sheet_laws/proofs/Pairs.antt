@@ -9,10 +9,10 @@ use lib.ListN.{length}
 use lib.Dec.{T, eqb, ltb}
 use borrow.Author.Tests.{eqb-true, ne-eqb, ltb-true, lt-ltb}
 use Rattle.certificate.specs.Certificate.{Certificate}
 use Rattle.sheet.specs.Kind.{bodyLength}
 use Rattle.sheet.specs.Record.{byteAt, nextAt}
-use Rattle.sheet.specs.AtOffset.{pairAt, hasPair, pairsOn, certificateAt}
-use Rattle.sheet.proofs.Take.{next-is}
+use Rattle.sheet_laws.specs.AtOffset.{pairAt, hasPair, pairsOn, certificateAt}
+use Rattle.sheet_laws.proofs.Take.{next-is}
 
 module _ (s : List ℕ) (at : ℕ) where
   -- a pair is six bytes, the end of a certificate one

@@ -4,11 +4,11 @@ use mathlib.Core.List.{List, [], _∷_}
 use Prim.Native.Nat.{ℕ, zero, suc, _+_, _*_, _^_, _<_}
 use native.Mathlib.Omega.{arith}
 use lib.ListN.{getD}
 use Rattle.sheet.specs.Kind.{Field, a-set, an-event, a-place, a-name, width}
 use Rattle.sheet.specs.Record.{Bytes, byteAt, numberAt, valuesAt}
-use Rattle.sheet.specs.AtOffset.{shortAt, setAt}
+use Rattle.sheet_laws.specs.AtOffset.{shortAt, setAt}
+
 -- checked before the proofs
-use Rattle.sheet.proofs.EditionExamples
 
 module _ (s : List ℕ) where
   pub byte-is : (i : ℕ) → byteAt s i ≡ getD s i 0

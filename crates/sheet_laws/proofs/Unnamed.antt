@@ -7,10 +7,10 @@ use mathlib.Core.List.{[], _∷_}
 use Prim.Native.Nat.{ℕ}
 use native.Mathlib.Omega.{arith}
 use Rattle.condition.specs.Condition.{empty}
 use Rattle.sheet.specs.Each.{nil, cons}
 use Rattle.sheet.specs.Sheet.{Outcome, normal, failed, Point, Declared, Body, Method, Step, event-step, callFrom, failingCallFrom, pass-step, stop-step, Sheet, declaredFor}
-use Rattle.sheet.specs.Names.{PointNamed, BodyNamed, DeclaredNamed, MethodNamed, StepNamed, NamesExist, HasBody, ExitsFit, TargetsFit, OutcomesFit, EventBelow, StopFits}
+use Rattle.sheet_laws.specs.Names.{PointNamed, BodyNamed, DeclaredNamed, MethodNamed, StepNamed, NamesExist, HasBody, ExitsFit, TargetsFit, OutcomesFit, EventBelow, StopFits}
 use Rattle.sheet.proofs.Each.{each-head}
 
 -- one condition, and the point, the method and the step that are given; so each name that exists is 0
 abbrev sheet : Point → Method → Step → Sheet

@@ -1,0 +1,2 @@
+pub mod AtOffset
+pub mod Names
