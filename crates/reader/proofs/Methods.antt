@@ -18,7 +18,7 @@ use Rattle.sheet_laws.proofs.ReadOn.{afterRecord, on-end, on-record}
 use Rattle.sheet_laws.proofs.Own.{counted, own-cases}
 use Rattle.sheet_laws.proofs.Outcomes.{KindAt, MethodsStand, method-outcomes, Reached, at-start, past, reached-methods}
 use Rattle.kinds.specs.Kinds.{twoOutcomeKind}
-use Rattle.refusals.specs.Outcomes.{kindListed}
+use Rattle.names.specs.Outcomes.{kindListed}
 use Rattle.sections.specs.declared.Section.{Section}
 use Rattle.sections.specs.declared.Section.the-variants.{Done, Refused}
 use Rattle.sections.specs.Sections.{overwritten, Comes, Told}

@@ -1,4 +1,2 @@
 pub mod Step
-pub mod Names
-pub mod Outcomes
 pub mod Editions

@@ -9,8 +9,6 @@ use kinds::is_leaf;
 use kinds::items_taken;
 
 pub mod editions; // editions.rt: the mark of the new edition, and stops
-pub mod names; // names.rt: whether what a record names exists
-pub mod outcomes; // outcomes.rt: whether a call names a method with as many outcomes
 
 // What is begun of a condition: its items, its symbols and its leaves so far.
 pub struct Begun {

@@ -22,7 +22,7 @@ use Rattle.instrument.specs.Model.{modelWith}
 use Rattle.tally.specs.declared.Tally.{Tally}
 use Rattle.tally.specs.Tally.{countOf, tallyAfter}
 use Rattle.refusals.specs.Editions.{stopFits}
-use Rattle.refusals.specs.Outcomes.{kindListed, wrongOutcomesAt}
+use Rattle.names.specs.Outcomes.{kindListed, wrongOutcomesAt}
 use Rattle.sections.specs.declared.Section.{Section}
 use Rattle.sections.specs.declared.Section.the-variants.{Done, Refused}
 use Rattle.sections.specs.Sections.{Counts, Between, Told, overwrittenFrom, Extended, Filled, MethodsListed, Alone}

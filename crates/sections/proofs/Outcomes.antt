@@ -15,7 +15,7 @@ use Rattle.sheet_laws.proofs.Fields.{shortsThen, names-alone}
 use Rattle.sheet_laws.proofs.Named.{FieldsExist, at-exists}
 use Rattle.sheet_laws.proofs.Outcomes.{never-wrong}
 use Rattle.kinds.specs.Kinds.{twoOutcomeKind}
-use Rattle.refusals.specs.Outcomes.{kindListed, wrongOutcomesAt}
+use Rattle.names.specs.Outcomes.{kindListed, wrongOutcomesAt}
 
 module _ (events : ℕ) (s : List ℕ) (at : ℕ) (u : Reading) (names : T (allExist events (tally u) (kindOf (byteAt s at) .fields) (recordAt s at .values)))
     (table : List ℕ)

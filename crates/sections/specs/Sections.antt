@@ -17,7 +17,7 @@ use Rattle.instrument.specs.declared.Limits.{Limits}
 use Rattle.instrument.specs.Model.{modelWith}
 use Rattle.tally.specs.declared.Tally.{Tally}
 use Rattle.tally.specs.Tally.{countOf}
-use Rattle.refusals.specs.Outcomes.{kindListed}
+use Rattle.names.specs.Outcomes.{kindListed}
 use Rattle.sections.specs.declared.Section.{Section}
 use Rattle.sections.specs.declared.Section.the-variants.{Done, Refused}
 use Rattle.sections.specs.declared.Read.{Read}

@@ -19,9 +19,9 @@ use kinds::CERTIFICATES;
 use kinds::counts;
 use kinds::is_primitive;
 use kinds::section_of;
+use names::names_exist;
+use names::outcomes::outcomes_fit;
 use refusals::editions::stop_fits;
-use refusals::names::names_exist;
-use refusals::outcomes::outcomes_fit;
 use tally::Tally;
 use tally::past;
 

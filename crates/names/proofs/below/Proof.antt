@@ -2,8 +2,8 @@ use Prim.Native.Nat.{ℕ}
 use mathlib.Core.Path.{ap}
 use lib.Dec.{ltb}
 use borrow.Author.Needs.{needs}
-use Rattle.refusals.proofs.names.below.Statement.{statement}
-use Rattle.refusals.proofs.names.below.Tie as tie
+use Rattle.names.proofs.below.Statement.{statement}
+use Rattle.names.proofs.below.Tie as tie
 
 short-inside-requires : tie.Need-short-inside-requires
 short-inside-requires c κs = search needs

@@ -1,8 +1,8 @@
 -- By the section of the kind.
 use native.Mathlib.Omega.{arith}
-use Rattle.refusals.proofs.Named.{is-kind}
-use Rattle.refusals.proofs.names.names_exist.Statement.{statement}
-use Rattle.refusals.proofs.names.names_exist.Tie as tie
+use Rattle.names.proofs.Named.{is-kind}
+use Rattle.names.proofs.names_exist.Statement.{statement}
+use Rattle.names.proofs.names_exist.Tie as tie
 
 section-of-requires : tie.Need-section-of-requires
 section-of-requires c κs = is-kind (c .before .pre)

@@ -1,9 +1,9 @@
 -- By the kind: each answer is the law of its fields.
 use native.Mathlib.Omega.{arith}
-use Rattle.refusals.proofs.Named.{three-inside, declared-inside, exist-9, exist-15, exist-16, exist-three}
+use Rattle.names.proofs.Named.{three-inside, declared-inside, exist-9, exist-15, exist-16, exist-three}
 use borrow.Author.Needs.{needs}
-use Rattle.refusals.proofs.names.declared_names_exist.Statement.{statement}
-use Rattle.refusals.proofs.names.declared_names_exist.Tie as tie
+use Rattle.names.proofs.declared_names_exist.Statement.{statement}
+use Rattle.names.proofs.declared_names_exist.Tie as tie
 
 add-three-below : tie.Need-add-three-below
 add-three-below c = omega (arith, three-inside (c .before .pre .0) (c .before .pre .1))

@@ -6,7 +6,7 @@ use Prim.Native.Nat.{ℕ, _+_}
 use borrow.Author.Tests.{ne-eqb}
 use Rattle.sheet_laws.specs.AtOffset.{shortAt}
 use Rattle.kinds.specs.Kinds.{twoOutcomeKind}
-use Rattle.refusals.specs.Outcomes.{kindListed, wrongOutcomesAt}
+use Rattle.names.specs.Outcomes.{kindListed, wrongOutcomesAt}
 
 or-false-right : (b : Bool) → (b || false) ≡ b
 or-false-right true = refl

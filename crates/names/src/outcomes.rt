@@ -3,7 +3,7 @@ ghost use mathlib.Core.Path.{_≡_};
 ghost use mathlib.Core.Bool.{not};
 ghost use Prim.Native.Nat.{_<_};
 ghost use lib.ListN.{length};
-ghost use Rattle.refusals.specs.Outcomes.{kindListed, wrongOutcomesAt};
+ghost use Rattle.names.specs.Outcomes.{kindListed, wrongOutcomesAt};
 use fields::byte_at;
 use fields::short_at;
 use kinds::CALL;

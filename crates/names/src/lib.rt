@@ -8,7 +8,7 @@ ghost use Rattle.sheet.specs.Record.{recordAt};
 ghost use Rattle.sheet_laws.specs.AtOffset.{shortAt};
 ghost use Rattle.sheet.specs.Reading.{allExist};
 ghost use Rattle.tally.specs.Tally.{countOf};
-ghost use Rattle.refusals.specs.Names.{Named, twoBelow, threeBelow};
+ghost use Rattle.names.specs.Names.{Named, twoBelow, threeBelow};
 use bits::both;
 use fields::index;
 use fields::short_inside;
@@ -22,6 +22,8 @@ use kinds::TWO_OUTCOME_PRIMITIVE;
 use kinds::WITH_BODY;
 use kinds::section_of;
 use tally::Tally;
+
+pub mod outcomes; // outcomes.rt: whether a call names a method with as many outcomes
 
 // The name at an offset, and two and three one after the other, are of the first n.
 fn below(s: &[u8], i: usize, n: usize) -> bool

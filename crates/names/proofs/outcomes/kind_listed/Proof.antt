@@ -1,8 +1,8 @@
 use native.Mathlib.Omega.{arith}
 use borrow.Author.Tests.{lt-ltb, le-ltb}
 use borrow.Author.Needs.{needs}
-use Rattle.refusals.proofs.outcomes.kind_listed.Statement.{statement}
-use Rattle.refusals.proofs.outcomes.kind_listed.Tie as tie
+use Rattle.names.proofs.outcomes.kind_listed.Statement.{statement}
+use Rattle.names.proofs.outcomes.kind_listed.Tie as tie
 
 mul-byte-at : tie.Need-mul-byte-at
 mul-byte-at c = search needs

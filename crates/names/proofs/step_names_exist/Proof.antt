@@ -1,9 +1,9 @@
 -- By the kind: each answer is the law of its fields.
 use native.Mathlib.Omega.{arith}
-use Rattle.refusals.proofs.Named.{one-inside, two-inside, step-inside, exist-10, exist-11, exist-17, exist-19, exist-two}
+use Rattle.names.proofs.Named.{one-inside, two-inside, step-inside, exist-10, exist-11, exist-17, exist-19, exist-two}
 use borrow.Author.Needs.{needs}
-use Rattle.refusals.proofs.names.step_names_exist.Statement.{statement}
-use Rattle.refusals.proofs.names.step_names_exist.Tie as tie
+use Rattle.names.proofs.step_names_exist.Statement.{statement}
+use Rattle.names.proofs.step_names_exist.Tie as tie
 
 add-below : tie.Need-add-below
 add-below c = let start = c .before .before in omega (arith, one-inside (start .pre .0) (start .pre .1) (c .if1 .taken))

@@ -17,7 +17,7 @@ use Rattle.kinds.specs.Kinds.{lastKind}
 use Rattle.kinds.proofs.Table.{by-rows}
 use Rattle.tally.specs.declared.Tally.{Tally}
 use Rattle.tally.specs.Tally.{countOf}
-use Rattle.refusals.specs.Names.{Named, twoBelow, threeBelow}
+use Rattle.names.specs.Names.{Named, twoBelow, threeBelow}
 
 and-true : (a : Bool) → (a && true) ≡ a
 and-true true = refl

@@ -1,7 +1,7 @@
-use Rattle.refusals.proofs.Calls.{fits-11, fits-17, fits-other}
+use Rattle.names.proofs.Calls.{fits-11, fits-17, fits-other}
 use borrow.Author.Needs.{needs}
-use Rattle.refusals.proofs.outcomes.outcomes_fit.Statement.{statement}
-use Rattle.refusals.proofs.outcomes.outcomes_fit.Tie as tie
+use Rattle.names.proofs.outcomes.outcomes_fit.Statement.{statement}
+use Rattle.names.proofs.outcomes.outcomes_fit.Tie as tie
 
 add-short-at : tie.Need-add-short-at
 add-short-at c = search needs
