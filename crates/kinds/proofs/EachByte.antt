@@ -1,5 +1,5 @@
 -- The length of each byte of kind: it is the one that the documents list, and what it says of the kind.
-use mathlib.Core.Path.{_≡_, refl, sym, ap, _∙_, subst}
+use mathlib.Core.Path.{_≡_, refl, sym, ap, subst}
 use mathlib.Core.Bool.{Bool, true, false, cond, _&&_}
 use Prim.Native.Nat.{ℕ, _+_, _-_, _≤_, _<_}
 use native.Mathlib.Omega.{arith}
@@ -26,7 +26,8 @@ same-out (Of m) Nothing h = absurd h
 same-out Nothing (Of n) h = absurd h
 same-out Nothing Nothing h = refl
 
--- "for each of the 256 kind bytes the decision gives the former length or that there is none": one test, computed over all of them
+-- "for each of the 256 kind bytes the decision gives the former length or that there is none": `body_length` gives `lengthOf`, and this is the listed
+-- length of each byte, by one test that is computed over all of them
 each-byte : T (allBelow 256 (λ k. same (lengthOf k) (listedLength k)))
 unfolding allBelow same
 each-byte = tt

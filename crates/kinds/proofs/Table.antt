@@ -4,7 +4,6 @@ use mathlib.Core.Bool.{Bool, true, false, not, cond, _&&_, _||_}
 use mathlib.Core.List.{List, [], _∷_}
 use Prim.Native.Nat.{ℕ, suc, _+_, _≤_, _<_}
 use native.Mathlib.Omega.{arith}
-use lib.ListN.{getD}
 use lib.Dec.{T, eqb, ltb, lit≤}
 use borrow.Author.Tests.{le-ltb, eqb-true, eqb-false, ne-eqb}
 use Rattle.sheet.specs.Kind.{conditions, points, methods, steps, certificates, a-set, a-place, Role, symbol, a-pair, counts, edition, Kind, a-kind, kinds, kindOf, sectionOf, widths, bodyLength}
