@@ -83,7 +83,13 @@ pub no-body : (k : ℕ) → 2 ≤ k → k < 7 → Of 0 ≡ lengthOf k
 unfolding allBelow same
 no-body k low high = sym (between 2 5 (Of 0) tt k low high)
 
--- a point and a primitive
-pub three-names : (k : ℕ) → 7 ≤ k → k < 9 → 6 ≡ bodyLength k
+-- a point, a primitive and a call
+pub three-names : (k : ℕ) → 7 ≤ k → k < 12 → (k ≡ 9 → ⊥) → (k ≡ 10 → ⊥) → 6 ≡ bodyLength k
 unfolding allBelow same
-three-names k low high = length-out k 6 (between 7 2 (Of 6) tt k low high) .2
+three-names k low high no-body no-event = go (ltb k 9) refl
+  where
+    go : (b : Bool) → ltb k 9 ≡ b → 6 ≡ bodyLength k
+    go true e = length-out k 6 (between 7 2 (Of 6) tt k low (ltb-true k 9 e)) .2
+    go false e =
+        let is : k ≡ 11 = omega (arith, ltb-false k 9 e, no-body, no-event) in
+        sym (ap bodyLength is)

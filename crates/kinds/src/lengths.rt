@@ -5,7 +5,6 @@ ghost use Prim.Native.Nat.{_≤_, _<_};
 ghost use Rattle.sheet.specs.Kind.{bodyLength};
 ghost use Rattle.kinds.specs.Kinds.{lastKind};
 ghost use Rattle.kinds.specs.Lengths.{lengthOf};
-use crate::CALL;
 use crate::EDITION;
 use crate::EVENT;
 use crate::LAST;
@@ -73,19 +72,16 @@ fn one_outcome_length(kind: u8) -> usize
     requires { ⌜ (7 ≤ kind) × (kind < 13) ⌝ }
     ensures { λ r. ⌜ r ≡ bodyLength kind ⌝ }
 {
-    if kind < 10 {
-        if kind == WITH_BODY {
-            return 10;
-        }
-        return 6;
+    if 11 < kind {
+        return 4;
+    }
+    if kind == WITH_BODY {
+        return 10;
     }
     if kind == EVENT {
         return 5;
     }
-    if kind == CALL {
-        return 6;
-    }
-    4
+    6
 }
 
 // Of the end of a certificate; of a primitive and a method with body that have two outcomes, and of a call of such a method.
@@ -93,8 +89,8 @@ fn two_outcome_length(kind: u8) -> usize
     requires { ⌜ (14 ≤ kind) × (kind < 18) ⌝ }
     ensures { λ r. ⌜ r ≡ bodyLength kind ⌝ }
 {
-    if kind < 15 {
-        return 0;
+    if 16 < kind {
+        return 8;
     }
     if kind == TWO_OUTCOME_PRIMITIVE {
         return 10;
@@ -102,5 +98,5 @@ fn two_outcome_length(kind: u8) -> usize
     if kind == TWO_OUTCOME_BODY {
         return 16;
     }
-    8
+    0
 }

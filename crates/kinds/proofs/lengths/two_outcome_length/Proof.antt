@@ -6,7 +6,7 @@ use Rattle.kinds.proofs.lengths.two_outcome_length.Tie as tie
 
 returns : tie.Need-returns
 returns c =
-    let is : c .before .args .kind ≡ 14 = omega arith in
+    let is : c .before .args .kind ≡ 17 = omega arith in
     sym (ap bodyLength is)
 
 returns-2 : tie.Need-returns-2
@@ -17,7 +17,7 @@ returns-3 c = sym (ap bodyLength (c .if3 .taken))
 
 returns-4 : tie.Need-returns-4
 returns-4 c =
-    let is : c .before .before .before .args .kind ≡ 17 = omega arith in
+    let is : c .before .before .before .args .kind ≡ 14 = omega arith in
     sym (ap bodyLength is)
 
 pub two-outcome-length-spec : {M : Type 1} → statement M
