@@ -11,7 +11,7 @@ use Rattle.condition.specs.Places.{accepts}
 use Rattle.condition.proofs.Words.{words}
 use Rattle.sheet.specs.Model.{large}
 use Rattle.sheet.specs.Each.{nil, cons}
-use Rattle.sheet.specs.Sheet.{normal, event-step, callFrom, stop-step, Sheet}
+use Rattle.sheet.specs.Sheet.{normal, pointFrom, event-step, callFrom, stop-step, Sheet}
 use Rattle.sheet.specs.Decode.{sheetOf}
 use Rattle.sheet.proofs.Each.{each-head, each-tail}
 use Rattle.runs.specs.Rules.{rules, count}
@@ -89,7 +89,7 @@ others-print = refl
 abbrev sheet : (due stop : ℕ) → Sheet
 sheet due stop = record {
   conditions = empty ∷ leaf 1 ∷ either empty (leaf 1) ∷ [];
-  points = record { past = 0; own = 0; due = 1 } ∷ record { past = 1; own = 1; due = 0 } ∷ record { past = 0; own = 0; due = due } ∷ [];
+  points = pointFrom 0 0 1 ∷ pointFrom 1 1 0 ∷ pointFrom 0 0 due ∷ [];
   methods = withBody 0 1 0 0 1 ∷ primitive 0 0 1 ∷ primitive 0 0 2 ∷ withBody 0 1 0 2 1 ∷ [];
   steps = callFrom 0 0 1 ∷ callFrom 0 1 3 ∷ callFrom 2 2 2 ∷ event-step 2 1 0 ∷ stop-step stop ∷ [];
   certificates = sheetOf large (gate due stop) .certificates;

@@ -10,7 +10,7 @@ use native.Mathlib.Omega.{arith}
 use lib.ListN.{getElem?}
 use Rattle.condition.specs.Condition.{empty, star, event, any, globally}
 use Rattle.condition.proofs.Words.{words}
-use Rattle.sheet.specs.Sheet.{normal, event-step, callFrom, pass-step, Sheet, condition}
+use Rattle.sheet.specs.Sheet.{normal, pointFrom, event-step, callFrom, pass-step, Sheet, condition}
 use Rattle.runs.specs.Runs.{Call, Returned, Move, return, by-step, run}
 use Rattle.runs.specs.Owing.{InCaller, LiesInFuture}
 use Rattle.runs.proofs.Methods.{primitive, withBody}
@@ -20,7 +20,7 @@ use Rattle.runs.proofs.Methods.{primitive, withBody}
 abbrev pub visits : Sheet
 visits = record {
   conditions = empty ∷ star (any 32) ∷ star (event 2) ∷ globally (2 ^ 32 - 1 - 1) ∷ [];
-  points = record { past = 2; own = 0; due = 1 } ∷ record { past = 2; own = 2; due = 2 } ∷ record { past = 2; own = 2; due = 2 } ∷ [];
+  points = pointFrom 2 0 1 ∷ pointFrom 2 2 2 ∷ pointFrom 2 2 2 ∷ [];
   methods = withBody 2 2 2 0 2 ∷ primitive 1 0 3 ∷ [];
   steps = callFrom 0 1 1 ∷ callFrom 1 1 0 ∷ pass-step 1 2 ∷ event-step 1 2 2 ∷ [];
   certificates = [];

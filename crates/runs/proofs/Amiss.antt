@@ -8,7 +8,7 @@ use Rattle.condition.specs.Places.{accepts}
 use Rattle.condition.proofs.Words.{words}
 use Rattle.sheet.specs.Each.{nil, cons}
 use Rattle.sheet.proofs.Each.{each-head, each-tail}
-use Rattle.sheet.specs.Sheet.{normal, failed, event-step, callFrom, failingCallFrom, stop-step, Sheet}
+use Rattle.sheet.specs.Sheet.{normal, failed, pointFrom, event-step, callFrom, failingCallFrom, stop-step, Sheet}
 use Rattle.runs.specs.Runs.{Move, return, by-step, run}
 use Rattle.runs.specs.Owing.{Owing}
 use Rattle.runs.proofs.Methods.{primitive, withBody, failingPrimitive, failingWithBody}
@@ -25,13 +25,7 @@ lacks c w e h = subst T e (words c w .1 h)
 abbrev opening : Sheet
 opening = record {
   conditions = empty ∷ star (any 32) ∷ event 0 ∷ event 1 ∷ asked ∷ [];
-  points =
-      record { past = 1; own = 1; due = 1 }
-      ∷ record { past = 1; own = 1; due = 2 }
-      ∷ record { past = 1; own = 1; due = 0 }
-      ∷ record { past = 1; own = 1; due = 1 }
-      ∷ record { past = 1; own = 1; due = 0 }
-      ∷ [];
+  points = pointFrom 1 1 1 ∷ pointFrom 1 1 2 ∷ pointFrom 1 1 0 ∷ pointFrom 1 1 1 ∷ pointFrom 1 1 0 ∷ [];
   methods = withBody 1 1 0 0 2 ∷ withBody 1 1 4 3 4 ∷ primitive 1 3 4 ∷ [];
   steps = callFrom 0 1 1 ∷ event-step 1 2 0 ∷ callFrom 3 4 2 ∷ callFrom 0 1 2 ∷ [];
   certificates = [];

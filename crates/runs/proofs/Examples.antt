@@ -7,13 +7,13 @@ use mathlib.Core.Option.{none, some}
 use mathlib.Core.List.{List, [], _∷_, _++_, map}
 use Rattle.condition.specs.Condition.{Word, empty, join, star, event, any, _⊆_}
 use Rattle.sheet.specs.Each.{nil, cons}
-use Rattle.sheet.specs.Sheet.{normal, failed, Point, Method, event-step, callFrom, pass-step, Sheet}
+use Rattle.sheet.specs.Sheet.{normal, failed, Point, pointFrom, Method, event-step, callFrom, pass-step, Sheet}
 use Rattle.runs.specs.Rules.{_isIn_, holdsEmpty, _of_says_, exitRules, returnRules, firstsRules, rules, AllMet}
 use Rattle.runs.specs.Runs.{Call, Returned, State, Move, return, by-step, run}
 use Rattle.runs.proofs.Methods.{primitive, withBody}
 
 abbrev pub anywhere : Point
-anywhere = record { past = 0; own = 0; due = 0 }
+anywhere = pointFrom 0 0 0
 
 abbrev with-body : ℕ → ℕ → Method
 with-body entry exit = withBody 0 0 0 entry exit
@@ -119,7 +119,7 @@ abbrev told : Sheet
 told = record {
   conditions =
       event 0 ∷ event 1 ∷ event 2 ∷ event 3 ∷ event 4 ∷ event 5 ∷ event 6 ∷ event 7 ∷ event 8 ∷ event 9 ∷ event 10 ∷ event 11 ∷ [];
-  points = record { past = 0; own = 1; due = 2 } ∷ record { past = 3; own = 4; due = 5 } ∷ [];
+  points = pointFrom 0 1 2 ∷ pointFrom 3 4 5 ∷ [];
   methods = withBody 6 7 8 0 1 ∷ primitive 9 10 11 ∷ [];
   steps = event-step 0 1 31 ∷ callFrom 0 1 1 ∷ pass-step 0 1 ∷ [];
   certificates = [];

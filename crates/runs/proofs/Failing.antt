@@ -13,7 +13,7 @@ use Rattle.condition.specs.Condition.{Word, Condition, empty, join, either, sta
 use Rattle.condition.proofs.Words.{words}
 use Rattle.sheet.specs.Each.{Each, nil, cons}
 use Rattle.sheet.proofs.Each.{each-head, each-tail}
-use Rattle.sheet.specs.Sheet.{Outcome, normal, failed, Declared, event-step, callFrom, failingCallFrom, pass-step, Sheet, conditionNamed, declaredIn, trace, body, exitIn}
+use Rattle.sheet.specs.Sheet.{Outcome, normal, failed, pointFrom, Declared, event-step, callFrom, failingCallFrom, pass-step, Sheet, conditionNamed, declaredIn, trace, body, exitIn}
 use Rattle.runs.specs.Rules.{_isIn_, holdsEmpty, _of_says_, rulesFrom, rules, AllMet, count}
 use Rattle.runs.specs.Runs.{Call, Returned, State, start, Move, return, by-step, run, Safe}
 use Rattle.runs.proofs.Methods.{primitive, withBody, failingPrimitive, failingWithBody}
@@ -239,7 +239,7 @@ told = record {
   conditions =
       event 0 ∷ event 1 ∷ event 2 ∷ event 3 ∷ event 4 ∷ event 5 ∷ event 6 ∷ event 7 ∷ event 8 ∷ event 9 ∷ event 10 ∷ event 11 ∷ event 12 ∷ event 13
       ∷ event 14 ∷ event 15 ∷ event 16 ∷ event 17 ∷ event 18 ∷ [];
-  points = record { past = 0; own = 1; due = 2 } ∷ record { past = 3; own = 4; due = 5 } ∷ record { past = 6; own = 7; due = 8 } ∷ [];
+  points = pointFrom 0 1 2 ∷ pointFrom 3 4 5 ∷ pointFrom 6 7 8 ∷ [];
   methods = failingWithBody 9 10 11 0 1 12 13 2 ∷ failingPrimitive 14 15 16 17 18 ∷ [];
   steps = failingCallFrom 0 1 2 1 ∷ [];
   certificates = [];
@@ -305,7 +305,7 @@ nothing = join empty empty
 abbrev gateWith : ℕ → Sheet
 gateWith failed-future = record {
   conditions = empty ∷ event 0 ∷ to-close ∷ opened ∷ either closed nothing ∷ either to-open nothing ∷ [];
-  points = record { past = 0; own = 0; due = 5 } ∷ record { past = 3; own = 3; due = 2 } ∷ record { past = 4; own = 4; due = 0 } ∷ [];
+  points = pointFrom 0 0 5 ∷ pointFrom 3 3 2 ∷ pointFrom 4 4 0 ∷ [];
   methods = withBody 0 4 0 0 2 ∷ failingPrimitive 0 1 2 0 failed-future ∷ [];
   steps = failingCallFrom 0 1 2 1 ∷ event-step 1 2 1 ∷ [];
   certificates = [];

@@ -15,7 +15,9 @@ pub mod Invariant
 pub mod Kept
 pub mod Safe
 pub mod Owing
+pub mod Owners
 pub mod Examples
+mod OwnersExamples
 pub mod Failing
 pub mod Stopping
 pub mod Loop

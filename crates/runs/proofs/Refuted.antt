@@ -8,7 +8,7 @@ use native.Mathlib.Omega.{arith}
 use Rattle.condition.specs.Condition.{Word, event}
 use Rattle.condition.specs.Places.{accepts}
 use Rattle.condition.proofs.Words.{words}
-use Rattle.sheet.specs.Sheet.{normal, failed, CallStep, event-step, call-step, Sheet}
+use Rattle.sheet.specs.Sheet.{normal, failed, pointFrom, CallStep, event-step, call-step, Sheet}
 use Rattle.sheet.proofs.Each.{each-head}
 use lib.ListN.{length, getD}
 use Rattle.runs.specs.Runs.{Call, Returned, State, Grown, move, MadeByTrace}
@@ -41,7 +41,7 @@ called = record { from = 0; to = 0; failed-to = none; method = 0 }
 abbrev sheet : Sheet
 sheet = record {
   conditions = event 7 ∷ [];
-  points = record { past = 0; own = 0; due = 0 } ∷ [];
+  points = pointFrom 0 0 0 ∷ [];
   methods = failingPrimitive 0 0 0 0 0 ∷ [];
   steps = call-step called ∷ event-step 0 0 3 ∷ [];
   certificates = [];

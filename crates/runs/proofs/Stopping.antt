@@ -10,7 +10,7 @@ use Rattle.condition.specs.Places.{accepts}
 use Rattle.condition.proofs.Words.{words}
 use Rattle.sheet.specs.Each.{Each, nil, cons}
 use Rattle.sheet.proofs.Each.{each-head}
-use Rattle.sheet.specs.Sheet.{normal, failed, event-step, callFrom, failingCallFrom, pass-step, stop-step, Sheet, due}
+use Rattle.sheet.specs.Sheet.{normal, failed, pointFrom, event-step, callFrom, failingCallFrom, pass-step, stop-step, Sheet, due}
 use Rattle.runs.specs.Rules.{_isIn_, holdsEmpty, Met, Rule, _of_says_, ofMethod, rulesFrom, rules, AllMet, count}
 use Rattle.runs.specs.Runs.{Call, Returned, State, start, Move, return, by-step, noneOpen, run, Safe}
 use Rattle.runs.proofs.Methods.{primitive, withBody, failingPrimitive, failingWithBody}
@@ -155,7 +155,7 @@ abbrev told : Sheet
 told = record {
   conditions =
       event 0 ∷ event 1 ∷ event 2 ∷ event 3 ∷ event 4 ∷ event 5 ∷ event 6 ∷ event 7 ∷ event 8 ∷ event 9 ∷ event 10 ∷ event 11 ∷ [];
-  points = record { past = 0; own = 1; due = 2 } ∷ record { past = 3; own = 4; due = 5 } ∷ record { past = 6; own = 7; due = 8 } ∷ [];
+  points = pointFrom 0 1 2 ∷ pointFrom 3 4 5 ∷ pointFrom 6 7 8 ∷ [];
   methods = withBody 9 10 11 0 1 ∷ [];
   steps = callFrom 1 2 0 ∷ stop-step 2 ∷ [];
   certificates = [];
@@ -201,14 +201,7 @@ gate last at = record {
   conditions =
       empty ∷ event 0 ∷ opened ∷ closing ∷ to-close ∷ join (event 0) to-close ∷ join opened closing
       ∷ join opened (event 1) ∷ join opened (event last) ∷ join empty (event last) ∷ from-1 last ∷ [];
-  points =
-      record { past = 0; own = 0; due = 5 }
-      ∷ record { past = 2; own = 2; due = 4 }
-      ∷ record { past = 6; own = 6; due = 0 }
-      ∷ record { past = 2; own = 0; due = 10 }
-      ∷ record { past = 7; own = 3; due = 0 }
-      ∷ record { past = 8; own = 9; due = 0 }
-      ∷ [];
+  points = pointFrom 0 0 5 ∷ pointFrom 2 2 4 ∷ pointFrom 6 6 0 ∷ pointFrom 2 0 10 ∷ pointFrom 7 3 0 ∷ pointFrom 8 9 0 ∷ [];
   methods = withBody 0 6 0 0 2 ∷ withBody 2 3 0 3 4 ∷ primitive 0 1 4 ∷ [];
   steps = callFrom 0 1 2 ∷ callFrom 1 2 1 ∷ event-step 3 4 1 ∷ event-step 3 5 last ∷ stop-step at ∷ [];
   certificates = [];

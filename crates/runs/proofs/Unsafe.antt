@@ -9,7 +9,7 @@ use Rattle.condition.specs.Condition.{Condition, empty, join, event}
 use Rattle.condition.proofs.Words.{words}
 use Rattle.sheet.specs.Each.{nil, cons}
 use Rattle.sheet.proofs.Each.{each-head, each-tail}
-use Rattle.sheet.specs.Sheet.{normal, failed, Point, event-step, callFrom, failingCallFrom, Sheet}
+use Rattle.sheet.specs.Sheet.{normal, failed, Point, pointFrom, event-step, callFrom, failingCallFrom, Sheet}
 use Rattle.runs.specs.Runs.{Move, return, by-step, run, Safe}
 use Rattle.runs.proofs.Methods.{primitive, withBody, failingPrimitive, failingWithBody}
 
@@ -17,7 +17,7 @@ use Rattle.runs.proofs.Methods.{primitive, withBody, failingPrimitive, 
 
 -- runs don't look at a point's conditions
 abbrev somewhere : Point
-somewhere = record { past = 0; own = 0; due = 0 }
+somewhere = pointFrom 0 0 0
 
 abbrev all-three : Condition
 all-three = join (event 0) (join (event 1) (event 2))

@@ -1,3 +1,4 @@
 pub mod Rules
 pub mod Runs
 pub mod Owing
+pub mod Owners

@@ -1,5 +1,5 @@
 -- Laws of a property of each element of a list.
-use mathlib.Core.Path.{refl, sym, subst}
+use mathlib.Core.Path.{_≡_, refl, sym, subst}
 use mathlib.Core.List.{List, [], _∷_, _++_, map, List·Memᴰ, List·Memᴰ·head, List·Memᴰ·tail, List·Memᴰ·cases-cons, List·Memᴰ·not-nil}
 use mathlib.Core.Logic.{⊎-elim}
 use mathlib.Core.Option.{Option, none, some}
@@ -75,3 +75,7 @@ each-get P n (cons h t) (suc i) = each-get P n t i
 pub each-index : {A : Type 0} (P : A → Type 0) (d : A) (xs : List A) → ((i : ℕ) → i < length xs → P (getD xs i d)) → Each P xs
 each-index P d [] h = nil
 each-index P d (x ∷ xs) h = cons (h 0 (omega arith)) (each-index P d xs (λ i l. h (suc i) (omega (arith, l))))
+
+pub each-listed : {A : Type 0} (P : A → Type 0) (xs : List A) → ((i : ℕ) (x : A) → getElem? xs i ≡ some x → P x) → Each P xs
+each-listed P [] h = nil
+each-listed P (x ∷ xs) h = cons (h 0 x refl) (each-listed P xs (λ i. h (suc i)))

@@ -8,7 +8,7 @@ use Prim.Native.Nat.{ℕ}
 use lib.ListN.{replicate}
 use Rattle.condition.specs.Condition.{empty}
 use Rattle.sheet.specs.Model.{large, withKinds}
-use Rattle.sheet.specs.Sheet.{pass-step, stop-step}
+use Rattle.sheet.specs.Sheet.{pointFrom, pass-step, stop-step}
 use Rattle.sheet.specs.Reading.{startingFrom, readFrom, readSheet}
 use Rattle.sheet.specs.Decode.{sheetOf}
 use Rattle.sheet.proofs.Examples.{pairBytes, declared, oneOutcome, body, starts, Row, numberAndPlace, after, times, point0, method0, pass0, naming, failingCall, failingMethod0}
@@ -25,7 +25,7 @@ newSheet = 0x12 ∷ (times 2 (0x02 ∷ 0x06 ∷ []) ++ (times 2 point0 ++ (metho
 new-sheet-is-so : sheetOf large newSheet
     ≡ record {
       conditions = replicate 2 empty;
-      points = replicate 2 (record { past = 0; own = 0; due = 0 });
+      points = replicate 2 (pointFrom 0 0 0);
       methods = oneOutcome 0 (declared 0 0) (body 0 0 none) ∷ [];
       steps = pass-step 0 0 ∷ stop-step 1 ∷ pass-step 0 0 ∷ [];
       certificates = [];

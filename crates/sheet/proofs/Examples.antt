@@ -11,7 +11,7 @@ use lib.ListN.{getD, replicate, set, take}
 use Rattle.condition.specs.Condition.{leaf, empty, join, either, star}
 use Rattle.certificate.specs.Certificate.{pair}
 use Rattle.sheet.specs.Model.{Model, large, entry, withKinds, NoLarger}
-use Rattle.sheet.specs.Sheet.{Declared, Body, Method, event-step, callFrom, failingCallFrom, pass-step, stop-step}
+use Rattle.sheet.specs.Sheet.{pointFrom, Declared, Body, Method, event-step, callFrom, failingCallFrom, pass-step, stop-step}
 use Rattle.sheet.specs.Kind.{kindOf, sectionOf, bodyLength}
 use Rattle.sheet.specs.Record.{Record, recordAt}
 use Rattle.sheet.specs.Reading.{nothing, Counted, Reading, startingFrom, startsOf, inCondition, ReadResult, whole, refusal, stateOf, readFrom, readSheet}
@@ -20,20 +20,20 @@ use Rattle.sheet.specs.Decode.{pointOf, methodOf, stepOf, sheetOf}
 -- Kinds -----------------------------------------------------------------------------------------------------------------
 
 abbrev allKinds : List ℕ
-allKinds = 1 ∷ 2 ∷ 3 ∷ 4 ∷ 5 ∷ 6 ∷ 7 ∷ 8 ∷ 9 ∷ 10 ∷ 11 ∷ 12 ∷ 13 ∷ 14 ∷ 15 ∷ 16 ∷ 17 ∷ 18 ∷ 19 ∷ []
+allKinds = 1 ∷ 2 ∷ 3 ∷ 4 ∷ 5 ∷ 6 ∷ 7 ∷ 8 ∷ 9 ∷ 10 ∷ 11 ∷ 12 ∷ 13 ∷ 14 ∷ 15 ∷ 16 ∷ 17 ∷ 18 ∷ 19 ∷ 20 ∷ []
 
 -- "Body lengths by kind, 1 to 14: 4, 0, 0, 0, 0, 0, 6, 6, 10, 5, 6, 4, 5, 0"; of 15 to 17 five, eight and four fields, "all fields two bytes"; 18
--- "no body", 19 "body from (2 bytes)"
-lengths-are : map bodyLength allKinds ≡ 4 ∷ 0 ∷ 0 ∷ 0 ∷ 0 ∷ 0 ∷ 6 ∷ 6 ∷ 10 ∷ 5 ∷ 6 ∷ 4 ∷ 5 ∷ 0 ∷ 10 ∷ 16 ∷ 8 ∷ 0 ∷ 2 ∷ []
+-- "no body", 19 "body from (2 bytes)"; 20 four fields, "two bytes each"
+lengths-are : map bodyLength allKinds ≡ 4 ∷ 0 ∷ 0 ∷ 0 ∷ 0 ∷ 0 ∷ 6 ∷ 6 ∷ 10 ∷ 5 ∷ 6 ∷ 4 ∷ 5 ∷ 0 ∷ 10 ∷ 16 ∷ 8 ∷ 0 ∷ 2 ∷ 8 ∷ []
 lengths-are = refl
 
 -- "Sections in order: kinds 1-6, 7, 8-9, 10-12, 13-14"; 15 to 17 "in the sections of 8, 9 and 11"; 18 in "the first
--- section", 19 "among the steps"
-sections-are : map sectionOf allKinds ≡ 1 ∷ 1 ∷ 1 ∷ 1 ∷ 1 ∷ 1 ∷ 2 ∷ 3 ∷ 3 ∷ 4 ∷ 4 ∷ 4 ∷ 5 ∷ 5 ∷ 3 ∷ 3 ∷ 4 ∷ 1 ∷ 4 ∷ []
+-- section", 19 "among the steps", 20 "in the section of kind 7"
+sections-are : map sectionOf allKinds ≡ 1 ∷ 1 ∷ 1 ∷ 1 ∷ 1 ∷ 1 ∷ 2 ∷ 3 ∷ 3 ∷ 4 ∷ 4 ∷ 4 ∷ 5 ∷ 5 ∷ 3 ∷ 3 ∷ 4 ∷ 1 ∷ 4 ∷ 2 ∷ []
 sections-are = refl
 
 -- in an open condition stand "kinds 1-6": "a condition is open and the kind is above 6" is 4
-in-condition-are : map (λ (k : ℕ). inCondition (sectionOf k) (kindOf k .role)) allKinds ≡ replicate 6 true ++ replicate 13 false
+in-condition-are : map (λ (k : ℕ). inCondition (sectionOf k) (kindOf k .role)) allKinds ≡ replicate 6 true ++ replicate 14 false
 in-condition-are = refl
 
 -- Fields ----------------------------------------------------------------------------------------------------------------
@@ -79,7 +79,7 @@ fields-are-so : map (λ (s : List ℕ). recordAt s 0) (leafBytes ∷ (0x03 ∷ [
 unfolding recordAt
 fields-are-so = refl
 
-point-is-so : pointOf (recordAt pointBytes 0) ≡ record { past = 0x1101; own = 0x1202; due = 0x1303 }
+point-is-so : pointOf (recordAt pointBytes 0) ≡ pointFrom 0x1101 0x1202 0x1303
 unfolding recordAt
 point-is-so = refl
 
@@ -90,7 +90,7 @@ declared trace future = record { trace = trace; future = future }
 abbrev pub oneOutcome : ℕ → Declared → Option Body → Method
 oneOutcome pre normal body = record { pre = pre; normal = normal; failing = none; body = body }
 
-abbrev twoOutcomes : ℕ → Declared → Declared → Option Body → Method
+abbrev pub twoOutcomes : ℕ → Declared → Declared → Option Body → Method
 twoOutcomes pre normal failing body = record { pre = pre; normal = normal; failing = some failing; body = body }
 
 abbrev pub body : ℕ → ℕ → Option ℕ → Option Body
@@ -126,7 +126,7 @@ small =
 small-is-so : sheetOf large small
     ≡ record {
       conditions = join empty (leaf 1) ∷ star (either (leaf 2) empty) ∷ [];
-      points = record { past = 0; own = 1; due = 0 } ∷ record { past = 1; own = 0; due = 1 } ∷ [];
+      points = pointFrom 0 1 0 ∷ pointFrom 1 0 1 ∷ [];
       methods = oneOutcome 1 (declared 0 1) (body 0 1 none) ∷ oneOutcome 0 (declared 1 0) none ∷ [];
       steps = event-step 0 1 31 ∷ callFrom 1 0 1 ∷ pass-step 1 0 ∷ [];
       certificates = (pair 0 1 ∷ pair 5 0x04030201 ∷ []) ∷ [] ∷ [];
@@ -216,8 +216,8 @@ rows =
     -- "the end comes inside a condition or a certificate"
     ∷ after 0 0 0 0 (0x02 ∷ []) (8 ∷ 1 ∷ [])
     ∷ after 1 1 0 0 (method0 ++ (0x0D ∷ 0 ∷ 1 ∷ 0 ∷ 0 ∷ 0 ∷ [])) (8 ∷ 17 ∷ [])
-    -- "kind not 1 to 14", but 15 to 19; "an event above 31"; the names of a pass step are points, where no method is yet
-    ∷ after 0 0 0 0 (0x14 ∷ []) (2 ∷ 0 ∷ [])
+    -- "kind not 1 to 14", but 15 to 20; "an event above 31"; the names of a pass step are points, where no method is yet
+    ∷ after 0 0 0 0 (0x15 ∷ []) (2 ∷ 0 ∷ [])
     ∷ after 1 1 1 0 (0x0A ∷ 0 ∷ 0 ∷ 0 ∷ 0 ∷ 32 ∷ []) (7 ∷ 0 ∷ [])
     ∷ after 1 1 0 0 pass0 (9 ∷ 5 ∷ [])
     -- "at one record the table's order holds": 3 before 4, 4 before 5, 5 before 6, 6 before 7, 7 before 9, and behind each of the last three
@@ -243,7 +243,7 @@ counted-before = refl
 
 -- More readings ---------------------------------------------------------------------------------------------------------
 
-abbrev primitive0 : List ℕ
+abbrev pub primitive0 : List ℕ
 primitive0 = 0x08 ∷ 0 ∷ 0 ∷ 0 ∷ 0 ∷ 0 ∷ 0 ∷ []
 
 abbrev moreRows : List Row
@@ -267,7 +267,7 @@ moreRows =
     ∷ after 1 1 1 0 primitive0 (9 ∷ 0 ∷ [])
     ∷ after 1 1 0 0 (method0 ++ primitive0) []
     -- every record is read, also where each has one byte
-    ∷ after 1 1 1 0 (0x0E ∷ 0x0E ∷ 0x14 ∷ []) (2 ∷ 2 ∷ [])
+    ∷ after 1 1 1 0 (0x0E ∷ 0x0E ∷ 0x15 ∷ []) (2 ∷ 2 ∷ [])
     ∷ []
 
 more-rows-are-so : map (λ x. numberAndPlace (readFrom large (startingFrom (x .before)) (x .bytes))) moreRows ≡ map (λ x. x .refused) moreRows
@@ -337,7 +337,7 @@ entryRows =
     ∷ after 1 1 1 512 pass0 (6 ∷ 0 ∷ [])
     ∷ after 1 1 1 0 (0x0A ∷ 0 ∷ 0 ∷ 0 ∷ 0 ∷ 31 ∷ []) (9 ∷ 6 ∷ [])
     ∷ after 1 1 1 0 (0x0A ∷ 0 ∷ 0 ∷ 0 ∷ 0 ∷ 32 ∷ []) (7 ∷ 0 ∷ [])
-    ∷ after 1 1 1 0 (0x0E ∷ 0x14 ∷ []) (2 ∷ 1 ∷ [])
+    ∷ after 1 1 1 0 (0x0E ∷ 0x15 ∷ []) (2 ∷ 1 ∷ [])
     ∷ []
 
 entry-rows-are-so : map (λ x. numberAndPlace (readFrom entry (startingFrom (x .before)) (x .bytes))) entryRows ≡ map (λ x. x .refused) entryRows
@@ -373,7 +373,7 @@ failingSheet =
 failing-sheet-is-so : sheetOf large failingSheet
     ≡ record {
       conditions = replicate 5 empty;
-      points = replicate 3 (record { past = 0; own = 0; due = 0 });
+      points = replicate 3 (pointFrom 0 0 0);
       methods =
           twoOutcomes 0 (declared 1 2) (declared 3 4) (body 0 1 (some 2))
           ∷ twoOutcomes 4 (declared 3 2) (declared 1 0) none

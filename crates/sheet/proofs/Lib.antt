@@ -1,4 +1,5 @@
 pub mod Examples
 mod EditionExamples
+mod OwnerExamples
 pub mod Each
 pub mod Kind

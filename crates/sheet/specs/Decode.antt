@@ -1,4 +1,4 @@
--- The sheet that was read: document 01, "Records", and document 02, Asks 2 and 4.
+-- The sheet that was read: document 01, "Records", and document 02, Asks 2, 4 and 9.
 use Prim.Native.Nat.{ℕ, _+_}
 use mathlib.Core.Bool.{Bool, false}
 use mathlib.Core.Option.{none, some}
@@ -8,11 +8,11 @@ use Rattle.sheet.specs.Model.{Model}
 use Rattle.sheet.specs.Sheet.{Declared, Point, Method, Step, event-step, callFrom, failingCallFrom, pass-step, stop-step, Sheet}
 use Rattle.sheet.specs.Kind.{conditions, points, methods, steps, certificates}
 use Rattle.sheet.specs.Record.{Record, value}
-use Rattle.sheet.specs.Reading.{Counted, isPrimitive, hasTwoOutcomes, _when_else_, isNew, item, ReadResult, whole, refusal, readSheet}
+use Rattle.sheet.specs.Reading.{Counted, _when_else_, isPrimitive, hasTwoOutcomes, ownerOf, isNew, item, ReadResult, whole, refusal, readSheet}
 
--- kind 7: "conditions past, own, due"
+-- kind 7: "conditions past, own, due"; kind 20: "past, own, due and an owner"
 abbrev pub pointOf : Record → Point
-pointOf x = record { past = value x 0; own = value x 1; due = value x 2 }
+pointOf x = record { past = value x 0; own = value x 1; due = value x 2; owner = ownerOf x }
 
 -- what a method declares of an outcome, in two fields from the field i on
 abbrev pub declaredFrom : Record → ℕ → Declared

@@ -1,4 +1,5 @@
--- The kinds of records: document 01, "Records", and document 02, Asks 2 and 4. One table says of each kind its section, what it is to what is open, and its fields.
+-- The kinds of records: document 01, "Records", and document 02, Asks 2, 4 and 9. One table says of each kind its section, what it is to what is open,
+-- and its fields.
 use Prim.Native.Nat.{ℕ, _+_}
 use mathlib.Core.List.{List, [], _∷_}
 use lib.ListN.{getD}
@@ -20,9 +21,10 @@ steps = 4
 abbrev pub certificates : ℕ
 certificates = 5
 
--- the fields of a body: "a 4-byte set"; "event (1)"; "left place (1)"; the number of a condition, a point or a method, by its section: "2 bytes each"
+-- the fields of a body: "a 4-byte set"; "event (1)"; "left place (1)"; "an owner, its method's number", "the one name that may point forward"; the
+-- number of a condition, a point or a method, by its section: "2 bytes each"
 pub data Field : Type 0 where
-  a-set an-event a-place : Field
+  a-set an-event a-place an-owner : Field
   a-name : (of : ℕ) → Field
 
 -- how many bytes a field has
@@ -30,6 +32,7 @@ abbrev pub width : Field → ℕ
 width a-set = 4
 width an-event = 1
 width a-place = 1
+width an-owner = 2
 width (a-name of) = 2
 
 -- what a record is to what is open
@@ -83,13 +86,15 @@ kinds =
     -- Ask 4. 18: "a record of kind 18, no body, which belongs to the first section"; 19: "body from (2 bytes), among the steps"
     ∷ a-kind conditions edition []
     ∷ a-kind steps counts (a-name points ∷ [])
+    -- Ask 9. 20: "a point with past, own, due and an owner", which "stands in the section of kind 7"
+    ∷ a-kind points counts (a-name conditions ∷ a-name conditions ∷ a-name conditions ∷ an-owner ∷ [])
     ∷ []
 
 -- the row of a kind; a kind that the table lacks has that of kind 0
 abbrev pub kindOf : ℕ → Kind
 kindOf k = getD kinds k (a-kind 0 counts [])
 
--- the section of a kind: "kinds 1-6, 7, 8-9, 10-12, 13-14", 15 to 17 in those of 8, 9 and 11, 18 in the first and 19 in that of the steps
+-- the section of a kind: "kinds 1-6, 7, 8-9, 10-12, 13-14", 15 to 17 in those of 8, 9 and 11, 18 in the first, 19 in that of the steps and 20 in that of 7
 abbrev pub sectionOf : ℕ → ℕ
 sectionOf k = kindOf k .section
 
@@ -98,6 +103,6 @@ abbrev pub widths : List Field → ℕ
 widths [] = 0
 widths (f ∷ fs) = width f + widths fs
 
--- "Body lengths by kind, 1 to 14", and of 15 to 19
+-- "Body lengths by kind, 1 to 14", and of 15 to 20
 abbrev pub bodyLength : ℕ → ℕ
 bodyLength k = widths (kindOf k .fields)

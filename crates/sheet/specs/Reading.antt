@@ -1,5 +1,5 @@
--- Reading a sheet, record by record: document 01, "Records" and "What the loader returns", refusals 1 to 9, and document 02's 18 to 20, which are
--- met while reading.
+-- Reading a sheet, record by record: document 01, "Records" and "What the loader returns", refusals 1 to 9, and document 02's 18 to 20, 24 and 25,
+-- which are met while reading.
 use Prim.Native.Nat.{ℕ, zero, suc, _+_}
 use mathlib.Core.Bool.{Bool, true, false, not, cond, _&&_, _||_}
 use mathlib.Core.Option.{Option, none, some}
@@ -9,7 +9,7 @@ use lib.Dec.{eqb, ltb, leb}
 use Rattle.condition.specs.Condition.{Condition, noWord}
 use Rattle.certificate.specs.Certificate.{Certificate, pair}
 use Rattle.sheet.specs.Model.{Model, conditionLimit, symbolLimit, leafLimit, methodLimit, stepLimit}
-use Rattle.sheet.specs.Kind.{conditions, methods, Field, a-set, an-event, a-place, a-name, Role, symbol, a-pair, counts, edition, kindOf}
+use Rattle.sheet.specs.Kind.{conditions, points, methods, Field, a-set, an-event, a-place, an-owner, a-name, Role, symbol, a-pair, counts, edition, Kind, kindOf}
 use Rattle.sheet.specs.Record.{Record, byteAt, recordAt, nextAt, value}
 
 -- The state between two records ---------------------------------------------------------------------------------------
@@ -59,6 +59,11 @@ startOf o here = cond (eqb (o .section) 0) here (o .start)
 abbrev pub startsOf : List Counted → List ℕ
 startsOf = map (λ (c : Counted). startOf (c .opened) (c .last .at))
 
+-- x where the test passes, and else what follows
+infixr 10 _when_else_
+abbrev pub _when_else_ : {A : Type 0} → A → Bool → A → A
+x when b else y = cond b x y
+
 -- The refusals of a record --------------------------------------------------------------------------------------------
 
 -- not 4, where a condition is open: "kinds 1-6", its symbols and its end; "a condition is open and the kind is above 6" is 4
@@ -72,7 +77,7 @@ inCondition section edition = false
 abbrev pub isNew : List ℕ → Bool
 isNew s = eqb (byteAt s 0) 18
 
--- kind 1; kinds 8 and 15; kinds 15 and 16
+-- kind 1; kinds 8 and 15; kinds 15 and 16; kind 20
 abbrev pub isLeaf : Record → Bool
 isLeaf x = eqb (x .kind) 1
 
@@ -81,6 +86,9 @@ isPrimitive x = eqb (x .kind) 8 || eqb (x .kind) 15
 
 abbrev pub hasTwoOutcomes : Record → Bool
 hasTwoOutcomes x = eqb (x .kind) 15 || eqb (x .kind) 16
+
+abbrev pub isOwned : Record → Bool
+isOwned x = eqb (x .kind) 20
 
 -- 5: "JOIN or EITHER with under two items, STAR with none, end of condition with other than one"
 abbrev pub wrongItems : ℕ → Role → ℕ → Bool
@@ -100,11 +108,12 @@ overLimit M r x section a-pair = false
 overLimit M r x section counts = full M section (tally r section)
 overLimit M r x section edition = false
 
--- not 7, "a name that does not exist yet, or an event above 31": "Names point only backward"
+-- not 7, "a name that does not exist yet, or an event above 31": "Names point only backward"; of an owner "7 does not judge it"
 abbrev pub exists : ℕ → (ℕ → ℕ) → Field → ℕ → Bool
 exists events counted a-set v = true
 exists events counted an-event v = ltb v events
 exists events counted a-place v = true
+exists events counted an-owner v = true
 exists events counted (a-name of) v = ltb v (counted of)
 
 -- of all fields of a record, in order
@@ -113,9 +122,9 @@ allExist events counted [] vs = true
 allExist events counted (f ∷ fs) [] = true
 allExist events counted (f ∷ fs) (v ∷ vs) = exists events counted f v && allExist events counted fs vs
 
--- the record of a method by its number, if there is such a one; 7 comes before 18
-abbrev pub methodRecord : Reading → ℕ → Option Record
-methodRecord r m = getElem? (map (λ (c : Counted). c .last) (r .before methods ++ r .own methods)) m
+-- the record of a section that a number names, if there is such a one; 7 comes before 18 and 24
+abbrev pub recordNamed : Reading → (section n : ℕ) → Option Record
+recordNamed r section n = getElem? (map (λ (c : Counted). c .last) (r .before section ++ r .own section)) n
 
 abbrev pub twoOutcomesIn : Option Record → Bool
 twoOutcomesIn none = false
@@ -124,15 +133,59 @@ twoOutcomesIn (some m) = hasTwoOutcomes m
 -- 18: "when kind 11 names a method of kind 15 or 16, or kind 17 one of kind 8 or 9"
 abbrev pub wrongOutcomes : Reading → Record → Bool
 wrongOutcomes r x =
-    (eqb (x .kind) 11 && twoOutcomesIn (methodRecord r (value x 2))) || (eqb (x .kind) 17 && not (twoOutcomesIn (methodRecord r (value x 3))))
+    (eqb (x .kind) 11 && twoOutcomesIn (recordNamed r methods (value x 2))) || (eqb (x .kind) 17 && not (twoOutcomesIn (recordNamed r methods (value x 3))))
 
--- x where the test passes, and else what follows
-infixr 10 _when_else_
-abbrev pub _when_else_ : {A : Type 0} → A → Bool → A → A
-x when b else y = cond b x y
+-- the owner of a point, if it has one: of kind 20 its fourth field; kind 7 "has no owner"
+abbrev pub ownerOf : Record → Option ℕ
+ownerOf x = some (value x 3) when isOwned x else none
+
+abbrev pub ownerIn : Option Record → Option ℕ
+ownerIn none = none
+ownerIn (some x) = ownerOf x
+
+abbrev pub pointOwner : Reading → ℕ → Option ℕ
+pointOwner r p = ownerIn (recordNamed r points p)
+
+-- "Owners are compared only where there are any": of two, and of each two of a list
+abbrev pub agree : Option ℕ → Option ℕ → Bool
+agree none b = true
+agree (some m) none = true
+agree (some m) (some n) = eqb m n
+
+abbrev pub agreesWith : Option ℕ → List (Option ℕ) → Bool
+agreesWith o [] = true
+agreesWith o (x ∷ xs) = agree o x && agreesWith o xs
+
+abbrev pub allAgree : List (Option ℕ) → Bool
+allAgree [] = true
+allAgree (o ∷ os) = agreesWith o os && allAgree os
+
+-- the points that a record names: a method's entry, exit and failed exit, and the points that a step joins; "from" alone of a stop
+abbrev pub namesPoint : Field → Bool
+namesPoint a-set = false
+namesPoint an-event = false
+namesPoint a-place = false
+namesPoint an-owner = false
+namesPoint (a-name of) = eqb of points
+
+abbrev pub pointsNamed : List Field → List ℕ → List ℕ
+pointsNamed [] vs = []
+pointsNamed (f ∷ fs) [] = []
+pointsNamed (f ∷ fs) (v ∷ vs) = let rest = pointsNamed fs vs in (v ∷ rest) when namesPoint f else rest
+
+-- their owners; before those of a method stands its own number, which it gets by this record
+abbrev pub ownersJoined : (number : ℕ) → (owner : ℕ → Option ℕ) → Kind → List ℕ → List (Option ℕ)
+ownersJoined number owner k vs =
+    let owners = map owner (pointsNamed (k .fields) vs) in
+    (some number ∷ owners) when eqb (k .section) methods else owners
+
+-- 24: "when a step joins points of different owners, or a method's entry or exit (failed exit too) has another owner"
+abbrev pub wrongOwner : Reading → Kind → Record → Bool
+wrongOwner r k x = not (allAgree (ownersJoined (tally r methods) (pointOwner r) k (x .values)))
 
 -- "at one record the table's order holds"; 19, "when kind 18 is not first", comes "at its record after 4", 20, "when kind 19 stands in an old sheet", "at
--- its record after 19", and 18 "at that record after 7": the number of the first refusal that applies to the record at an offset, 0 if none does
+-- its record after 19", 18 "at that record after 7", and 24 "at that record after 18": the number of the first refusal that applies to the record at an
+-- offset, 0 if none does
 abbrev pub refusalOf : Model → List ℕ → ℕ → Reading → ℕ
 refusalOf M s at r =
     let x = recordAt s at in
@@ -147,6 +200,7 @@ refusalOf M s at r =
     else 7 when not (allExist (M .events) (tally r) (k .fields) (x .values))
     else 9 when isPrimitive x && eqb (length (r .own methods)) 0
     else 18 when wrongOutcomes r x
+    else 24 when wrongOwner r k x
     else 0
 
 -- The state past a record that is not refused -------------------------------------------------------------------------
@@ -202,12 +256,23 @@ abbrev pub stateOf : ReadResult → Reading
 stateOf (whole r) = r
 stateOf (refusal n at r) = r
 
--- "8, 9 for no method, and 10 follow in that order at the end"; 8: "the end comes inside a condition or a certificate"
+-- 25: "when an owner is no method, .. with the first such point's offset"
+abbrev pub noMethod : (methods : ℕ) → Option ℕ → Bool
+noMethod n none = false
+noMethod n (some m) = leb n m
+
+abbrev pub ownersFrom : Reading → List Counted → ReadResult
+ownersFrom r [] = whole r
+ownersFrom r (p ∷ ps) = let rest = ownersFrom r ps in refusal 25 (p .last .at) r when noMethod (tally r methods) (ownerOf (p .last)) else rest
+
+-- "8, 9 for no method, and 10 follow in that order at the end"; 8: "the end comes inside a condition or a certificate"; 25 comes "at the end after 9 and
+-- before 10", of the points of this sheet
 abbrev pub atEnd : List ℕ → Reading → ReadResult
 atEnd s r =
+    let owners = ownersFrom r (r .own points) in
     refusal 8 (length s) r when ltb 0 (r .opened .section)
     else refusal 9 (length s) r when eqb (length (r .own methods)) 0
-    else whole r
+    else owners
 
 -- the records from an offset on: "The earliest record at fault counts"; a record has a byte or more, so as much fuel as there are bytes is enough
 unfoldable pub readOn : Model → List ℕ → ℕ → ℕ → Reading → ReadResult

@@ -7,11 +7,19 @@ use lib.ListN.{getD, getElem?}
 use Rattle.condition.specs.Condition.{Condition, noWord}
 use Rattle.certificate.specs.Certificate.{Certificate}
 
--- a point: "conditions past, own, due"
+-- a point: "conditions past, own, due"; of kind 20 "an owner, its method's number", too
 pub record Point : Type 0 where
   pub past : ℕ
   pub own : ℕ
   pub due : ℕ
+  pub owner : Option ℕ
+
+-- the points of kinds 7 and 20
+abbrev pub pointFrom : (past own due : ℕ) → Point
+pointFrom p o d = record { past = p; own = o; due = d; owner = none }
+
+abbrev pub ownedPointFrom : (past own due owner : ℕ) → Point
+ownedPointFrom p o d m = record { past = p; own = o; due = d; owner = some m }
 
 -- how a call returns: document 02, Ask 2, "Failing is a way of returning"
 pub data Outcome : Type 0 where
@@ -85,6 +93,14 @@ own S p = conditionNamed S (λ (x : Point). x .own) (getElem? (S .points) p)
 
 abbrev pub due : Sheet → ℕ → Condition
 due S p = conditionNamed S (λ (x : Point). x .due) (getElem? (S .points) p)
+
+-- the owner of the point p, if it has one
+abbrev pub ownerIn : Option Point → Option ℕ
+ownerIn none = none
+ownerIn (some x) = x .owner
+
+abbrev pub owner : Sheet → ℕ → Option ℕ
+owner S p = ownerIn (getElem? (S .points) p)
 
 -- what a method declares of an outcome, if it has that outcome
 abbrev pub declaredFor : Outcome → Method → Option Declared

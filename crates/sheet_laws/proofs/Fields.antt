@@ -4,7 +4,7 @@ use mathlib.Core.List.{List, [], _∷_}
 use Prim.Native.Nat.{ℕ, zero, suc, _+_, _*_, _^_, _<_}
 use native.Mathlib.Omega.{arith}
 use lib.ListN.{getD}
-use Rattle.sheet.specs.Kind.{Field, a-set, an-event, a-place, a-name, width}
+use Rattle.sheet.specs.Kind.{Field, a-set, an-event, a-place, an-owner, a-name, width}
 use Rattle.sheet.specs.Record.{Bytes, byteAt, numberAt, valuesAt}
 use Rattle.sheet_laws.specs.AtOffset.{shortAt, setAt}
 
@@ -62,6 +62,9 @@ module _ (s : List ℕ) where
   pub event-value : (at : ℕ) → valuesAt s at (an-event ∷ []) ≡ byteAt s at ∷ []
   event-value at = field-first an-event [] at (at + 1) (byteAt s at) refl (byte-value at) (no-value (at + 1))
 
+  pub owner-value : (at : ℕ) → valuesAt s at (an-owner ∷ []) ≡ shortAt s at ∷ []
+  owner-value at = field-first an-owner [] at (at + 2) (shortAt s at) refl (short-value at) (no-value (at + 2))
+
   pub set-value-alone : (at : ℕ) → valuesAt s at (a-set ∷ []) ≡ setAt s at ∷ []
   set-value-alone at = field-first a-set [] at (at + 4) (setAt s at) refl (set-value at) (no-value (at + 4))
 
@@ -108,6 +111,7 @@ module _ (s : List ℕ) where
     number-lt a-set at = omega (arith, set-value at, set-lt at)
     number-lt an-event at = omega (arith, byte-value at, byte-lt at)
     number-lt a-place at = omega (arith, byte-value at, byte-lt at)
+    number-lt an-owner at = omega (arith, short-value at, short-lt at)
     number-lt (a-name k) at = omega (arith, short-value at, short-lt at)
 
     pub value-lt : (fs : List Field) (at i : ℕ) → getD (valuesAt s at fs) i 0 < 2 ^ 32

@@ -3,21 +3,20 @@ use mathlib.Core.Path.{_≡_, refl, sym, ap, ap₂, _∙_}
 use mathlib.Core.Bool.{Bool, true, false, cond}
 use mathlib.Core.Option.{Option, none, some}
 use mathlib.Core.List.{List, [], _∷_, _++_, append-assoc}
-use Prim.Native.Nat.{ℕ, zero, suc, _+_, _≤_, _<_}
+use Prim.Native.Nat.{ℕ, zero, suc, _+_, _≤_}
 use native.Mathlib.Omega.{arith}
 use lib.ListN.{length, getD, drop}
 use lib.Dec.{eqb}
-use borrow.Author.Tests.{ne-eqb}
 use Rattle.condition.specs.Condition.{Condition, join, either, star, noWord}
 use Rattle.certificate.specs.Certificate.{pair}
 use Rattle.sheet.specs.Kind.{a-set, Role, symbol, a-pair, counts, edition, Kind, a-kind, kinds, kindOf, sectionOf}
 use Rattle.sheet.specs.Record.{Record, byteAt, valuesAt, recordAt, value}
 use Rattle.sheet.specs.Sheet.{Declared, Method, Step, event-step, callFrom, failingCallFrom, pass-step, stop-step}
-use Rattle.sheet.specs.Reading.{inCondition, isLeaf, isPrimitive, hasTwoOutcomes}
+use Rattle.sheet.specs.Reading.{isLeaf, isPrimitive, hasTwoOutcomes}
 use Rattle.sheet.specs.Decode.{pointOf, declaredFrom, methodOf, stepOf}
 use Rattle.sheet.proofs.Kind.{_and_, numbered}
-use Rattle.sheet_laws.specs.AtOffset.{pointAt, declaredAt, methodAs, methodAt, stepAs, stepAt, pairAt, Symbol, leaf-symbol, empty-symbol, join-symbol, either-symbol, star-symbol, shortAt, setAt, symbolsByKind, symbolAt, postfix}
-use Rattle.sheet_laws.proofs.Fields.{event-value, set-value-alone, shortsThen, names-then, names-alone, pair-values}
+use Rattle.sheet_laws.specs.AtOffset.{pointAs, pointAt, declaredAt, methodAs, methodAt, stepAs, stepAt, pairAt, Symbol, leaf-symbol, empty-symbol, join-symbol, either-symbol, star-symbol, shortAt, setAt, symbolsByKind, symbolAt, postfix}
+use Rattle.sheet_laws.proofs.Fields.{event-value, owner-value, set-value-alone, shortsThen, names-then, names-alone, pair-values}
 use Rattle.sheet_laws.proofs.Symbols.{symbolsIn, leafCount}
 
 -- What a record stands for ------------------------------------------------------------------------------------------------
@@ -98,13 +97,13 @@ module _ (s : List ℕ) (at : ℕ) where
   unfolding symbolAt
   symbol-is k e = ap (λ (k : ℕ). getD (symbolsByKind s at) k none) e
 
-  point-is : pointAt s at ≡ pointOf (with 7 (shortAt s (at + 1) ∷ shortAt s (at + 3) ∷ shortAt s (at + 5) ∷ []))
-  unfolding pointAt
-  point-is = refl
-
   -- eight shorts one after the other; a record that has fewer names does not read the others
   abbrev shorts : List ℕ
   shorts = shortsThen s at 1 (1 ∷ 1 ∷ 1 ∷ 1 ∷ 1 ∷ 1 ∷ 1 ∷ 1 ∷ []) []
+
+  point-is : (k : ℕ) → byteAt s at ≡ k → pointAt s at ≡ pointOf (with k shorts)
+  unfolding pointAt
+  point-is k e = ap (λ (k : ℕ). pointAs k s at) e
 
   abbrev declared : ℕ → ℕ → Declared
   declared trace future = record { trace = trace; future = future }
@@ -170,7 +169,7 @@ module _ (s : List ℕ) (at : ℕ) where
       and (λ e. (refl, record { y = either-symbol; is = symbol-is 4 e; made = either-made; leaf = refl }))
       and (λ e. (refl, record { y = star-symbol; is = symbol-is 5 e; made = star-made; leaf = refl }))
       and symbol-is 6
-      and (λ e. point-is ∙ ap (λ (vs : List ℕ). pointOf (with 7 vs)) (sym (names-alone s at (1 ∷ 1 ∷ 1 ∷ []))))
+      and (λ e. point-is 7 e ∙ ap (λ (vs : List ℕ). pointOf (with 7 vs)) (sym (names-alone s at (1 ∷ 1 ∷ 1 ∷ []))))
       and (λ e. method-is 8 e ∙ ap (λ (vs : List ℕ). methodOf (with 8 vs)) (sym (names-alone s at (1 ∷ 1 ∷ 1 ∷ []))))
       and (λ e. method-is 9 e ∙ ap (λ (vs : List ℕ). methodOf (with 9 vs)) (sym (names-alone s at (1 ∷ 1 ∷ 1 ∷ 2 ∷ 2 ∷ []))))
       and (λ e. event-is e ∙ ap (λ (vs : List ℕ). stepOf (with 10 vs)) (sym (names-then s at 1 (2 ∷ 2 ∷ []) _ (event-value s (at + 5)))))
@@ -183,19 +182,10 @@ module _ (s : List ℕ) (at : ℕ) where
       and (λ e. step-is 17 refl e ∙ ap (λ (vs : List ℕ). stepOf (with 17 vs)) (sym (names-alone s at (2 ∷ 2 ∷ 2 ∷ 3 ∷ []))))
       and (λ e. refl)
       and (λ e. step-is 19 refl e ∙ ap (λ (vs : List ℕ). stepOf (with 19 vs)) (sym (names-alone s at (2 ∷ []))))
+      and (λ e. point-is 20 e ∙ ap (λ (vs : List ℕ). pointOf (with 20 vs)) (sym (names-then s at 1 (1 ∷ 1 ∷ 1 ∷ []) _ (owner-value s (at + 7)))))
       and (λ i e. tt))
 
   -- the record at an offset fits there
   pub fits : Fits s at (recordAt s at) (sectionOf (byteAt s at)) (kindOf (byteAt s at) .role)
   unfolding recordAt
   fits = fits-row (byteAt s at) refl
-
-  -- a record of a later section cannot stand in an open condition
-  pub not-inside : 1 < sectionOf (byteAt s at) → inCondition (sectionOf (byteAt s at)) (kindOf (byteAt s at) .role) ≡ false
-  not-inside later = go (kindOf (byteAt s at) .role) fits
-    where
-      go : (role : Role) → Fits s at (recordAt s at) (sectionOf (byteAt s at)) role → inCondition (sectionOf (byteAt s at)) role ≡ false
-      go (symbol takes make) (first, y) = absurd (omega arith)
-      go a-pair fit = refl
-      go counts fit = ne-eqb (sectionOf (byteAt s at)) 1 (λ (e : sectionOf (byteAt s at) ≡ 1). omega arith)
-      go edition fit = refl

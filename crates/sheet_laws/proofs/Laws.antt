@@ -12,7 +12,7 @@ use borrow.Author.Tests.{leb-false, lt-ltb}
 use Rattle.bits.proofs.Tests.{and-out}
 use Rattle.sheet.specs.Model.{Model, conditionLimit, methodLimit, stepLimit}
 use Rattle.sheet.specs.Each.{Each, nil, cons}
-use Rattle.sheet.specs.Kind.{Field, a-set, an-event, a-place, a-name, Role, counts, kindOf, sectionOf}
+use Rattle.sheet.specs.Kind.{Field, a-set, an-event, a-place, an-owner, a-name, Role, counts, kindOf, sectionOf}
 use Rattle.sheet.specs.Record.{byteAt, recordAt, nextAt}
 use Rattle.sheet.specs.Reading.{Counted, Reading, fresh, tally, full, overLimit, exists, allExist, pastAt, whole, readSheet}
 use Rattle.sheet.proofs.Each.{each-map, each-append}
@@ -38,21 +38,18 @@ all-recorded M s r h = each-own M s (λ at r. Unit {0}) (Recorded s) (λ at r w 
 -- The tally -----------------------------------------------------------------------------------------------------------------
 
 -- a sheet that stands alone counts from 0
-pub own-tally : (M : Model) (s : List ℕ) (r : Reading) → readSheet M s ≡ whole r → (k : ℕ) → tally r k ≡ length (r .own k)
-own-tally M s r h k = ap (λ (before : ℕ → List Counted). length (before k ++ r .own k)) (read-keeps M s Alone alone r h refl .holds)
-  where
-    Alone : ℕ → Reading → Type 0
-    Alone at r = r .before ≡ fresh .before
+pub none-before : (M : Model) (s : List ℕ) (r : Reading) → readSheet M s ≡ whole r → r .before ≡ fresh .before
+none-before M s r h = read-keeps M s (λ at (r : Reading). r .before ≡ fresh .before) (λ at r w e. e) r h refl .holds
 
-    alone : (at : ℕ) (r : Reading) → Took M s at r → Alone at r → Alone (nextAt s at) (pastAt s at r)
-    alone at r w e = e
+pub own-tally : (M : Model) (s : List ℕ) (r : Reading) → readSheet M s ≡ whole r → (k : ℕ) → tally r k ≡ length (r .own k)
+own-tally M s r h k = ap (λ (before : ℕ → List Counted). length (before k ++ r .own k)) (none-before M s r h)
 
 -- with one more
 one-longer : (before own : List Counted) (c : Counted) → length (before ++ (own ++ (c ∷ []))) ≡ suc (length (before ++ own))
 one-longer before own c = omega (arith, length-append before own, length-append before (own ++ (c ∷ [])), length-append own (c ∷ []))
 
 -- it grows with each record
-grows : (s : List ℕ) (at : ℕ) (r : Reading) (k : ℕ) → tally r k ≤ tally (pastAt s at r) k
+pub grows : (s : List ℕ) (at : ℕ) (r : Reading) (k : ℕ) → tally r k ≤ tally (pastAt s at r) k
 grows s at r k =
     own-cases (λ own. tally r k ≤ length (r .before k ++ own)) s at r k (omega arith) (λ e same. omega (arith, one-longer (r .before k) (r .own k) (counted s at r)))
 
@@ -64,6 +61,7 @@ module _ (M : Model) (r t : Reading) (more : (k : ℕ) → tally r k ≤ tally t
   exists-still (a-name k) v e = subst T (sym (lt-ltb v (tally t k) (lt-of-lt-of-le (ltb→lt v (tally r k) e) (more k)))) tt
   exists-still an-event v e = e
   exists-still a-place v e = e
+  exists-still an-owner v e = e
 
   names-still : (fs : List Field) (vs : List ℕ) → T (allExist (M .events) (tally r) fs vs) → T (allExist (M .events) (tally t) fs vs)
   names-still [] vs e = e

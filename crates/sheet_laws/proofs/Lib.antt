@@ -5,6 +5,7 @@ pub mod ReadOn
 pub mod Models
 pub mod Own
 pub mod Laws
+pub mod States
 pub mod Symbols
 pub mod Kind
 pub mod Pairs
@@ -14,6 +15,7 @@ pub mod SheetOf
 pub mod Named
 pub mod First
 pub mod Outcomes
+pub mod Owners
 pub mod Editions
 pub mod Before
 pub mod Narrow

@@ -1,23 +1,26 @@
--- In a sheet that is read whole every name exists, and the event of each step is one of the model's.
+-- In a sheet that is read whole every name exists, owners too, and the event of each step is one of the model's.
 use mathlib.Core.Path.{_≡_, sym, subst}
-use mathlib.Core.Option.{some}
+use mathlib.Core.Bool.{false}
+use mathlib.Core.Option.{Option, none, some}
 use mathlib.Core.List.{List, [], _∷_}
 use Prim.Native.Nat.{ℕ, zero, suc, _+_, _<_}
 use native.Mathlib.Nat.{not-suc-le-zero, le-of-suc-le-suc}
 use native.Mathlib.Omega.{arith}
 use lib.ListN.{length, getD, length-map}
 use lib.Dec.{T, ltb→lt}
+use borrow.Author.Tests.{leb-false}
 use Rattle.bits.proofs.Tests.{and-out}
 use Rattle.sheet.specs.Model.{Model}
 use Rattle.sheet.specs.Each.{Each}
-use Rattle.sheet.specs.Sheet.{Outcome, normal, failed, Method, Sheet, declaredFor}
-use Rattle.sheet.specs.Kind.{Field, a-set, Kind, a-kind, counts, kinds, kindOf, width}
+use Rattle.sheet.specs.Sheet.{Outcome, normal, failed, Point, Method, Sheet, declaredFor}
+use Rattle.sheet.specs.Kind.{Field, a-set, an-owner, a-name, Kind, a-kind, conditions, points, counts, kinds, kindOf, width}
 use Rattle.sheet.specs.Record.{Record, byteAt, valuesAt, recordAt, value}
-use Rattle.sheet.specs.Reading.{Counted, Reading, tally, isNew, exists, allExist, item, whole, readSheet}
+use Rattle.sheet.specs.Reading.{Counted, Reading, tally, isNew, exists, allExist, ownerOf, item, whole, noMethod, readSheet}
 use Rattle.sheet.specs.Decode.{pointOf, methodOf, stepOf, sheetRead, sheetOf}
-use Rattle.sheet_laws.specs.Names.{PointNamed, DeclaredNamed, MethodNamed, StepNamed, NamesExist, EventBelow}
+use Rattle.sheet_laws.specs.Names.{PointNamed, NamedIfAny, DeclaredNamed, MethodNamed, StepNamed, NamesExist, EventBelow}
 use Rattle.sheet.proofs.Each.{each-map, each-zip, each-mapped}
 use Rattle.sheet.proofs.Kind.{_and_, numbered}
+use Rattle.sheet_laws.proofs.ReadOn.{OwnerExists, read-keeps}
 use Rattle.sheet_laws.proofs.Laws.{Recorded, all-recorded, Named, all-named, own-tally}
 use Rattle.sheet_laws.proofs.SheetOf.{sheet-is}
 
@@ -67,7 +70,7 @@ module _ (events : ℕ) (counted : ℕ → ℕ) where
       and (λ at vs n. tt)
       and (λ at vs n. tt)
       and (λ at vs n. tt)
-      and point-row
+      and point-row 7 []
       and primitive-row
       and method-row
       and event-row
@@ -80,10 +83,12 @@ module _ (events : ℕ) (counted : ℕ → ℕ) where
       and failing-call-row
       and (λ at vs n. tt)
       and stop-row
+      and point-row 20 (an-owner ∷ [])
       and (λ i at vs n. tt))
     where
-      point-row : Row 7 (kindOf 7)
-      point-row at vs n =
+      -- of kinds 7 and 20, which has a field more
+      point-row : (k : ℕ) (fs : List Field) → Row k (a-kind points counts (a-name conditions ∷ a-name conditions ∷ a-name conditions ∷ fs))
+      point-row k fs at vs n =
           record {
             past-exists = ltb→lt _ _ (n 0 (omega arith));
             own-exists = ltb→lt _ _ (n 1 (omega arith));
@@ -161,6 +166,17 @@ module _ (M : Model) (s : List ℕ) (r : Reading) (h : readSheet M s ≡ whole r
           subst (λ (counted : ℕ → ℕ). NamedIn (M .events) counted k (c .last)) (λ i j. own-tally M s r h j i)
           (subst (λ (j : ℕ). NamedIn (M .events) (tally r) j (c .last)) (x .section) here)
 
+  -- what 25 leaves
+  owners-named : Each (λ (c : Counted). NamedIfAny (length (r .own 3)) (ownerOf (c .last))) (r .own 2)
+  owners-named = each-map each (read-keeps M s (λ at r. Unit {0}) (λ at r w q. tt) r h tt .owners-exist)
+    where
+      below : (n : ℕ) (o : Option ℕ) → noMethod n o ≡ false → NamedIfAny n o
+      below n none e = tt
+      below n (some m) e = leb-false n m e
+
+      each : (c : Counted) → OwnerExists (tally r 3) c → NamedIfAny (length (r .own 3)) (ownerOf (c .last))
+      each c e = subst (λ (n : ℕ). NamedIfAny n (ownerOf (c .last))) (own-tally M s r h 3) (below (tally r 3) (ownerOf (c .last)) e)
+
   names-read : NamesExist (sheetRead (isNew s) (r .own))
   names-read =
       let conditions = length-map (r .own 1) (λ (c : Counted). item (c .opened) 0) in
@@ -171,6 +187,7 @@ module _ (M : Model) (s : List ℕ) (r : Reading) (h : readSheet M s ≡ whole r
         methods-named = rw (conditions, points) (each-mapped (MethodNamed _ _) (λ (c : Counted). methodOf (c .last)) (named 3));
         steps-named =
             rw (points, methods) (each-mapped (StepNamed _ _) (λ (c : Counted). stepOf (c .last)) (each-map (λ c (n : NamedHere 4 c). n .0) (named 4)));
+        owners-named = rw methods (each-mapped (λ (x : Point). NamedIfAny _ (x .owner)) (λ (c : Counted). pointOf (c .last)) owners-named);
       }
 
   pub names-exist : NamesExist (sheetOf M s)

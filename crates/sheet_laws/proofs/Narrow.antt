@@ -41,7 +41,7 @@ module _ (n : ℕ) where
       and (λ set a b h ha hb. (ha, hb))
       and (λ set a b h ha hb. (ha, hb))
       and (λ set a b h ha hb. hb)
-      and tt and tt and tt and tt and tt and tt and tt and tt and tt and tt and tt and tt and tt and tt and (λ i. tt))
+      and tt and tt and tt and tt and tt and tt and tt and tt and tt and tt and tt and tt and tt and tt and tt and (λ i. tt))
 
   item-below : (items : List Condition) → AllBelow items → (i : ℕ) → EventsBelow n (getD items i noWord)
   item-below items h i = each-getD (λ c. EventsBelow n c) h noWord (pow-pos n) i

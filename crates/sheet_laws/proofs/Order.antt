@@ -8,7 +8,7 @@ use lib.Dec.{eqb, ltb}
 use Rattle.sheet.specs.Model.{Model}
 use Rattle.sheet.specs.Kind.{Kind, kindOf}
 use Rattle.sheet.specs.Record.{Record, byteAt, recordAt, nextAt}
-use Rattle.sheet.specs.Reading.{Reading, tally, inCondition, isNew, wrongItems, overLimit, allExist, isPrimitive, wrongOutcomes, refusalOf}
+use Rattle.sheet.specs.Reading.{Reading, tally, inCondition, isNew, wrongItems, overLimit, allExist, isPrimitive, wrongOutcomes, wrongOwner, refusalOf}
 
 module _ (M : Model) (s : List ℕ) (at : ℕ) (r : Reading) where
   abbrev x : Record
@@ -47,6 +47,9 @@ module _ (M : Model) (s : List ℕ) (at : ℕ) (r : Reading) where
 
   abbrev pub is-18 : Bool
   is-18 = wrongOutcomes r x
+
+  abbrev pub is-24 : Bool
+  is-24 = wrongOwner r k x
 
   pub two : is-2 ≡ true → refusalOf M s at r ≡ 2
   two e2 = rw e2
@@ -87,5 +90,9 @@ module _ (M : Model) (s : List ℕ) (at : ℕ) (r : Reading) where
                     pub eighteen : is-18 ≡ true → refusalOf M s at r ≡ 18
                     eighteen e18 = rw (e2, e3, e4, e19, e20, e5, e6, e7, e9, e18)
 
-                    pub takes : is-18 ≡ false → refusalOf M s at r ≡ 0
-                    takes e18 = rw (e2, e3, e4, e19, e20, e5, e6, e7, e9, e18)
+                    module _ (e18 : is-18 ≡ false) where
+                      pub twenty-four : is-24 ≡ true → refusalOf M s at r ≡ 24
+                      twenty-four e24 = rw (e2, e3, e4, e19, e20, e5, e6, e7, e9, e18, e24)
+
+                      pub takes : is-24 ≡ false → refusalOf M s at r ≡ 0
+                      takes e24 = rw (e2, e3, e4, e19, e20, e5, e6, e7, e9, e18, e24)

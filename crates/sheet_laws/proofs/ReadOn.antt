@@ -2,14 +2,15 @@
 use mathlib.Core.Path.{_≡_, refl, sym, ap, _∙_, subst}
 use mathlib.Core.Bool.{Bool, true, false, cond}
 use mathlib.Core.Logic.{_⊎_, inl, inr}
-use mathlib.Core.List.{List}
+use mathlib.Core.List.{List, [], _∷_}
 use Prim.Native.Nat.{ℕ, zero, suc, _≤_, _<_}
 use lib.ListN.{length}
 use lib.Dec.{T, eqb, eqb·suc-zero, ltb, leb}
 use borrow.Author.Tests.{lt-leb, le-leb}
 use Rattle.sheet.specs.Model.{Model}
+use Rattle.sheet.specs.Each.{Each, nil, cons}
 use Rattle.sheet.specs.Record.{nextAt}
-use Rattle.sheet.specs.Reading.{Reading, fresh, refusalOf, pastAt, ReadResult, whole, refusal, stateOf, atEnd, readOn, readFrom, readSheet}
+use Rattle.sheet.specs.Reading.{Counted, Reading, fresh, tally, ownerOf, refusalOf, pastAt, ReadResult, whole, refusal, stateOf, noMethod, ownersFrom, atEnd, readOn, readFrom, readSheet}
 use Rattle.sheet_laws.proofs.Take.{Took, took}
 
 -- what follows in the state r at an offset before the end, where n is the number of the refusal there
@@ -37,55 +38,91 @@ pub from-is : (M : Model) (s : List ℕ) (r : Reading)
 unfolding readFrom
 from-is M s r = refl
 
+-- Where reading ends --------------------------------------------------------------------------------------------------
+
+module _ (M : Model) (s : List ℕ) (P : ℕ → Reading → Type 0) where
+  -- how reading ends, and that a property of the offset and the state holds there: with 1, at a record that is refused, or at the end
+  pub data Ends : ReadResult → Type 0 where
+    too-long : {r : Reading} → Ends (refusal 1 (M .bytes) r)
+    at-record : {at : ℕ} {r : Reading} → P at r → Ends (refusal (refusalOf M s at r) at r)
+    at-the-end : {at : ℕ} {r : Reading} → P at r → Ends (atEnd s r)
+
+  -- an invariant of the offset and the state, kept by each record that is taken, holds where reading ends
+  module _ (kept : (at : ℕ) (r : Reading) → Took M s at r → P at r → P (nextAt s at) (pastAt s at r)) where
+    module _ (fuel at : ℕ) (r : Reading) (p : P at r)
+        (more : P (nextAt s at) (pastAt s at r) → Ends (readOn M s fuel (nextAt s at) (pastAt s at r))) where
+      record-ends : (n : ℕ) → refusalOf M s at r ≡ n → Ends (afterRecord M s fuel at r n)
+      record-ends zero e = more (kept at r (took M s at r e) p)
+      record-ends (suc n) e = simp (eqb·suc-zero n) (subst (λ (n : ℕ). Ends (refusal n at r)) e (at-record p))
+
+      suc-ends : (b : Bool) → Ends (cond b (atEnd s r) (afterRecord M s fuel at r (refusalOf M s at r)))
+      suc-ends true = at-the-end p
+      suc-ends false = record-ends (refusalOf M s at r) refl
+
+    pub on-ends : (fuel at : ℕ) (r : Reading) → P at r → Ends (readOn M s fuel at r)
+    on-ends zero at r p = subst Ends (sym (no-fuel M s at r)) (at-the-end p)
+    on-ends (suc fuel) at r p =
+        subst Ends (sym (on-is M s fuel at r)) (suc-ends fuel at r p (on-ends fuel (nextAt s at) (pastAt s at r)) (leb (length s) at))
+
+    pub read-ends : P 0 fresh → Ends (readSheet M s)
+    unfolding readSheet
+    read-ends p = go (ltb (M .bytes) (length s))
+      where
+        go : (b : Bool) → Ends (cond b (refusal 1 (M .bytes) fresh) (readOn M s (length s) 0 fresh))
+        go true = too-long
+        go false = on-ends (length s) 0 fresh p
+
 -- The end of a whole reading ------------------------------------------------------------------------------------------
 
--- a property of the offset and the state holds at the end, where 9 does not apply
+-- the owner of a point that was counted, if it has one, is one of so many methods
+abbrev pub OwnerExists : ℕ → Counted → Type 0
+OwnerExists methods p = noMethod methods (ownerOf (p .last)) ≡ false
+
+-- a property of the offset and the state holds at the end, where neither 9 nor 25 applies
 pub record Finished (P : ℕ → Reading → Type 0) (r : Reading) : Type 0 where
   pub end : ℕ
   pub holds : P end r
   pub some-method : eqb (length (r .own 3)) 0 ≡ false
+  pub owners-exist : Each (OwnerExists (tally r 3)) (r .own 2)
 
 abbrev IsWhole : ReadResult → Type 0
 IsWhole (whole r) = Unit {0}
 IsWhole (refusal n at r) = ⊥
 
+not-whole : {A : Type 0} {n at : ℕ} {r r′ : Reading} → refusal n at r ≡ whole r′ → A
+not-whole h = absurd (subst IsWhole (sym h) tt)
+
+-- not 25
+owners-whole : (r r′ : Reading) (ps : List Counted) → ownersFrom r ps ≡ whole r′ → (r ≡ r′) × Each (OwnerExists (tally r 3)) ps
+owners-whole r r′ [] h = (ap stateOf h, nil)
+owners-whole r r′ (p ∷ ps) h = go (noMethod (tally r 3) (ownerOf (p .last))) refl h (owners-whole r r′ ps)
+  where
+    go : (b : Bool) → noMethod (tally r 3) (ownerOf (p .last)) ≡ b → cond b (refusal 25 (p .last .at) r) (ownersFrom r ps) ≡ whole r′
+        → (ownersFrom r ps ≡ whole r′ → (r ≡ r′) × Each (OwnerExists (tally r 3)) ps) → (r ≡ r′) × Each (OwnerExists (tally r 3)) (p ∷ ps)
+    go true e h more = not-whole h
+    go false e h more = let (same, all) = more h in (same, cons e all)
+
 finishes : (s : List ℕ) (P : ℕ → Reading → Type 0) (at : ℕ) (r r′ : Reading) → P at r → atEnd s r ≡ whole r′ → Finished P r′
 finishes s P at r r′ p = go (ltb 0 (r .opened .section)) (eqb (length (r .own 3)) 0) refl
   where
     go : (b c : Bool) → eqb (length (r .own 3)) 0 ≡ c
-        → cond b (refusal 8 (length s) r) (cond c (refusal 9 (length s) r) (whole r)) ≡ whole r′ → Finished P r′
-    go true c f h = absurd (subst IsWhole (sym h) tt)
-    go false true f h = absurd (subst IsWhole (sym h) tt)
-    go false false f h = subst (Finished P) (ap stateOf h) (record { end = at; holds = p; some-method = f })
+        → cond b (refusal 8 (length s) r) (cond c (refusal 9 (length s) r) (ownersFrom r (r .own 2))) ≡ whole r′ → Finished P r′
+    go true c f h = not-whole h
+    go false true f h = not-whole h
+    go false false f h =
+        let (same, all) = owners-whole r r′ (r .own 2) h in
+        subst (Finished P) same (record { end = at; holds = p; some-method = f; owners-exist = all })
 
--- an invariant of the offset and the state, kept by each record that is taken, holds at the end
-module _ (M : Model) (s : List ℕ) (P : ℕ → Reading → Type 0)
-    (kept : (at : ℕ) (r : Reading) → Took M s at r → P at r → P (nextAt s at) (pastAt s at r)) where
-  module _ (fuel at : ℕ) (r r′ : Reading) (p : P at r)
-      (more : readOn M s fuel (nextAt s at) (pastAt s at r) ≡ whole r′ → P (nextAt s at) (pastAt s at r) → Finished P r′) where
-    record-keeps : (n : ℕ) → refusalOf M s at r ≡ n → afterRecord M s fuel at r n ≡ whole r′ → Finished P r′
-    record-keeps zero e h = more h (kept at r (took M s at r e) p)
-    record-keeps (suc n) e h = absurd (subst IsWhole (sym (simp eqb·suc-zero at h)) tt)
-
-    suc-keeps : (b : Bool) → cond b (atEnd s r) (afterRecord M s fuel at r (refusalOf M s at r)) ≡ whole r′ → Finished P r′
-    suc-keeps true h = finishes s P at r r′ p h
-    suc-keeps false h = record-keeps (refusalOf M s at r) refl h
-
-  on-keeps : (fuel at : ℕ) (r r′ : Reading) → readOn M s fuel at r ≡ whole r′ → P at r → Finished P r′
-  on-keeps zero at r r′ h p = finishes s P at r r′ p (sym (no-fuel M s at r) ∙ h)
-  on-keeps (suc fuel) at r r′ h p =
-      suc-keeps fuel at r r′ p (on-keeps fuel (nextAt s at) (pastAt s at r) r′) (leb (length s) at) (sym (on-is M s fuel at r) ∙ h)
-
-  pub from-keeps : (r r′ : Reading) → readFrom M r s ≡ whole r′ → P 0 r → Finished P r′
-  from-keeps r r′ h p = go (ltb (M .bytes) (length s)) (sym (from-is M s r) ∙ h)
-    where
-      go : (b : Bool) → cond b (refusal 1 (M .bytes) r) (readOn M s (length s) 0 r) ≡ whole r′ → Finished P r′
-      go true h = absurd (subst IsWhole (sym h) tt)
-      go false h = on-keeps (length s) 0 r r′ h p
-
-  pub read-keeps : (r : Reading) → readSheet M s ≡ whole r → P 0 fresh → Finished P r
-  unfolding readSheet
-  read-keeps r h p = from-keeps fresh r h p
+-- the invariant holds at the end
+pub read-keeps : (M : Model) (s : List ℕ) (P : ℕ → Reading → Type 0)
+    → ((at : ℕ) (r : Reading) → Took M s at r → P at r → P (nextAt s at) (pastAt s at r))
+    → (r : Reading) → readSheet M s ≡ whole r → P 0 fresh → Finished P r
+read-keeps M s P kept r h p = go (read-ends M s P kept p) h
+  where
+    go : {o : ReadResult} → Ends M s P o → o ≡ whole r → Finished P r
+    go too-long h = not-whole h
+    go (at-record p) h = not-whole h
+    go (at-the-end {at} {r = u} p) h = finishes s P at u r p h
 
 -- a sheet that is read whole has a first record, and it is taken
 pub first-taken : (M : Model) (s : List ℕ) (r : Reading) → readSheet M s ≡ whole r → Took M s 0 fresh

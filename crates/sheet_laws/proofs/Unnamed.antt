@@ -1,15 +1,15 @@
 -- Sheets in which a name does not exist: `NamesExist` does not hold of them. Each differs in one name from a sheet of which it holds. And a step with
--- an event that the instrument has not, a primitive, outcomes that do not fit, and a stop in an old sheet.
+-- an event that the instrument has not, a primitive, outcomes that do not fit, a stop in an old sheet, and owners that do not fit.
 use mathlib.Core.Path.{_≡_, refl}
 use mathlib.Core.Bool.{true, false}
 use mathlib.Core.Option.{Option, none, some}
 use mathlib.Core.List.{[], _∷_}
-use Prim.Native.Nat.{ℕ}
+use Prim.Native.Nat.{ℕ, zero, suc}
 use native.Mathlib.Omega.{arith}
 use Rattle.condition.specs.Condition.{empty}
 use Rattle.sheet.specs.Each.{nil, cons}
-use Rattle.sheet.specs.Sheet.{Outcome, normal, failed, Point, Declared, Body, Method, Step, event-step, callFrom, failingCallFrom, pass-step, stop-step, Sheet, declaredFor}
-use Rattle.sheet_laws.specs.Names.{PointNamed, BodyNamed, DeclaredNamed, MethodNamed, StepNamed, NamesExist, HasBody, ExitsFit, TargetsFit, OutcomesFit, EventBelow, StopFits}
+use Rattle.sheet.specs.Sheet.{Outcome, normal, failed, Point, pointFrom, ownedPointFrom, Declared, Body, Method, Step, event-step, callFrom, failingCallFrom, pass-step, stop-step, Sheet, declaredFor, body}
+use Rattle.sheet_laws.specs.Names.{PointNamed, NamedIfAny, BodyNamed, DeclaredNamed, MethodNamed, StepNamed, NamesExist, HasBody, ExitsFit, TargetsFit, OutcomesFit, EventBelow, StopFits, BodyOwned, StepOwned, OwnersFit}
 use Rattle.sheet.proofs.Each.{each-head}
 
 -- one condition, and the point, the method and the step that are given; so each name that exists is 0
@@ -17,7 +17,7 @@ abbrev sheet : Point → Method → Step → Sheet
 sheet p m t = record { conditions = empty ∷ []; points = p ∷ []; methods = m ∷ []; steps = t ∷ []; certificates = []; new = true }
 
 abbrev point : ℕ → ℕ → ℕ → Point
-point past own due = record { past = past; own = own; due = due }
+point past own due = pointFrom past own due
 
 abbrev declared : ℕ → ℕ → Declared
 declared trace future = record { trace = trace; future = future }
@@ -38,8 +38,8 @@ abbrev failingPrimitive : ℕ → ℕ → Method
 failingPrimitive trace future = record { pre = 0; normal = declared 0 0; failing = some (declared trace future); body = none }
 
 -- every name exists, with a step of each kind
-all-named : (p : Point) (m : Method) (t : Step) → PointNamed 1 p → MethodNamed 1 1 m → StepNamed 1 1 t → NamesExist (sheet p m t)
-all-named p m t x y z = record { points-named = cons x nil; methods-named = cons y nil; steps-named = cons z nil }
+all-named : (p : Point) (m : Method) (t : Step) → PointNamed 1 p → NamedIfAny 1 (p .owner) → MethodNamed 1 1 m → StepNamed 1 1 t → NamesExist (sheet p m t)
+all-named p m t x o y z = record { points-named = cons x nil; methods-named = cons y nil; steps-named = cons z nil; owners-named = cons o nil }
 
 -- all names of a method with one outcome, and with two, are 0
 one-outcome : (b : Option Body) → BodyNamed 1 b → MethodNamed 1 1 (record { pre = 0; normal = declared 0 0; failing = none; body = b })
@@ -62,13 +62,15 @@ all-exist : NamesExist (sheet (point 0 0 0) (method 0 0 0 0 0) (event-step 0 0 3
     × NamesExist (sheet (point 0 0 0) (failingMethod 0 0 0) (failingCallFrom 0 0 0 0))
     × NamesExist (sheet (point 0 0 0) (failingPrimitive 0 0) (failingCallFrom 0 0 0 0))
     × NamesExist (sheet (point 0 0 0) (method 0 0 0 0 0) (stop-step 0))
+    × NamesExist (sheet (ownedPointFrom 0 0 0 0) (method 0 0 0 0 0) (pass-step 0 0))
 all-exist = (
-  all-named (point 0 0 0) (method 0 0 0 0 0) (event-step 0 0 31) (omega arith) (one-outcome _ (omega arith)) (omega arith),
-  all-named (point 0 0 0) (primitive 0 0 0) (callFrom 0 0 0) (omega arith) (one-outcome none tt) (omega arith),
-  all-named (point 0 0 0) (method 0 0 0 0 0) (pass-step 0 0) (omega arith) (one-outcome _ (omega arith)) (omega arith),
-  all-named (point 0 0 0) (failingMethod 0 0 0) (failingCallFrom 0 0 0 0) (omega arith) (two-outcomes _ (omega arith)) (omega arith),
-  all-named (point 0 0 0) (failingPrimitive 0 0) (failingCallFrom 0 0 0 0) (omega arith) (two-outcomes none tt) (omega arith),
-  all-named (point 0 0 0) (method 0 0 0 0 0) (stop-step 0) (omega arith) (one-outcome _ (omega arith)) (omega arith),
+  all-named (point 0 0 0) (method 0 0 0 0 0) (event-step 0 0 31) (omega arith) tt (one-outcome _ (omega arith)) (omega arith),
+  all-named (point 0 0 0) (primitive 0 0 0) (callFrom 0 0 0) (omega arith) tt (one-outcome none tt) (omega arith),
+  all-named (point 0 0 0) (method 0 0 0 0 0) (pass-step 0 0) (omega arith) tt (one-outcome _ (omega arith)) (omega arith),
+  all-named (point 0 0 0) (failingMethod 0 0 0) (failingCallFrom 0 0 0 0) (omega arith) tt (two-outcomes _ (omega arith)) (omega arith),
+  all-named (point 0 0 0) (failingPrimitive 0 0) (failingCallFrom 0 0 0 0) (omega arith) tt (two-outcomes none tt) (omega arith),
+  all-named (point 0 0 0) (method 0 0 0 0 0) (stop-step 0) (omega arith) tt (one-outcome _ (omega arith)) (omega arith),
+  all-named (ownedPointFrom 0 0 0 0) (method 0 0 0 0 0) (pass-step 0 0) (omega arith) (omega arith) (one-outcome _ (omega arith)) (omega arith),
 )
 
 -- one name does not
@@ -81,6 +83,9 @@ no-own n = omega (arith, each-head (n .points-named) .own-exists)
 
 no-due : NamesExist (sheet (point 0 0 1) (method 0 0 0 0 0) (pass-step 0 0)) → ⊥
 no-due n = omega (arith, each-head (n .points-named) .due-exists)
+
+no-owner : NamesExist (sheet (ownedPointFrom 0 0 0 1) (method 0 0 0 0 0) (pass-step 0 0)) → ⊥
+no-owner n = omega (arith, each-head (n .owners-named))
 
 no-pre : NamesExist (sheet (point 0 0 0) (method 1 0 0 0 0) (pass-step 0 0)) → ⊥
 no-pre n = omega (arith, each-head (n .methods-named) .pre-exists)
@@ -197,3 +202,79 @@ stop-in-new = refl
 
 stop-in-old : StopFits false (stop-step 0) → false ≡ true
 stop-in-old f = f
+
+-- Owners ----------------------------------------------------------------------------------------------------------------
+
+-- the point 0 belongs to the method 0, the point 1 to the method 1, which is a primitive, and the point 2 to none
+abbrev owned : Method → Step → Sheet
+owned m t =
+    record {
+      conditions = empty ∷ [];
+      points = ownedPointFrom 0 0 0 0 ∷ ownedPointFrom 0 0 0 1 ∷ point 0 0 0 ∷ [];
+      methods = m ∷ primitive 0 0 0 ∷ [];
+      steps = t ∷ [];
+      certificates = [];
+      new = true;
+    }
+
+-- a method with these points
+abbrev between : ℕ → ℕ → ℕ → Method
+between entry exit failed-exit =
+    record {
+      pre = 0;
+      normal = declared 0 0;
+      failing = some (declared 0 0);
+      body = some (record { entry = entry; exit = exit; failed-exit = some failed-exit });
+    }
+
+owners-agree : (m : Method) (t : Step) → BodyOwned (owned m t) 0 (m .body) → StepOwned (owned m t) t → OwnersFit (owned m t)
+owners-agree m t b o = record { bodies-owned = bodies; steps-owned = cons o nil }
+  where
+    bodies : (i : ℕ) → BodyOwned (owned m t) i (body (owned m t) i)
+    bodies zero = b
+    bodies (suc zero) = tt
+    bodies (suc (suc i)) = tt
+
+-- a point without owner agrees with any; the method that is called is not compared, and a stop joins nothing
+all-agree : OwnersFit (owned (between 0 0 0) (event-step 1 1 0))
+    × OwnersFit (owned (between 2 2 2) (pass-step 1 2))
+    × OwnersFit (owned (between 0 2 0) (failingCallFrom 1 1 1 0))
+    × OwnersFit (owned (between 0 0 2) (failingCallFrom 2 0 2 1))
+    × OwnersFit (owned (method 0 0 0 0 2) (callFrom 1 1 0))
+    × OwnersFit (owned (between 2 0 0) (stop-step 1))
+all-agree = (
+  owners-agree (between 0 0 0) (event-step 1 1 0) (search) (search),
+  owners-agree (between 2 2 2) (pass-step 1 2) (search) (search),
+  owners-agree (between 0 2 0) (failingCallFrom 1 1 1 0) (search) (search),
+  owners-agree (between 0 0 2) (failingCallFrom 2 0 2 1) (search) (search),
+  owners-agree (method 0 0 0 0 2) (callFrom 1 1 0) (search) (search),
+  owners-agree (between 2 0 0) (stop-step 1) (search) (search),
+)
+
+-- what 24 is for
+other-entry : OwnersFit (owned (between 1 0 0) (stop-step 0)) → ⊥
+other-entry f = omega (arith, f .bodies-owned 0 .0)
+
+other-exit : OwnersFit (owned (between 0 1 0) (stop-step 0)) → ⊥
+other-exit f = omega (arith, f .bodies-owned 0 .1)
+
+other-failed-exit : OwnersFit (owned (between 0 0 1) (stop-step 0)) → ⊥
+other-failed-exit f = omega (arith, f .bodies-owned 0 .2)
+
+event-elsewhere : OwnersFit (owned (between 0 0 0) (event-step 0 1 0)) → ⊥
+event-elsewhere f = omega (arith, each-head (f .steps-owned))
+
+pass-elsewhere : OwnersFit (owned (between 0 0 0) (pass-step 1 0)) → ⊥
+pass-elsewhere f = omega (arith, each-head (f .steps-owned))
+
+call-elsewhere : OwnersFit (owned (between 0 0 0) (callFrom 0 1 0)) → ⊥
+call-elsewhere f = omega (arith, each-head (f .steps-owned) .0)
+
+failing-call-elsewhere : OwnersFit (owned (between 0 0 0) (failingCallFrom 0 1 2 0)) → ⊥
+failing-call-elsewhere f = omega (arith, each-head (f .steps-owned) .0)
+
+failed-target-elsewhere : OwnersFit (owned (between 0 0 0) (failingCallFrom 0 2 1 0)) → ⊥
+failed-target-elsewhere f = omega (arith, each-head (f .steps-owned) .1)
+
+targets-apart : OwnersFit (owned (between 0 0 0) (failingCallFrom 2 0 1 0)) → ⊥
+targets-apart f = omega (arith, each-head (f .steps-owned) .2)

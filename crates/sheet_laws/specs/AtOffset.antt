@@ -24,10 +24,22 @@ unfoldable pub setAt : List ℕ → ℕ → ℕ
 unfolding shortAt
 setAt s i = shortAt s i + 65536 * shortAt s (i + 2)
 
--- what a record of kind 7, of kinds 8, 9, 15 and 16, of kinds 10 to 12, 17 and 19, and of kind 13 stands for
-unfoldable pub pointAt : List ℕ → ℕ → Point
+-- what a record of kinds 7 and 20, of kinds 8, 9, 15 and 16, of kinds 10 to 12, 17 and 19, and of kind 13 stands for
+unfoldable pub ownerAs : ℕ → List ℕ → ℕ → Option ℕ
 unfolding shortAt
-pointAt s at = record { past = shortAt s (at + 1); own = shortAt s (at + 3); due = shortAt s (at + 5) }
+ownerAs kind s at = cond (eqb kind 20) (some (shortAt s (at + 7))) none
+
+unfoldable pub ownerAt : List ℕ → ℕ → Option ℕ
+unfolding ownerAs
+ownerAt s at = ownerAs (byteAt s at) s at
+
+unfoldable pub pointAs : ℕ → List ℕ → ℕ → Point
+unfolding ownerAs
+pointAs kind s at = record { past = shortAt s (at + 1); own = shortAt s (at + 3); due = shortAt s (at + 5); owner = ownerAs kind s at }
+
+unfoldable pub pointAt : List ℕ → ℕ → Point
+unfolding pointAs
+pointAt s at = pointAs (byteAt s at) s at
 
 -- what a method declares of an outcome, in two fields from an offset on
 unfoldable pub declaredAt : List ℕ → ℕ → Declared

@@ -1,13 +1,13 @@
 -- What holds of each sheet that is read whole: every name exists (document 01, "Names point only backward"; proofs/Named), the event of each step is
--- one of the instrument's (proofs/Named), the first method has a body (proofs/First), outcomes fit (proofs/Outcomes), and stops stand in new sheets alone
--- (proofs/Editions).
+-- one of the instrument's (proofs/Named), the first method has a body (proofs/First), outcomes fit (proofs/Outcomes), stops stand in new sheets alone
+-- (proofs/Editions), and owners fit (proofs/Owners).
 use Prim.Native.Nat.{ℕ, _<_}
 use mathlib.Core.Path.{_≡_}
 use mathlib.Core.Bool.{Bool, true, false}
 use mathlib.Core.Option.{Option, none, some}
 use lib.ListN.{length, getElem?}
 use Rattle.sheet.specs.Each.{Each}
-use Rattle.sheet.specs.Sheet.{Outcome, failed, Point, Declared, Body, Method, Step, event-step, call-step, pass-step, stop-step, Sheet, declaredFor, declaredIn}
+use Rattle.sheet.specs.Sheet.{Outcome, failed, Point, Declared, Body, Method, Step, event-step, call-step, pass-step, stop-step, Sheet, owner, declaredFor, declaredIn, body}
 
 -- the names of a point, of a body, of what a method declares, of a method and of a step are below the numbers of conditions, points and methods
 pub record PointNamed (conditions : ℕ) (x : Point) : Type 0 where
@@ -40,10 +40,12 @@ StepNamed points methods (call-step t) = (t .from < points) × (t .to < points) 
 StepNamed points methods (pass-step p q) = (p < points) × (q < points)
 StepNamed points methods (stop-step p) = p < points
 
+-- an owner, which may point forward, is a method: what 25 leaves
 pub record NamesExist (S : Sheet) : Type 0 where
   pub points-named : Each (PointNamed (length (S .conditions))) (S .points)
   pub methods-named : Each (MethodNamed (length (S .conditions)) (length (S .points))) (S .methods)
   pub steps-named : Each (StepNamed (length (S .points)) (length (S .methods))) (S .steps)
+  pub owners-named : Each (λ (x : Point). NamedIfAny (length (S .methods)) (x .owner)) (S .points)
 
 -- a method is one with body
 abbrev pub HasBody : Option Body → Type 0
@@ -84,3 +86,34 @@ StopFits new (event-step p q a) = Unit {0}
 StopFits new (call-step c) = Unit {0}
 StopFits new (pass-step p q) = Unit {0}
 StopFits new (stop-step p) = new ≡ true
+
+-- "Owners are compared only where there are any": where both are there they are the same
+abbrev pub SameIfAny : Option ℕ → Option ℕ → Type 0
+SameIfAny none b = Unit {0}
+SameIfAny (some m) none = Unit {0}
+SameIfAny (some m) (some n) = m ≡ n
+
+-- the owner of a point that need not be there
+abbrev pub ownerIfAny : Sheet → Option ℕ → Option ℕ
+ownerIfAny S none = none
+ownerIfAny S (some p) = owner S p
+
+-- the entry, the exit and the failed exit of the method m belong to it, and the points that a step joins to one method, where they have owners: what 24
+-- leaves
+abbrev pub BodyOwned : Sheet → ℕ → Option Body → Type 0
+BodyOwned S m none = Unit {0}
+BodyOwned S m (some b) =
+    SameIfAny (some m) (owner S (b .entry)) × SameIfAny (some m) (owner S (b .exit)) × SameIfAny (some m) (ownerIfAny S (b .failed-exit))
+
+abbrev pub StepOwned : Sheet → Step → Type 0
+StepOwned S (event-step p q a) = SameIfAny (owner S p) (owner S q)
+StepOwned S (call-step t) =
+    SameIfAny (owner S (t .from)) (owner S (t .to))
+    × SameIfAny (owner S (t .from)) (ownerIfAny S (t .failed-to))
+    × SameIfAny (owner S (t .to)) (ownerIfAny S (t .failed-to))
+StepOwned S (pass-step p q) = SameIfAny (owner S p) (owner S q)
+StepOwned S (stop-step p) = Unit {0}
+
+pub record OwnersFit (S : Sheet) : Type 0 where
+  pub bodies-owned : (m : ℕ) → BodyOwned S m (body S m)
+  pub steps-owned : Each (StepOwned S) (S .steps)

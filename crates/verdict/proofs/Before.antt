@@ -1,5 +1,5 @@
--- "judged as before": document 01's kinds, 1 to 14, those of Ask 2, 15 to 17, and those of Ask 4, 18 and 19. Sheets and words by evaluation, with each of
--- the two cases; sheets without the kinds of a request; what the promise alone says of a sheet; and answers that break it.
+-- "judged as before": document 01's kinds, 1 to 14, those of Ask 2, 15 to 17, those of Ask 4, 18 and 19, and that of Ask 9, 20. Sheets and words by
+-- evaluation, with each of the two cases; sheets without the kinds of a request; what the promise alone says of a sheet; and answers that break it.
 use mathlib.Core.Path.{_≡_, refl, sym, ap, _∙_}
 use mathlib.Core.Bool.{true, false}
 use mathlib.Core.Logic.{⊎-elim}
@@ -48,7 +48,7 @@ abbrev sheets : List Both
 sheets =
     -- "The sheet 0F now gives `refused 3 at 0`"; the first kind that is still unknown
     both (0x0F ∷ []) (refused 2 (some 0)) (refused 3 (some 0))
-    ∷ both (0x14 ∷ []) (refused 2 (some 0)) (refused 2 (some 0))
+    ∷ both (0x15 ∷ []) (refused 2 (some 0)) (refused 2 (some 0))
     -- a record of a kind of Ask 2 further on
     ∷ both (allEmpty method16 (ones 5)) (refused 2 (some 9)) (accepted 9)
     ∷ both (allEmpty withPrimitive (ones 12)) (refused 2 (some 20)) (accepted 15)
@@ -76,6 +76,10 @@ at-new-kind = of-new-kind {at = 0} (omega arith) (omega arith) refl
 at-edition : AsBefore replyOf 17 large (0x12 ∷ []) (verdictOf (withKinds 17 large) (0x12 ∷ [])) (verdictOf large (0x12 ∷ []))
 unfolding verdictOf byteAt
 at-edition = of-new-kind {at = 0} (omega arith) (omega arith) refl
+
+at-owned-point : AsBefore replyOf 19 large (0x14 ∷ []) (verdictOf (withKinds 19 large) (0x14 ∷ [])) (verdictOf large (0x14 ∷ []))
+unfolding verdictOf byteAt
+at-owned-point = of-new-kind {at = 0} (omega arith) (omega arith) refl
 
 M-before : verdictOf (former large) M ≡ accepted 6
 unfolding verdictOf
@@ -105,6 +109,17 @@ module _ (I : Model) (kinds : I .kinds ≡ 19) (s : List ℕ)
 
   pub tested-without-18-and-19 : (c : ℕ) (w : Word) → wordTest (withKinds 17 I) s c w ≡ wordTest I s c w
   tested-without-18-and-19 = tested-the-same I s 17 (omega (arith, kinds)) neither
+
+-- and where none is of kind 20, one that takes the kinds up to 20 gives those that it gave when it took those up to 19
+module _ (I : Model) (kinds : I .kinds ≡ 20) (s : List ℕ) (none : (at : ℕ) (r : Reading) → Reached I s at r → byteAt s at ≡ 20 → ⊥) where
+  not-20 : WithoutKindsAbove 19 I s
+  not-20 at r h above taken = none at r h (omega (arith, above, taken, kinds))
+
+  pub judged-without-20 : verdictOf (withKinds 19 I) s ≡ verdictOf I s
+  judged-without-20 = judged-the-same I s 19 (omega (arith, kinds)) not-20
+
+  pub tested-without-20 : (c : ℕ) (w : Word) → wordTest (withKinds 19 I) s c w ≡ wordTest I s c w
+  tested-without-20 = tested-the-same I s 19 (omega (arith, kinds)) not-20
 
 -- whatever keeps the promise gives a sheet without the kinds above k the verdict that it had
 pub keeps-without : {I : Model} {s : List ℕ} {answer : Report} → Loads I s answer → (k : ℕ) → k ≤ I .kinds → WithoutKindsAbove k I s
@@ -208,8 +223,8 @@ at-former-kind : AsBefore replyOf 14 large (14 ∷ []) (refused 2 (some 0)) (acc
 at-former-kind (of-new-kind above taken e) = omega (arith, above, only-byte 14 e)
 at-former-kind (the-same-answer e) = omega (arith, same-number (ap replyOf e))
 
-at-unknown-kind : AsBefore replyOf 14 large (20 ∷ []) (refused 2 (some 0)) (accepted 6) → ⊥
-at-unknown-kind (of-new-kind above taken e) = omega (arith, taken, only-byte 20 e)
+at-unknown-kind : AsBefore replyOf 14 large (21 ∷ []) (refused 2 (some 0)) (accepted 6) → ⊥
+at-unknown-kind (of-new-kind above taken e) = omega (arith, taken, only-byte 21 e)
 at-unknown-kind (the-same-answer e) = omega (arith, same-number (ap replyOf e))
 
 -- another refusal than 2, at a record of a kind of Ask 2

@@ -1,4 +1,4 @@
--- More sheets and words by evaluation: refusal 10, rules of steps and of the empty word, the word test's own refusals and their order; and the lines,
+-- More sheets and words by evaluation: refusal 10, owners, rules of steps and of the empty word, the word test's own refusals and their order; and the lines,
 -- numbers and values of answers of each kind.
 use mathlib.Core.Path.{_≡_, refl}
 use mathlib.Core.Bool.{true, false}
@@ -14,7 +14,7 @@ use Rattle.verdict.specs.WordTest.{Answer, tested, untested, wordTest}
 use Rattle.verdict.specs.Reply.{Reply, _giving_, replyOf, answerReply}
 use Rattle.verdict.specs.Line.{ascii, line, answerLine}
 use Rattle.verdict.specs.Cases.{point0, method0, startOnly, threeStarts, M, W}
-use Rattle.verdict.proofs.Parts.{Printed, printed, AsPrinted}
+use Rattle.verdict.proofs.Parts.{Printed, printed, AsPrinted, owned}
 
 -- Sheets ----------------------------------------------------------------------------------------------------------------
 
@@ -46,6 +46,10 @@ lacking =
     threeAndFive ++ point0 ++ method0 0 ++ pass0 ++ pass0 ++ allPairs ++ allPairs ++ allPairs ++ allPairs ++ allPairs ++ allPairs ++ allPairs
     ++ twoPairs ++ (0x0E ∷ allPairs)
 
+-- M with other points and certificates
+abbrev withPoints : List ℕ → List ℕ → List ℕ
+withPoints points certificates = (0x02 ∷ 0x06 ∷ []) ++ (points ++ (method0 0 ++ certificates))
+
 sheets : List Printed
 sheets =
     printed (take 20 M) "refused 10 at 20"
@@ -61,6 +65,13 @@ sheets =
     ∷ printed ((0x02 ∷ 0x06 ∷ []) ++ (point0 ++ (method0 0 ++ (event0 ++ (threeStarts ++ threeStarts)))))
     "unproved rule 7 step 0 clause 4 pair 0 event 0 place 1"
     ∷ printed lacking "unproved rule 16 step 1 clause 4 pair 1 event 5 place 2"
+    -- points with an owner: of method 0, of no method and of another method than that whose entry it is; 25 comes before 10, and after 8
+    ∷ printed (withPoints (owned 0) threeStarts) "accepted 6"
+    ∷ printed (withPoints (owned 1) threeStarts) "refused 24 at 11"
+    ∷ printed (withPoints (point0 ++ owned 1) threeStarts) "refused 25 at 9"
+    ∷ printed (withPoints (point0 ++ owned 1) []) "refused 25 at 9"
+    ∷ printed (withPoints (point0 ++ owned 1) (threeStarts ++ startOnly)) "refused 25 at 9"
+    ∷ printed (withPoints (point0 ++ owned 1) (take 6 startOnly)) "refused 8 at 35"
     ∷ []
 
 sheets-print : AsPrinted large sheets
@@ -157,6 +168,12 @@ by-number = refl
 refused-sheet : wordTest large (take 10 two) 5 (replicate 4097 32) ≡ untested 3 (some 6)
 unfolding wordTest
 refused-sheet = refl
+
+-- also for an owner, before 14, 12 and 13
+refused-owners : map (λ (points : List ℕ). wordTest large (withPoints points []) 5 (replicate 4097 32)) (owned 1 ∷ (point0 ++ owned 1) ∷ [])
+    ≡ untested 24 (some 11) ∷ untested 25 (some 9) ∷ []
+unfolding wordTest
+refused-owners = refl
 
 -- on an instrument with two events, 2 is none
 on-two-events : wordTest (record { bytes = 65536; points = 512; events = 2; kinds = 14 }) two 1 (1 ∷ 2 ∷ []) ≡ untested 13 (some 1)

@@ -7,6 +7,7 @@ use Rattle.sheet_laws.proofs.Named.{names-exist, events-below}
 use Rattle.sheet_laws.proofs.First.{first-has-body}
 use Rattle.sheet_laws.proofs.Outcomes.{outcomes-fit}
 use Rattle.sheet_laws.proofs.Editions.{edition, stops-fit}
+use Rattle.sheet_laws.proofs.Owners.{owners-fit, no-owners, no-owner-refused}
 use Rattle.runs.specs.Rules.{rules}
 use Rattle.runs.proofs.Count.{counted}
 use Rattle.runs.proofs.Moves.{made-by-trace}
@@ -26,8 +27,11 @@ facts M wide s bytes =
       events-below = events-below M s;
       first-has-body = first-has-body M s;
       outcomes-fit = outcomes-fit M s;
+      owners-fit = owners-fit M s;
       edition = edition M s;
       stops-fit = stops-fit M s;
+      no-owners = no-owners M s;
+      no-owner-refused = no-owner-refused M s;
       old-edition = λ former r read. old-edition M s r read former;
       one-outcome = λ former r read. one-outcome M s r read former;
       counted = counted (sheetOf M s);

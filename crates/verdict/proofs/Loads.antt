@@ -17,13 +17,15 @@ use Rattle.sheet.specs.Reading.{Reading, ReadResult, whole, refusal, readSheet}
 use Rattle.sheet.specs.Decode.{sheetOf}
 use Rattle.sheet_laws.specs.Names.{HasBody}
 use Rattle.sheet_laws.proofs.SheetOf.{sheet-is}
-use Rattle.sheet_laws.proofs.Named.{events-below}
+use Rattle.sheet_laws.proofs.Named.{names-exist, events-below}
 use Rattle.sheet_laws.proofs.First.{first-has-body}
+use Rattle.sheet_laws.proofs.Owners.{owners-fit}
 use Rattle.sheet_laws.proofs.Narrow.{conditions-below}
 use Rattle.runs.specs.Rules.{rules, rulesFrom, AllMet, count}
 use Rattle.runs.specs.Runs.{Move, run, Safe}
 use Rattle.runs.specs.Owing.{Owing, OwingWhenOpen}
 use Rattle.runs.proofs.Apart.{told-apart}
+use Rattle.runs.proofs.Owners.{point-belongs}
 use Rattle.runs.proofs.WhenOpen.{owing-when-open}
 use Rattle.runs.proofs.Safe.{runs-are-safe}
 use Rattle.runs.proofs.Owing.{runs-owe}
@@ -222,6 +224,7 @@ module _ (M : Model) (s : List ℕ) where
           sound = accepted-safe;
           owing = accepted-owing;
           told-apart = told-apart (sheetOf M s) 0;
+          owned = λ r read all. point-belongs (sheetOf M s) (names-exist M s r read) all (owners-fit M s r read) 0 (first-has-body M s r read);
           complete = λ w h c. accepted-in w (exact-pass (M .events) c h);
           on-larger = λ M′ N. on-larger M M′ N s;
           as-before = judged-as-before M s;

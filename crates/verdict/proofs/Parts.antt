@@ -52,6 +52,10 @@ ones (suc n) = one ++ ones n
 
 -- Sheets whose one condition is EMPTY -------------------------------------------------------------------------------------
 
+-- a point with an owner
+abbrev pub owned : ℕ → List ℕ
+owned m = recordOf 0x14 (0 ∷ 0 ∷ 0 ∷ m ∷ [])
+
 -- with one point, methods and steps, and certificates
 abbrev pub allEmpty : List ℕ → List ℕ → List ℕ
 allEmpty records certificates = (0x02 ∷ 0x06 ∷ []) ++ (point0 ++ (records ++ certificates))

@@ -3,7 +3,7 @@
 use mathlib.Core.Path.{_≡_, refl, sym, _∙_, subst}
 use mathlib.Core.Bool.{Bool, true, false}
 use mathlib.Core.Option.{Option, none, some}
-use mathlib.Core.List.{List, [], _∷_}
+use mathlib.Core.List.{List, [], _∷_, _++_}
 use Prim.Native.Nat.{ℕ}
 use native.Mathlib.Omega.{arith}
 use lib.ListN.{take, drop}
@@ -12,19 +12,20 @@ use Rattle.condition.specs.Places.{nullable, accepts}
 use Rattle.condition.proofs.Words.{words}
 use Rattle.certificate.specs.Certificate.{Fault, check}
 use Rattle.sheet.specs.Model.{Model, large}
-use Rattle.sheet.specs.Each.{nil}
-use Rattle.sheet.specs.Sheet.{normal, condition}
+use Rattle.sheet.specs.Each.{nil, cons}
+use Rattle.sheet.specs.Sheet.{normal, condition, owner}
 use Rattle.sheet.specs.Reading.{ReadResult, whole, refusal, readSheet}
 use Rattle.sheet.specs.Decode.{sheetOf}
 use Rattle.sheet.proofs.Each.{each-head, each-tail}
 use Rattle.runs.specs.Rules.{_isIn_, rules, count}
-use Rattle.runs.specs.Runs.{return, run}
+use Rattle.runs.specs.Runs.{return, by-step, run}
 use Rattle.runs.specs.Owing.{ToldApart}
 use Rattle.verdict.specs.Verdict.{Report, accepted, refused, unproved, certificatesNeeded}
 use Rattle.verdict.specs.WordTest.{Answer, tested, untested}
 use Rattle.verdict.specs.Reply.{_giving_, replyOf, answerReply}
 use Rattle.verdict.specs.Promise.{WellFormed, EachCertified, done, bare, certified, Passes, FirstFault, RefusedFor, while-reading, wrong-count, AnswerForm, with-count, with-place, with-fault, Loads, WordRefusedFor, sheet-refused, no-such-condition, word-too-long, stray-event, TakesWord, TestsWord}
-use Rattle.verdict.specs.Cases.{M, M′, W}
+use Rattle.verdict.specs.Cases.{method0, threeStarts, M, M′, W}
+use Rattle.verdict.proofs.Parts.{recordOf, owned}
 use Rattle.verdict.proofs.Reply.{IsAccepted, IsTested}
 use Rattle.verdict.proofs.Judged.{pass-all, fault-found}
 use Rattle.verdict.proofs.RulesMet.{all-pass}
@@ -138,6 +139,25 @@ not-true n l = words (leaf 1) [] .1 (each-head (each-tail (each-tail (each-tail 
 -- activations are told apart in the runs of a refused sheet too
 told-of-nothing : {answer : Report} → Loads large [] answer → ToldApart (sheetOf large []) 0 (return normal ∷ [])
 told-of-nothing l = l .told-apart (return normal ∷ [])
+
+-- Request 9: M with the owner 0 for its point, and with a second method whose own point the first one calls into. Where all points have owners, a state of a
+-- run at a point of another method than the active one is none that the promise lets be: here after no move, and after a call.
+abbrev ownedM : List ℕ
+ownedM = (0x02 ∷ 0x06 ∷ []) ++ (owned 0 ++ (method0 0 ++ threeStarts))
+
+its-owner : {answer : Report} → Loads large ownedM answer → owner (sheetOf large ownedM) 0 ≡ some 0
+unfolding sheetOf run
+its-owner l = l .owned _ refl (cons refl nil) []
+
+-- points 0 and 1 of methods 0 and 1, whose bodies they are, and a call of method 1 at point 0
+abbrev ownedCall : List ℕ
+ownedCall =
+    (0x02 ∷ 0x06 ∷ [])
+    ++ (owned 0 ++ (owned 1 ++ (method0 0 ++ (recordOf 0x09 (0 ∷ 0 ∷ 0 ∷ 1 ∷ 1 ∷ []) ++ recordOf 0x0B (0 ∷ 0 ∷ 1 ∷ [])))))
+
+called-owner : {answer : Report} → Loads large ownedCall answer → owner (sheetOf large ownedCall) 1 ≡ some 1
+unfolding sheetOf run
+called-owner l = l .owned _ refl (cons refl (cons refl nil)) (by-step 0 normal [] ∷ [])
 
 -- The word test ---------------------------------------------------------------------------------------------------------------
 

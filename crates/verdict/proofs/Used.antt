@@ -10,11 +10,11 @@ use Rattle.condition.specs.Condition.{Word, empty, event, Holds}
 use Rattle.condition.specs.Places.{nullable, accepts}
 use Rattle.certificate.specs.Certificate.{Certificate, Exact}
 use Rattle.sheet.specs.Model.{Model, large, withKinds}
-use Rattle.sheet.specs.Sheet.{Outcome, failed, Body, Method, CallStep, Step, event-step, call-step, stop-step, declaredIn, body, trace, targetFor}
+use Rattle.sheet.specs.Sheet.{Outcome, failed, Point, Body, Method, CallStep, Step, event-step, call-step, stop-step, owner, declaredIn, body, trace, targetFor}
 use Rattle.sheet.specs.Each.{Each}
 use Rattle.sheet.specs.Record.{byteAt}
-use Rattle.sheet.specs.Reading.{Reading, whole, readSheet}
-use Rattle.sheet_laws.specs.Names.{HasBody, isSome, ExitsFit, TargetsFit, EventBelow, StopFits}
+use Rattle.sheet.specs.Reading.{Reading, whole, refusal, readSheet}
+use Rattle.sheet_laws.specs.Names.{NamedIfAny, HasBody, isSome, ExitsFit, TargetsFit, EventBelow, StopFits, SameIfAny, BodyOwned, StepOwned}
 use Rattle.sheet.specs.Decode.{sheetOf}
 use Rattle.sheet_laws.specs.AtOffset.{empty-symbol, symbolsAt, postfix}
 use Rattle.sheet.proofs.Each.{each-head, each-member}
@@ -106,6 +106,31 @@ its-exits : (I : Model) (s : List ℕ) → Facts I s → (r : Reading) → readS
     → List·Memᴰ x (sheetOf I s .methods) → (b : Body) → x .body ≡ some b → isSome (b .failed-exit) ≡ isSome (x .failing)
 its-exits I s f r read x i b e =
     subst (ExitsFit (x .failing)) e (each-member (λ (x : Method). ExitsFit (x .failing) (x .body)) (f .outcomes-fit r read .exits-fit) i)
+
+-- in such a sheet the points that an event step joins have the same owner, where both have one, and each owner is a method
+its-owners : (I : Model) (s : List ℕ) → Facts I s → (r : Reading) → readSheet I s ≡ whole r → (p q e : ℕ)
+    → List·Memᴰ (event-step p q e) (sheetOf I s .steps) → SameIfAny (owner (sheetOf I s) p) (owner (sheetOf I s) q)
+its-owners I s f r read p q e i = each-member (StepOwned (sheetOf I s)) (f .owners-fit r read .steps-owned) i
+
+its-entries : (I : Model) (s : List ℕ) → Facts I s → (r : Reading) → readSheet I s ≡ whole r → (m : ℕ) (b : Body) → body (sheetOf I s) m ≡ some b
+    → SameIfAny (some m) (owner (sheetOf I s) (b .entry))
+its-entries I s f r read m b e = subst (BodyOwned (sheetOf I s) m) e (f .owners-fit r read .bodies-owned m) .0
+
+owners-are-methods : (I : Model) (s : List ℕ) → Facts I s → (r : Reading) → readSheet I s ≡ whole r → (x : Point)
+    → List·Memᴰ x (sheetOf I s .points) → NamedIfAny (length (sheetOf I s .methods)) (x .owner)
+owners-are-methods I s f r read x i =
+    each-member (λ (x : Point). NamedIfAny (length (sheetOf I s .methods)) (x .owner)) (f .names-exist r read .owners-named) i
+
+-- where no kind above 19 is taken no point has an owner, and neither 24 nor 25 is given
+module _ (I : Model) (s : List ℕ) (f : Facts I s) (former : I .kinds < 20) where
+  its-former-points : (r : Reading) → readSheet I s ≡ whole r → (x : Point) → List·Memᴰ x (sheetOf I s .points) → x .owner ≡ none
+  its-former-points r read x i = each-member (λ (x : Point). x .owner ≡ none) (f .no-owners former r read) i
+
+  never-24 : (at : ℕ) (r : Reading) → readSheet I s ≡ refusal 24 at r → ⊥
+  never-24 at r read = f .no-owner-refused former 24 at r read .0 refl
+
+  never-25 : (at : ℕ) (r : Reading) → readSheet I s ≡ refusal 25 at r → ⊥
+  never-25 at r read = f .no-owner-refused former 25 at r read .1 refl
 
 -- a sheet that is read whole is of the new edition if it begins with 18, and only a sheet that does has a stop
 its-edition : (I : Model) (s : List ℕ) → Facts I s → (r : Reading) → readSheet I s ≡ whole r → byteAt s 0 ≡ 18 → sheetOf I s .new ≡ true

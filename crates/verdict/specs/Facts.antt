@@ -12,13 +12,13 @@ use Rattle.condition.specs.Places.{nullable, accepts}
 use Rattle.certificate.specs.Certificate.{Certificate}
 use Rattle.sheet.specs.Model.{Model}
 use Rattle.sheet.specs.Each.{Each}
-use Rattle.sheet.specs.Sheet.{Outcome, Method, CallStep, Step, call-step, Sheet, body, targetFor}
+use Rattle.sheet.specs.Sheet.{Outcome, Point, Method, CallStep, Step, call-step, Sheet, body, targetFor}
 use Rattle.sheet.specs.Kind.{conditions}
 use Rattle.sheet.specs.Record.{Bytes, byteAt}
-use Rattle.sheet.specs.Reading.{Reading, whole, readSheet}
+use Rattle.sheet.specs.Reading.{Reading, whole, refusal, readSheet}
 use Rattle.sheet.specs.Decode.{sheetOf}
 use Rattle.sheet_laws.specs.AtOffset.{InPostfix}
-use Rattle.sheet_laws.specs.Names.{NamesExist, HasBody, OutcomesFit, EventBelow, StopFits}
+use Rattle.sheet_laws.specs.Names.{NamesExist, HasBody, OutcomesFit, OwnersFit, EventBelow, StopFits}
 use Rattle.runs.specs.Rules.{Rule, rules, bodyCount, eventCount, callCount, passCount, failedExitCount, failedCallCount, stopCount, total, count}
 use Rattle.runs.specs.Runs.{State, Grown, Move, MadeByTrace, run}
 use Rattle.runs.specs.Owing.{OwingWhenOpen}
@@ -46,15 +46,19 @@ pub record Facts (M : Model) (s : List ℕ) : Type 0 where
   -- of a sheet that is read whole: the records of each condition are the postfix form of the condition that they stand for,
   pub in-postfix : (r : Reading) → readSheet M s ≡ whole r → Each (InPostfix s) (r .own conditions)
   -- every name exists, the event of each step is one of the instrument's, the first method has a body, a method with body has a failed exit exactly if
-  -- it has two outcomes, and a call a failed target exactly if its method has two
+  -- it has two outcomes, a call a failed target exactly if its method has two, and owners are the same where they are compared
   pub names-exist : (r : Reading) → readSheet M s ≡ whole r → NamesExist (sheetOf M s)
   pub events-below : (r : Reading) → readSheet M s ≡ whole r → Each (EventBelow (M .events)) (sheetOf M s .steps)
   pub first-has-body : (r : Reading) → readSheet M s ≡ whole r → HasBody (body (sheetOf M s) 0)
   pub outcomes-fit : (r : Reading) → readSheet M s ≡ whole r → OutcomesFit (sheetOf M s)
+  pub owners-fit : (r : Reading) → readSheet M s ≡ whole r → OwnersFit (sheetOf M s)
   -- and it is of the new edition exactly if its first byte is 18, and else has no stop
   pub edition : (r : Reading) → readSheet M s ≡ whole r → (sheetOf M s .new ≡ true) ↔ (byteAt s 0 ≡ 18)
   pub stops-fit : (r : Reading) → readSheet M s ≡ whole r → Each (StopFits (sheetOf M s .new)) (sheetOf M s .steps)
-  -- on an instrument that takes no kind above 17 it is a sheet of the old edition,
+  -- on an instrument that takes no kind above 19 no point has an owner, and no sheet is refused for one,
+  pub no-owners : M .kinds < 20 → (r : Reading) → readSheet M s ≡ whole r → Each (λ (x : Point). x .owner ≡ none) (sheetOf M s .points)
+  pub no-owner-refused : M .kinds < 20 → (n at : ℕ) (r : Reading) → readSheet M s ≡ refusal n at r → (n ≡ 24 → ⊥) × (n ≡ 25 → ⊥)
+  -- on one that takes no kind above 17 it is a sheet of the old edition,
   pub old-edition : M .kinds < 18 → (r : Reading) → readSheet M s ≡ whole r → OldEdition (sheetOf M s)
   -- and on one that takes document 01's kinds alone a sheet of document 01: what `as-before` compares with is that document's
   pub one-outcome : M .kinds < 15 → (r : Reading) → readSheet M s ≡ whole r → OneOutcome (sheetOf M s)

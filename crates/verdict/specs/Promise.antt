@@ -20,6 +20,7 @@ use Rattle.sheet.specs.Decode.{sheetOf}
 use Rattle.runs.specs.Rules.{Claim, _isIn_, holdsEmpty, Rule, _of_says_, rules, AllMet, count}
 use Rattle.runs.specs.Runs.{Move, run, Safe}
 use Rattle.runs.specs.Owing.{Owing, ToldApart}
+use Rattle.runs.specs.Owners.{AllOwned, Belongs}
 use Rattle.verdict.specs.Verdict.{Report, accepted, refused, unproved, testOf, certificatesNeeded, nextOf, verdictOf}
 use Rattle.verdict.specs.WordTest.{Answer, tested, wordTest}
 use Rattle.verdict.specs.Reply.{Reply, _giving_, placeValue, faultValues, replyOf, answerReply}
@@ -29,7 +30,7 @@ use Rattle.verdict.specs.Reply.{Reply, _giving_, placeValue, faultValues
 -- "A sheet is well formed if none of 1 to 10 applies to it, nor a later refusal met while reading"
 pub record WellFormed (M : Model) (s : List ℕ) : Type 0 where
   pub reading : Reading
-  -- none of 1 to 9, nor 18 to 20
+  -- none of 1 to 9, nor 18 to 20, 24 and 25
   pub read : readSheet M s ≡ whole reading
   -- nor 10
   pub enough : length (sheetOf M s .certificates) ≡ certificatesNeeded (rules (sheetOf M s))
@@ -64,9 +65,10 @@ pub record FirstFault (events : ℕ) (xs : List Rule) (cs : List Certificate) (r
   pub before-pass : EachCertified (Passes events) before used
   pub fails : testOf events failing (nextOf unused) ≡ found f
 
--- one of the refusals 1 to 10 and 18 to 20 applies, and the first of them has this number and place; what they are but 10 is said by sheet/specs/Reading
+-- one of the refusals 1 to 10, 18 to 20, 24 and 25 applies, and the first of them has this number and place; what they are but 10 is said by
+-- sheet/specs/Reading
 pub data RefusedFor (M : Model) (s : List ℕ) : ℕ → ℕ → Type 0 where
-  -- 1 to 9 and 18 to 20: reading ends with it
+  -- 1 to 9, 18 to 20, 24 and 25: reading ends with it
   while-reading : {n at : ℕ} {r : Reading} → readSheet M s ≡ refusal n at r → RefusedFor M s n at
   -- 10, "length": "certificates are more or fewer than the rules need"
   wrong-count : {r : Reading} → readSheet M s ≡ whole r
@@ -140,12 +142,15 @@ pub record Loads (M : Model) (s : List ℕ) (answer : Report) : Type 0 where
   pub owing : (n : ℕ) → answer ≡ accepted n → (ms : List Move) → Owing (sheetOf M s) (run (sheetOf M s) 0 ms)
   -- and the activations that it speaks of are told apart, in the runs of every sheet
   pub told-apart : (ms : List Move) → ToldApart (sheetOf M s) 0 ms
+  -- Request 9: "If all points have owners, the point of a run belongs to the active method as long as a call is open", at a stop too, in the runs of every
+  -- sheet that is read whole
+  pub owned : (r : Reading) → readSheet M s ≡ whole r → AllOwned (sheetOf M s) → (ms : List Move) → Belongs (sheetOf M s) (run (sheetOf M s) 0 ms)
   -- "Conversely a well-formed sheet with true rules is accepted if each certificate lists exactly the reachable pairs, the start first."
   pub complete : WellFormed M s → AllMet (rules (sheetOf M s)) → EachCertified (ExactFor (M .events)) (rules (sheetOf M s)) (sheetOf M s .certificates)
       → answer ≡ accepted (count (sheetOf M s))
   -- Request 8: the answer of an instrument that is no smaller is this one, unless this one is 1, 6, or 2 at a kind that only the other takes
   pub on-larger : (M′ : Model) → NoLarger M M′ → OnLarger M M′ s answer (verdictOf M′ s)
-  -- Requests 2 and 4: a sheet that does not use the kinds above k is judged as by an instrument that takes none of them
+  -- Requests 2, 4 and 9: a sheet that does not use the kinds above k is judged as by an instrument that takes none of them
   pub as-before : (k : ℕ) → k ≤ M .kinds → AsBefore replyOf k M s (verdictOf (withKinds k M) s) answer
 
 -- that the definition's answer keeps the promise (proofs/Loads)
@@ -154,7 +159,7 @@ LoadsAsPromised M = 32 ≤ M .events → (s : List ℕ) → Bytes s → Loads M 
 
 -- Of the word test ------------------------------------------------------------------------------------------------------
 
--- the word test reads the sheet whole and finds the condition: none of 1 to 9 and 18 to 20, nor 14
+-- the word test reads the sheet whole and finds the condition: none of 1 to 9, 18 to 20, 24 and 25, nor 14
 pub record FindsCondition (M : Model) (s : List ℕ) (c : ℕ) : Type 0 where
   pub reading : Reading
   pub read : readSheet M s ≡ whole reading
@@ -191,7 +196,7 @@ pub record TestsWord (M : Model) (s : List ℕ) (c : ℕ) (w : Word) (answer : A
   pub refused-iff : (n : ℕ) (at : Option ℕ) → (answerReply answer ≡ n giving placeValue at) ↔ WordRefusedFor M s c w n at
   -- Request 8: the answer of an instrument that is no smaller is this one, unless this one is 1, 6, or 2 at a kind that only the other takes
   pub on-larger : (M′ : Model) → NoLarger M M′ → LikeLarger answerReply M M′ s answer (wordTest M′ s c w)
-  -- Requests 2 and 4: a sheet that does not use the kinds above k is tested as by an instrument that takes none of them
+  -- Requests 2, 4 and 9: a sheet that does not use the kinds above k is tested as by an instrument that takes none of them
   pub as-before : (k : ℕ) → k ≤ M .kinds → AsBefore answerReply k M s (wordTest (withKinds k M) s c w) answer
 
 -- that the definition's answer keeps the promise (proofs/WordTest)

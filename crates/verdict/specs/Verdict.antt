@@ -73,7 +73,7 @@ judged M s S =
     let first = firstFault (M .events) (rules S) (S .certificates) (accepted (count S)) in
     cond (eqb (length (S .certificates)) (certificatesNeeded (rules S))) first (refused 10 (some (length s)))
 
--- 1 to 9 and 18 to 20 end reading; a sheet that is read whole is judged
+-- 1 to 9, 18 to 20, 24 and 25 end reading; a sheet that is read whole is judged
 unfoldable pub verdictAfter : Model → List ℕ → ReadResult → Report
 unfolding judged
 verdictAfter M s (refusal n at r) = refused n (some at)
