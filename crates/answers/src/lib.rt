@@ -132,6 +132,8 @@ pub fn refusal_number(x: Refusal) -> usize
         Refusal::WrongOutcomes(_) => 18,
         Refusal::EditionNotFirst(_) => 19,
         Refusal::StopInOldSheet(_) => 20,
+        Refusal::WrongOwner(_) => 24,
+        Refusal::UnknownOwner(_) => 25,
     }
 }
 
@@ -155,5 +157,7 @@ pub fn refusal_place(x: Refusal) -> Place
         Refusal::WrongOutcomes(at) => Place::At(at),
         Refusal::EditionNotFirst(at) => Place::At(at),
         Refusal::StopInOldSheet(at) => Place::At(at),
+        Refusal::WrongOwner(at) => Place::At(at),
+        Refusal::UnknownOwner(at) => Place::At(at),
     }
 }

@@ -2,3 +2,4 @@ pub mod Refusal
 pub mod Found
 pub mod Pairs
 pub mod Symbols
+pub mod Named

@@ -1,10 +1,10 @@
--- Document 01's number and place of each refusal: "What the loader returns"; and those of document 02's 18 to 20.
+-- Document 01's number and place of each refusal: "What the loader returns"; and those of document 02's 18 to 20, 24 and 25.
 use Prim.Native.Nat.{ℕ}
 use mathlib.Core.Option.{Option, none, some}
 use Rattle.format.specs.declared.Refusal.{Refusal}
-use Rattle.format.specs.declared.Refusal.the-variants.{TooLong, UnknownKind, BodyPastEnd, WrongSection, WrongItems, OverLimit, UnknownName, Unfinished, NoFirstBody, CertificateCount, WordTooLong, StrayEvent, NoSuchCondition, WrongOutcomes, EditionNotFirst, StopInOldSheet}
+use Rattle.format.specs.declared.Refusal.the-variants.{TooLong, UnknownKind, BodyPastEnd, WrongSection, WrongItems, OverLimit, UnknownName, Unfinished, NoFirstBody, CertificateCount, WordTooLong, StrayEvent, NoSuchCondition, WrongOutcomes, EditionNotFirst, StopInOldSheet, WrongOwner, UnknownOwner}
 
--- the number, 1 to 10, 12 to 14 and 18 to 20
+-- the number, 1 to 10, 12 to 14, 18 to 20, 24 and 25
 abbrev pub numberOf : Refusal → ℕ
 numberOf (TooLong at) = 1
 numberOf (UnknownKind at) = 2
@@ -22,6 +22,8 @@ numberOf NoSuchCondition = 14
 numberOf (WrongOutcomes at) = 18
 numberOf (EditionNotFirst at) = 19
 numberOf (StopInOldSheet at) = 20
+numberOf (WrongOwner at) = 24
+numberOf (UnknownOwner at) = 25
 
 -- "place", "offset", "length" or "index", by the refusal; 12 and 14 have none
 abbrev pub placeOf : Refusal → Option ℕ
@@ -41,3 +43,5 @@ placeOf NoSuchCondition = none
 placeOf (WrongOutcomes at) = some at
 placeOf (EditionNotFirst at) = some at
 placeOf (StopInOldSheet at) = some at
+placeOf (WrongOwner at) = some at
+placeOf (UnknownOwner at) = some at

@@ -1,5 +1,5 @@
 -- The conditions that a point or a method names, by their numbers as they were read.
-use mathlib.Core.Path.{_≡_, sym, ap, subst}
+use mathlib.Core.Path.{_≡_, sym, subst}
 use mathlib.Core.List.{List}
 use Prim.Native.Nat.{ℕ}
 use lib.ListN.{getD}
@@ -10,7 +10,7 @@ use Rattle.sheet_laws.specs.AtOffset.{pointAt, methodAt}
 use Rattle.values.specs.declared.Point.{Point}
 use Rattle.values.specs.declared.Declared.{Declared}
 use Rattle.values.specs.declared.Declaration.{Declaration}
-use Rattle.values.specs.Values.{pointValue, declaredValue, Declares, DeclaresFailed}
+use Rattle.values.specs.Values.{PointHas, declaredValue, Declares, DeclaresFailed}
 use Rattle.index.specs.Indexed.{ConditionIn, PointIn, DeclaredIn, MethodIn, FailedIn}
 
 -- the numbers a, b and c are those of the conditions x, y and z
@@ -27,11 +27,9 @@ module _ {s conditions : List ℕ} where
       → ConditionIn s conditions a′ x → ConditionIn s conditions b′ y → ConditionIn s conditions c′ z → Named s conditions a b c x y z
   named-as e f g h i j = record { first = in-table e h; second = in-table f i; third = in-table g j }
 
-  pub point-named : {S : Sheet} {points : List ℕ} {p : ℕ} → PointIn S s conditions points p → (v : Point) → pointValue v ≡ pointAt s (getD points p 0)
+  pub point-named : {S : Sheet} {points : List ℕ} {p : ℕ} → PointIn S s conditions points p → (v : Point) → PointHas v (pointAt s (getD points p 0))
       → Named s conditions (v .past) (v .own) (v .due) (past S p) (own S p) (due S p)
-  point-named x v e =
-      named-as (ap (λ (y : sheet.Point). y .past) e) (ap (λ (y : sheet.Point). y .own) e) (ap (λ (y : sheet.Point). y .due) e)
-      (x .past-named) (x .own-named) (x .due-named)
+  point-named x v e = named-as (e .past-is) (e .own-is) (e .due-is) (x .past-named) (x .own-named) (x .due-named)
 
   module _ {S : Sheet} {methods : List ℕ} {m : ℕ} where
     pub pre-named : MethodIn S s conditions methods m → (v : Declaration) → Declares v (methodAt s (getD methods m 0))

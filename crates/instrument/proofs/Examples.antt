@@ -59,8 +59,21 @@ read-by-large : numberAndPlace (readSheet (modelOf Large) (withPoints 65)) ≡ [
 unfolding readSheet
 read-by-large = refl
 
--- both take kinds up to 19: a condition, a point, a method and a primitive with two outcomes, and a call of each, and as a sheet of the new edition with a
--- stop behind them; and none above
+-- points with an owner and points without one count together: one of each, so often
+abbrev mixed : ℕ → List ℕ
+mixed zero = []
+mixed (suc n) = 0x07 ∷ 0 ∷ 0 ∷ 0 ∷ 0 ∷ 0 ∷ 0 ∷ 0x14 ∷ 0 ∷ 0 ∷ 0 ∷ 0 ∷ 0 ∷ 0 ∷ 0 ∷ 0 ∷ mixed n
+
+abbrev withMixed : ℕ → List ℕ → List ℕ
+withMixed n more = (0x02 ∷ 0x06 ∷ []) ++ (mixed n ++ (more ++ (0x09 ∷ replicate 10 0)))
+
+mixed-points : map (λ more. numberAndPlace (readSheet (modelOf Entry) (withMixed 32 more))) ([] ∷ points 1 ∷ (0x14 ∷ replicate 8 0) ∷ [])
+    ≡ [] ∷ (6 ∷ 514 ∷ []) ∷ (6 ∷ 514 ∷ []) ∷ []
+unfolding readSheet
+mixed-points = refl
+
+-- both take kinds up to 20: a condition, a point, a method and a primitive with two outcomes, and a call of each; as a sheet of the new edition with a
+-- stop behind them; a point with an owner; and none above
 abbrev withFailing : List ℕ
 withFailing =
     (0x02 ∷ 0x06 ∷ []) ++ (points 1 ++ ((0x10 ∷ replicate 16 0) ++ ((0x0F ∷ replicate 10 0) ++ ((0x11 ∷ replicate 8 0) ++ (0x11 ∷ 0 ∷ 0 ∷ 0 ∷ 0 ∷ 0 ∷ 0 ∷ 1 ∷ 0 ∷ [])))))
@@ -68,8 +81,9 @@ withFailing =
 abbrev withStop : List ℕ
 withStop = (0x12 ∷ withFailing) ++ (0x13 ∷ 0 ∷ 0 ∷ [])
 
-kinds-read : map (λ i. map (λ s. numberAndPlace (readSheet (modelOf i) s)) (withFailing ∷ withStop ∷ (0x13 ∷ []) ∷ (0x14 ∷ []) ∷ [])) (Large ∷ Entry ∷ [])
-    ≡ replicate 2 ([] ∷ [] ∷ (3 ∷ 0 ∷ []) ∷ (2 ∷ 0 ∷ []) ∷ [])
+kinds-read : map (λ i. map (λ s. numberAndPlace (readSheet (modelOf i) s)) (withFailing ∷ withStop ∷ withMixed 1 [] ∷ (0x14 ∷ []) ∷ (0x15 ∷ []) ∷ []))
+    (Large ∷ Entry ∷ [])
+    ≡ replicate 2 ([] ∷ [] ∷ [] ∷ (3 ∷ 0 ∷ []) ∷ (2 ∷ 0 ∷ []) ∷ [])
 unfolding readSheet
 kinds-read = refl
 

@@ -12,7 +12,7 @@ use Rattle.instrument.specs.Model.{modelOf, modelWith, limitsOf}
 pub record Fits (M : Model) : Type 0 where
   pub few-bytes : M .bytes ≤ 4294967296
   pub few-events : M .events ≤ 64
-  pub few-kinds : M .kinds ≤ 19
+  pub few-kinds : M .kinds ≤ 20
   pub wide : 32 ≤ M .events
 
 pub instrument-fits : (i : Instrument) → Fits (modelOf i)

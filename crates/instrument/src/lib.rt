@@ -30,13 +30,13 @@ pub fn limits_of(instrument: Instrument) -> Limits
             bytes: 65536,
             points: 512,
             events: 32,
-            kinds: 19,
+            kinds: 20,
         },
         Instrument::Entry => Limits {
             bytes: 8192,
             points: 64,
             events: 32,
-            kinds: 19,
+            kinds: 20,
         },
     }
 }

@@ -23,20 +23,20 @@ body-le =
     by-rows (λ k x. widths (x .fields) ≤ 16)
     (lit≤ tt and lit≤ tt and lit≤ tt and lit≤ tt and lit≤ tt and lit≤ tt and lit≤ tt and lit≤ tt
     and lit≤ tt and lit≤ tt and lit≤ tt and lit≤ tt and lit≤ tt and lit≤ tt and lit≤ tt and lit≤ tt and lit≤ tt and lit≤ tt
-    and lit≤ tt and lit≤ tt and (λ i. lit≤ tt))
+    and lit≤ tt and lit≤ tt and lit≤ tt and (λ i. lit≤ tt))
 
 -- sections by comparisons
 abbrev pub sectionByTests : ℕ → ℕ
 sectionByTests k =
     cond (ltb k 7) conditions
     (cond (ltb k 13) (cond (ltb k 8) points (cond (ltb k 10) methods steps))
-    (cond (ltb k 15) certificates (cond (ltb k 17) methods (cond (eqb k 18) conditions steps))))
+    (cond (ltb k 15) certificates (cond (ltb k 17) methods (cond (eqb k 18) conditions (cond (eqb k 20) points steps)))))
 
 pub section-is : (k : ℕ) → 1 ≤ k → k ≤ lastKind → sectionByTests k ≡ sectionOf k
 section-is =
     by-rows (λ k x. 1 ≤ k → k ≤ lastKind → sectionByTests k ≡ x .section)
     ((λ low high. absurd (omega arith)) and same and same and same and same and same and same and same and same and same and same and same and same and same and same
-    and same and same and same and same and same
+    and same and same and same and same and same and same
     and (λ i low high. absurd (omega arith)))
   where
     same : {n : ℕ} {A B : Type 0} → A → B → n ≡ n
@@ -48,7 +48,7 @@ section-high =
     by-rows (λ k x. x .section ≤ 5)
     (lit≤ tt and lit≤ tt and lit≤ tt and lit≤ tt and lit≤ tt and lit≤ tt and lit≤ tt and lit≤ tt
     and lit≤ tt and lit≤ tt and lit≤ tt and lit≤ tt and lit≤ tt and lit≤ tt and lit≤ tt and lit≤ tt and lit≤ tt and lit≤ tt
-    and lit≤ tt and lit≤ tt and (λ i. lit≤ tt))
+    and lit≤ tt and lit≤ tt and lit≤ tt and (λ i. lit≤ tt))
 
 -- Roles ---------------------------------------------------------------------------------------------------------------
 
@@ -58,6 +58,7 @@ low-counts =
     by-rows (λ k x. 1 ≤ k → k < 6 → countsOne (x .role) ≡ false)
     ((λ low high. absurd (omega arith)) and (λ low high. refl) and (λ low high. refl) and (λ low high. refl) and (λ low high. refl) and (λ low high. refl)
     and out 0 and out 1 and out 2 and out 3 and out 4 and out 5 and out 6 and out 7 and out 8 and out 9 and out 10 and out 11 and out 12 and out 13
+    and out 14
     and (λ i low high. absurd (omega arith)))
   where
     out : (n : ℕ) {A B : Type 0} → A → 6 + n < 6 → B
@@ -67,7 +68,7 @@ others-count : (k : ℕ) → 6 ≤ k → (k ≡ 13 → ⊥) → (k ≡ 18 → �
 others-count =
     by-rows (λ k x. 6 ≤ k → (k ≡ 13 → ⊥) → (k ≡ 18 → ⊥) → countsOne (x .role) ≡ true)
     (low 0 (lit≤ tt) and low 1 (lit≤ tt) and low 2 (lit≤ tt) and low 3 (lit≤ tt) and low 4 (lit≤ tt) and low 5 (lit≤ tt) and same and same and same and same and same and same and same
-    and (λ h ne me. absurd (ne refl)) and same and same and same and same and (λ h ne me. absurd (me refl)) and same and (λ i. same))
+    and (λ h ne me. absurd (ne refl)) and same and same and same and same and (λ h ne me. absurd (me refl)) and same and same and (λ i. same))
   where
     low : (n : ℕ) {A : Type 0} → n ≤ 5 → 6 ≤ n → A
     low n g h = absurd (omega arith)
@@ -88,7 +89,7 @@ pub in-condition-is : (k : ℕ) → 1 ≤ k → ltb k 7 ≡ inCondition (section
 in-condition-is =
     by-rows (λ k x. 1 ≤ k → ltb k 7 ≡ inCondition (x .section) (x .role))
     ((λ low. absurd (omega arith)) and same and same and same and same and same and same and same and same and same and same and same and same and same and same
-    and same and same and same and same and same
+    and same and same and same and same and same and same
     and (λ i low. later low))
   where
     same : {b : Bool} {A : Type 0} → A → b ≡ b
@@ -103,7 +104,7 @@ past-conditions =
     by-rows (λ k x. 1 ≤ k → k ≤ lastKind → inCondition (x .section) (x .role) ≡ false → (k ≡ 18 → ⊥) → points ≤ x .section)
     ((λ low. absurd (omega arith)) and inside and inside and inside and inside and inside and inside
     and later and later and later and later and later and later and later and later and later and later and later
-    and (λ low high out ne. absurd (ne refl)) and later
+    and (λ low high out ne. absurd (ne refl)) and later and later
     and (λ i low high. absurd (omega arith)))
   where
     inside : {A B C : Type 0} → A → B → true ≡ false → C
@@ -117,7 +118,8 @@ pub none-taken : (k : ℕ) → (k ≡ 3 → ⊥) → (k ≡ 4 → ⊥) → (k �
 none-taken =
     by-rows (λ k x. (k ≡ 3 → ⊥) → (k ≡ 4 → ⊥) → (k ≡ 5 → ⊥) → takesItems (x .role) ≡ 0)
     (same and same and same and (λ a b c. absurd (a refl)) and (λ a b c. absurd (b refl)) and (λ a b c. absurd (c refl))
-    and same and same and same and same and same and same and same and same and same and same and same and same and same and same and (λ i. same))
+    and same and same and same and same and same and same and same and same and same and same and same and same and same and same and same
+    and (λ i. same))
   where
     same : {A B C : Type 0} → A → B → C → _≡_ {A = ℕ} 0 0
     same a b c = refl
@@ -133,7 +135,7 @@ pub suits : (k : ℕ) → Suits (sectionOf k) (kindOf k .role)
 suits =
     by-rows (λ k x. Suits (x .section) (x .role))
     (tt and refl and refl and refl and refl and refl and tt and tt and tt and tt and tt and tt and tt and refl and tt
-    and tt and tt and tt and refl and tt and (λ i. tt))
+    and tt and tt and tt and refl and tt and tt and (λ i. tt))
 
 -- a primitive is a method
 pub primitive-section : (k : ℕ) → primitiveKind k ≡ true → sectionOf k ≡ methods
@@ -157,7 +159,7 @@ names-nothing events counted =
     and (λ h. named (h (lit≤ tt) (lit≤ tt))) and (λ h. named (h (lit≤ tt) (lit≤ tt))) and (λ h. named (h (lit≤ tt) (lit≤ tt)))
     and (λ h. pair-fields) and none
     and (λ h. named (h (lit≤ tt) (lit≤ tt))) and (λ h. named (h (lit≤ tt) (lit≤ tt))) and (λ h. named (h (lit≤ tt) (lit≤ tt))) and none
-    and (λ h. named (h (lit≤ tt) (lit≤ tt))) and (λ i. none))
+    and (λ h. named (h (lit≤ tt) (lit≤ tt))) and (λ h. named (h (lit≤ tt) (lit≤ tt))) and (λ i. none))
   where
     none : {A : Type 0} → A → (vs : List ℕ) → true ≡ true
     none h vs = refl

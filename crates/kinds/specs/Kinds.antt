@@ -1,4 +1,5 @@
--- What a kind is to the code: the last one, and whether one is known; what its role says of a record; leaves, primitives, methods of two outcomes, calls.
+-- What a kind is to the code: the last one, and whether one is known; what its role says of a record; leaves, primitives, methods with body,
+-- methods of two outcomes, calls.
 use Prim.Native.Nat.{ℕ}
 use mathlib.Core.Bool.{Bool, true, false, _&&_, _||_}
 use lib.Dec.{eqb, ltb, leb}
@@ -6,7 +7,7 @@ use Rattle.sheet.specs.Kind.{Role, symbol, a-pair, counts, edition}
 
 -- the last kind of the table
 abbrev pub lastKind : ℕ
-lastKind = 19
+lastKind = 20
 
 -- the kinds from 1 to `kinds`
 abbrev pub isKnown : ℕ → ℕ → Bool
@@ -25,12 +26,15 @@ takesItems a-pair = 0
 takesItems counts = 0
 takesItems edition = 0
 
--- kind 1; kinds 8 and 15; kinds 15 and 16
+-- kind 1; kinds 8 and 15; kinds 9 and 16; kinds 15 and 16
 abbrev pub leafKind : ℕ → Bool
 leafKind kind = eqb kind 1
 
 abbrev pub primitiveKind : ℕ → Bool
 primitiveKind kind = eqb kind 8 || eqb kind 15
+
+abbrev pub bodyKind : ℕ → Bool
+bodyKind kind = eqb kind 9 || eqb kind 16
 
 abbrev pub twoOutcomeKind : ℕ → Bool
 twoOutcomeKind kind = eqb kind 15 || eqb kind 16

@@ -13,9 +13,9 @@ use Rattle.kinds.specs.Kinds.{lastKind, isKnown}
 abbrev pub lengthOf : ℕ → Length
 lengthOf kind = cond (isKnown lastKind kind) (Of (bodyLength kind)) Nothing
 
--- the lengths as the documents have them: document 01, "Body lengths by kind, 1 to 14"; of 15 to 19 by their fields in document 02, Asks 2 and 4
+-- the lengths as the documents have them: document 01, "Body lengths by kind, 1 to 14"; of 15 to 20 by their fields in document 02, Asks 2, 4 and 9
 abbrev pub lengths : List ℕ
-lengths = 4 ∷ 0 ∷ 0 ∷ 0 ∷ 0 ∷ 0 ∷ 6 ∷ 6 ∷ 10 ∷ 5 ∷ 6 ∷ 4 ∷ 5 ∷ 0 ∷ 10 ∷ 16 ∷ 8 ∷ 0 ∷ 2 ∷ []
+lengths = 4 ∷ 0 ∷ 0 ∷ 0 ∷ 0 ∷ 0 ∷ 6 ∷ 6 ∷ 10 ∷ 5 ∷ 6 ∷ 4 ∷ 5 ∷ 0 ∷ 10 ∷ 16 ∷ 8 ∷ 0 ∷ 2 ∷ 8 ∷ []
 
 -- .. of any byte: 0 and those past the list have none
 abbrev pub listedLength : ℕ → Length

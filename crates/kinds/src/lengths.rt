@@ -10,6 +10,7 @@ use crate::EVENT;
 use crate::LAST;
 use crate::LEAF;
 use crate::PAIR;
+use crate::STOP;
 use crate::TWO_OUTCOME_BODY;
 use crate::TWO_OUTCOME_PRIMITIVE;
 use crate::WITH_BODY;
@@ -50,7 +51,7 @@ fn condition_length(kind: u8) -> Length
     Length::Of(0)
 }
 
-// Of the kinds behind them, but for pairs.
+// Of the kinds behind them, but for pairs. A call of a method of two outcomes and a point with an owner have four fields.
 fn later_length(kind: u8) -> usize
     requires { ⌜ (7 ≤ kind) × (kind ≤ lastKind) × (kind ≡ 13 → ⊥) ⌝ }
     ensures { λ r. ⌜ r ≡ bodyLength kind ⌝ }
@@ -58,13 +59,16 @@ fn later_length(kind: u8) -> usize
     if kind < 13 {
         return one_outcome_length(kind);
     }
-    if kind < 18 {
+    if kind < 17 {
         return two_outcome_length(kind);
     }
     if kind == EDITION {
         return 0;
     }
-    2
+    if kind == STOP {
+        return 2;
+    }
+    8
 }
 
 // Of a point, a primitive and a method with body; of an event, a call and a pass.
@@ -84,14 +88,11 @@ fn one_outcome_length(kind: u8) -> usize
     6
 }
 
-// Of the end of a certificate; of a primitive and a method with body that have two outcomes, and of a call of such a method.
+// Of the end of a certificate; of a primitive and a method with body that have two outcomes.
 fn two_outcome_length(kind: u8) -> usize
-    requires { ⌜ (14 ≤ kind) × (kind < 18) ⌝ }
+    requires { ⌜ (14 ≤ kind) × (kind < 17) ⌝ }
     ensures { λ r. ⌜ r ≡ bodyLength kind ⌝ }
 {
-    if 16 < kind {
-        return 8;
-    }
     if kind == TWO_OUTCOME_PRIMITIVE {
         return 10;
     }

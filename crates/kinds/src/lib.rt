@@ -3,7 +3,7 @@ ghost use mathlib.Core.Path.{_≡_};
 ghost use Prim.Native.Nat.{_≤_};
 ghost use Rattle.sheet.specs.Kind.{kindOf, sectionOf};
 ghost use Rattle.sheet.specs.Reading.{inCondition};
-ghost use Rattle.kinds.specs.Kinds.{lastKind, countsOne, takesItems, leafKind, primitiveKind, twoOutcomeKind};
+ghost use Rattle.kinds.specs.Kinds.{lastKind, countsOne, takesItems, leafKind, primitiveKind, bodyKind, twoOutcomeKind};
 use bits::both;
 use bits::one_of;
 
@@ -55,8 +55,11 @@ pub const EDITION: u8 = 18;
 
 pub const STOP: u8 = 19;
 
+// The kind of a point with an owner.
+pub const OWNED_POINT: u8 = 20;
+
 // The last kind.
-const LAST: u8 = 19;
+const LAST: u8 = 20;
 
 pub fn section_of(kind: u8) -> u8
     requires { ⌜ (1 ≤ kind) × (kind ≤ lastKind) ⌝ }
@@ -78,6 +81,8 @@ pub fn section_of(kind: u8) -> u8
         METHODS
     } else if kind == EDITION {
         CONDITIONS
+    } else if kind == OWNED_POINT {
+        POINTS
     } else {
         STEPS
     }
@@ -124,6 +129,13 @@ pub fn is_primitive(kind: u8) -> bool
     ensures { λ r. ⌜ r ≡ primitiveKind kind ⌝ }
 {
     one_of(kind == PRIMITIVE, kind == TWO_OUTCOME_PRIMITIVE)
+}
+
+// The kind is that of a method with body.
+pub fn has_body(kind: u8) -> bool
+    ensures { λ r. ⌜ r ≡ bodyKind kind ⌝ }
+{
+    one_of(kind == WITH_BODY, kind == TWO_OUTCOME_BODY)
 }
 
 // A method of the kind can fail.

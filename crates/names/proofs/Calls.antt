@@ -12,7 +12,7 @@ or-false-right : (b : Bool) → (b || false) ≡ b
 or-false-right true = refl
 or-false-right false = refl
 
-not-not : (b : Bool) → not (not b) ≡ b
+pub not-not : (b : Bool) → not (not b) ≡ b
 not-not true = refl
 not-not false = refl
 

@@ -8,7 +8,8 @@ ghost use Rattle.sheet.specs.Record.{recordAt};
 ghost use Rattle.sheet_laws.specs.AtOffset.{shortAt};
 ghost use Rattle.sheet.specs.Reading.{allExist};
 ghost use Rattle.tally.specs.Tally.{countOf};
-ghost use Rattle.names.specs.Names.{Named, twoBelow, threeBelow};
+ghost use Rattle.format.specs.Named.{Named};
+ghost use Rattle.names.specs.Names.{twoBelow, threeBelow};
 use bits::both;
 use fields::index;
 use fields::short_inside;
@@ -23,6 +24,7 @@ use kinds::WITH_BODY;
 use kinds::section_of;
 use tally::Tally;
 
+pub mod judge; // judge.rt: what a record is refused for by what it names
 pub mod outcomes; // outcomes.rt: whether a call names a method with as many outcomes
 
 // The name at an offset, and two and three one after the other, are of the first n.

@@ -14,10 +14,13 @@ use Rattle.values.specs.declared.CallStep.{CallStep}
 use Rattle.values.specs.declared.Step.{Step}
 use Rattle.values.specs.declared.Step.the-variants.{Event, Call, TwoOutcomeCall, Pass, Stop}
 
--- a point, what is declared of an outcome, a method, a call and a step, each by the value of the code
-abbrev pub pointValue : Point → sheet.Point
-pointValue x = record { past = x .past; own = x .own; due = x .due }
+-- the point has these conditions; its owner is none of the value's
+pub record PointHas (v : Point) (p : sheet.Point) : Type 0 where
+  pub past-is : v .past ≡ p .past
+  pub own-is : v .own ≡ p .own
+  pub due-is : v .due ≡ p .due
 
+-- what is declared of an outcome, a method, a call and a step, each by the value of the code
 abbrev pub declaredValue : Declared → sheet.Declared
 declaredValue x = record { trace = x .trace; future = x .future }
 

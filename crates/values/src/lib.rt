@@ -3,7 +3,7 @@ ghost use mathlib.Core.Path.{_≡_};
 ghost use Prim.Native.Nat.{_+_, _≤_, _<_};
 ghost use lib.ListN.{length};
 ghost use Rattle.sheet_laws.specs.AtOffset.{shortAt, declaredAt, pointAt, methodAt, stepAt};
-ghost use Rattle.values.specs.Values.{pointValue, declaredValue, Declares, DeclaresFailed, methodValue, stepValue};
+ghost use Rattle.values.specs.Values.{PointHas, declaredValue, Declares, DeclaresFailed, methodValue, stepValue};
 use fields::byte_at;
 use fields::index;
 use fields::short_at;
@@ -78,7 +78,7 @@ pub enum Step {
 
 pub fn point_at(s: &[u8], at: usize) -> Point
     requires { ⌜ at < length (now s) ⌝ }
-    ensures { λ r. ⌜ pointValue r ≡ pointAt (now (s .entry)) at ⌝ }
+    ensures { λ r. ⌜ PointHas r (pointAt (now (s .entry)) at) ⌝ }
 {
     Point {
         past: short_at(s, at + 1),

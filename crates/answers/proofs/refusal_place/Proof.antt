@@ -53,6 +53,12 @@ enum-known-x-13 c = search needs
 enum-known-x-14 : tie.Need-enum-known-x-14
 enum-known-x-14 c = search needs
 
+enum-known-x-15 : tie.Need-enum-known-x-15
+enum-known-x-15 c = search needs
+
+enum-known-x-16 : tie.Need-enum-known-x-16
+enum-known-x-16 c = search needs
+
 returns : tie.Need-returns
 returns c = sym (ap placeOf (c .before .x .given .1))
 
@@ -101,6 +107,12 @@ returns-15 c = sym (ap placeOf (c .before .x13 .given .1))
 returns-16 : tie.Need-returns-16
 returns-16 c = sym (ap placeOf (c .before .x14 .given .1))
 
+returns-17 : tie.Need-returns-17
+returns-17 c = sym (ap placeOf (c .before .x15 .given .1))
+
+returns-18 : tie.Need-returns-18
+returns-18 c = sym (ap placeOf (c .before .x16 .given .1))
+
 pub refusal-place-spec : {M : Type 1} → statement M
 refusal-place-spec =
     tie.close
@@ -121,6 +133,8 @@ refusal-place-spec =
     enum-known-x-12
     enum-known-x-13
     enum-known-x-14
+    enum-known-x-15
+    enum-known-x-16
     returns
     returns-2
     returns-3
@@ -136,4 +150,6 @@ refusal-place-spec =
     returns-13
     returns-14
     returns-15
-    returns-16)
+    returns-16
+    returns-17
+    returns-18)

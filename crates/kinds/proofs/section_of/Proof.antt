@@ -49,10 +49,30 @@ returns-7 c =
 
 returns-8 : tie.Need-returns-8
 returns-8 c =
-    let k = c .before .before .before .before .before .args .kind in
-    simp (le-ltb k 7 (omega arith), le-ltb k 13 (omega arith), le-ltb k 15 (omega arith), le-ltb k 17 (omega arith), ne-eqb k 18 (c .if7 .left))
+    let k = c .before .before .before .before .before .before .args .kind in
+    simp (
+      le-ltb k 7 (omega arith),
+      le-ltb k 13 (omega arith),
+      le-ltb k 15 (omega arith),
+      le-ltb k 17 (omega arith),
+      ne-eqb k 18 (c .before .if7 .left),
+      eq-eqb k 20 (omega arith),
+    )
+    at (section-is k (omega arith) (omega arith))
+
+returns-9 : tie.Need-returns-9
+returns-9 c =
+    let k = c .before .before .before .before .before .before .args .kind in
+    simp (
+      le-ltb k 7 (omega arith),
+      le-ltb k 13 (omega arith),
+      le-ltb k 15 (omega arith),
+      le-ltb k 17 (omega arith),
+      ne-eqb k 18 (c .before .if7 .left),
+      ne-eqb k 20 (c .if8 .left),
+    )
     at (section-is k (omega arith) (omega arith))
 
 pub section-of-spec : {M : Type 1} → statement M
 section-of-spec =
-    tie.close (tie.spec returns returns-2 returns-3 returns-4 returns-5 returns-6 returns-7 returns-8)
+    tie.close (tie.spec returns returns-2 returns-3 returns-4 returns-5 returns-6 returns-7 returns-8 returns-9)

@@ -1,6 +1,6 @@
 -- By the section of the kind.
 use native.Mathlib.Omega.{arith}
-use Rattle.names.proofs.Named.{is-kind}
+use Rattle.format.proofs.Named.{is-kind}
 use Rattle.names.proofs.names_exist.Statement.{statement}
 use Rattle.names.proofs.names_exist.Tie as tie
 

@@ -23,7 +23,7 @@ short-at-requires-3 c κs = search needs
 
 returns : tie.Need-returns
 unfolding pointAt
-returns c = simp (c .before .before .short-at .ensures, c .before .short-at2 .ensures, c .short-at3 .ensures)
+returns c = record { past-is = c .before .before .short-at .ensures; own-is = c .before .short-at2 .ensures; due-is = c .short-at3 .ensures }
 
 pub point-at-spec : {M : Type 1} → statement M
 point-at-spec =

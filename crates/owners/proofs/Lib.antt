@@ -1,0 +1,3 @@
+pub mod Owned
+pub mod Joined
+pub mod Strays
