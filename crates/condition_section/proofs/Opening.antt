@@ -11,9 +11,9 @@ use Rattle.condition.specs.Condition.{Condition}
 use Rattle.sheet.specs.Model.{Model, conditionLimit, symbolLimit, leafLimit}
 use Rattle.sheet.specs.Kind.{Role, symbol, a-pair, counts, edition, kindOf, sectionOf}
 use Rattle.sheet.specs.Record.{byteAt, recordAt}
-use Rattle.sheet.specs.Reading.{Opened, nothing, Reading, tally, startOf, inCondition, wrongItems, isLeaf, full, overLimit, refusalOf, openedPast, pastAt, ReadResult, whole, refusal}
+use Rattle.sheet.specs.Reading.{Opened, nothing, Reading, tally, startOf, inCondition, wrongItems, isLeaf, full, overLimit, refusalOf, openedPast, pastAt, ReadResult, refusal, ownersFrom}
 use Rattle.sheet_laws.proofs.Take.{next-lt}
-use Rattle.sheet_laws.proofs.Order.{is-4, is-19, is-20, is-5, is-6, all-named, is-9, is-18, four, five, six, takes}
+use Rattle.sheet_laws.proofs.Order.{is-4, is-19, is-20, is-5, is-6, all-named, is-9, is-18, is-24, four, five, six, takes}
 use Rattle.sheet_laws.proofs.Editions.{mark-late}
 use Rattle.format.specs.declared.Refusal.{Refusal}
 use Rattle.format.specs.declared.Refusal.the-variants.{WrongSection, Unfinished, EditionNotFirst}
@@ -31,7 +31,7 @@ use Rattle.sections.specs.declared.Section.the-variants.{Done, Refused}
 use Rattle.sections.specs.Sections.{Counts, Comes, Extended, Filled}
 use Rattle.sections.proofs.Comes.{ended, refuses, taken-on}
 use Rattle.sections.proofs.Counted.{at-is, counts-same, grown-same, closed, counts-more, grown-more}
-use Rattle.sections.proofs.Tests.{or-right, and-right, section-is, not-3, in-order, no-mark, no-stop, no-method, no-call}
+use Rattle.sections.proofs.Tests.{or-right, and-right, section-is, not-3, in-order, no-mark, no-stop, no-method, no-call, no-join}
 
 -- what is open is what the code has begun, from the offset `start` on; if nothing is, the next condition would start here
 pub record Matches (o : Opened) (at start : ℕ) (b : Begun) : Type 0 where
@@ -71,6 +71,7 @@ module _ {M : Model} {s : List ℕ} {o : ReadResult} {r : Reading} {at start : �
           h .counts,
         );
         grown = h .grown;
+        listed = λ low. absurd (omega arith);
       }
 
   pub all-read : b .symbols ≤ 0 → length s ≤ at → Filled M s o 2 (Done at t) 1 r table₀ table
@@ -86,15 +87,17 @@ module _ {M : Model} {s : List ℕ} {o : ReadResult} {r : Reading} {at start : �
           placed = refl;
           result =
               ended (h .comes) over
-              ∙ ap (λ (b : Bool). cond b (refusal 8 (length s) u) (cond (eqb (length (u .own 3)) 0) (refusal 9 (length s) u) (whole u))) (ap (ltb 0) (h .matches .opened some));
+              ∙ ap (λ (b : Bool). cond b (refusal 8 (length s) u) (cond (eqb (length (u .own 3)) 0) (refusal 9 (length s) u) (ownersFrom u (u .own 2))))
+              (ap (ltb 0) (h .matches .opened some));
         };
         grown = h .grown;
+        listed = λ low. absurd (omega arith);
       }
 
   module _ (before : at < length s) where
     -- a record that is refused
     pub ends : (x : Refusal) → Refuses M s at u x → Filled M s o 2 (Refused x) 1 r table₀ table
-    ends x e = record { state = u; told = refuses (h .comes) before e; grown = h .grown }
+    ends x e = record { state = u; told = refuses (h .comes) before e; grown = h .grown; listed = λ low. absurd (omega arith) }
 
     module _ {kind q : ℕ} (w : Stood M s at kind q) where
       module _ (outside : inCondition (sectionOf kind) (kindOf kind .role) ≡ false) where
@@ -166,6 +169,9 @@ module _ {M : Model} {s : List ℕ} {o : ReadResult} {r : Reading} {at start : �
         not-wrong : is-18 M s at u ≡ false
         not-wrong = no-call w u (λ e. omega (arith, one))
 
+        not-owned : is-24 M s at u ≡ false
+        not-owned = no-join w u (λ e. omega (arith, one)) (λ e. omega (arith, one))
+
         -- what the step tells: the record's refusal, or what is open past the record
         abbrev Goes : Begun → Type 0
         Goes b′ = (refusalOf M s at u ≡ 0)
@@ -221,7 +227,7 @@ module _ {M : Model} {s : List ℕ} {o : ReadResult} {r : Reading} {at start : �
               (λ f. cond-by Tells (leafKind (byteAt s at) && leb leafLimit (b .leaves))
               (λ g. (six M s at u (w .not-2) (not-3 w u) not-4 not-19 not-20 (items-is ∙ e) (limit-is ∙ simp (f, g)), refl))
               (λ g. (
-                takes M s at u (w .not-2) (not-3 w u) not-4 not-19 not-20 (items-is ∙ e) (limit-is ∙ simp (f, g)) names no-first not-wrong,
+                takes M s at u (w .not-2) (not-3 w u) not-4 not-19 not-20 (items-is ∙ e) (limit-is ∙ simp (f, g)) names no-first not-wrong not-owned,
                 λ true-is. absurd (subst T (sym true-is ∙ ap countsOne role) tt),
                 λ false-is. subst (λ (x : Opened). Matches x q start next-begun) (sym opened-is) (more (omega (arith, ltb-false (b .items) (itemsOfKind (byteAt s at)) e, taken-is))),
               ))))
@@ -243,7 +249,7 @@ module _ {M : Model} {s : List ℕ} {o : ReadResult} {r : Reading} {at start : �
               (λ e. cond-by Tells (leb conditionLimit (countOf t 1))
               (λ f. (six M s at u (w .not-2) (not-3 w u) not-4 not-19 not-20 (one-item-is ∙ ap not e) (full-is ∙ f), refl))
               (λ f. (
-                takes M s at u (w .not-2) (not-3 w u) not-4 not-19 not-20 (one-item-is ∙ ap not e) (full-is ∙ f) names no-first not-wrong,
+                takes M s at u (w .not-2) (not-3 w u) not-4 not-19 not-20 (one-item-is ∙ ap not e) (full-is ∙ f) names no-first not-wrong not-owned,
                 λ true-is. (role, refl),
                 λ false-is. absurd (subst T (sym (ap countsOne role) ∙ false-is) tt),
               )))

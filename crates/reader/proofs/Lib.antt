@@ -1,3 +1,2 @@
-pub mod Methods
 pub mod Whole
 pub mod Limits

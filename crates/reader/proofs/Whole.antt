@@ -2,10 +2,10 @@
 use mathlib.Core.Path.{_≡_, refl, sym, ap, _∙_, subst}
 use mathlib.Core.List.{List, [], _++_}
 use Prim.Native.Nat.{ℕ, zero, suc, _≤_, _<_}
+use native.Mathlib.Nat.{not-suc-le-zero}
 use native.Mathlib.Omega.{arith}
 use lib.ListN.{length}
-use lib.Dec.{eqb}
-use Rattle.sheet.specs.Model.{Model, methodLimit}
+use Rattle.sheet.specs.Model.{Model}
 use Rattle.sheet.specs.Reading.{Counted, Reading, fresh, tally, startsOf, ReadResult, stateOf, readFrom, readSheet}
 use Rattle.format.specs.declared.Refusal.{Refusal}
 use Rattle.format.specs.declared.Refusal.the-variants.{TooLong}
@@ -15,9 +15,9 @@ use Rattle.sections.specs.declared.Section.{Section}
 use Rattle.sections.specs.declared.Section.the-variants.{Done, Refused}
 use Rattle.sections.specs.declared.Read.{Read}
 use Rattle.sections.specs.declared.Read.the-variants as read
-use Rattle.sections.specs.Sections.{Counts, Ends, overwritten, Comes, Told, overwrittenFrom, Extended, Filled, MethodsListed, Answers, Concluded}
+use Rattle.sections.specs.Sections.{Counts, Ends, overwritten, Comes, Told, overwrittenFrom, Extended, Listed, Filled, FirstSheet, NamedListed, Answers, Concluded}
 use Rattle.sections.proofs.Comes.{too-long, begins}
-use Rattle.reader.proofs.Methods.{listed}
+use Rattle.sections.proofs.Listed.{Leads, still-listed}
 use Rattle.reader.specs.Contract.{lastState, Answered, TablesFilled, Reads}
 
 read-is : (M : Model) (s : List ℕ) → readSheet M s ≡ readFrom M fresh s
@@ -44,13 +44,14 @@ refused-length M s {c} {p} {m} {e} h =
           subst (λ (r : Reading). TablesFilled c c p p m m e e (r .own)) (sym last) (record { conditions = refl; points = refl; methods = refl; steps = refl });
     }
 
--- what a reader of section k says, whatever the result and the state in which it begins, where section j is to come
-abbrev Reader : Model → List ℕ → ℕ → ℕ → Section → Section → List ℕ → List ℕ → Type 0
-Reader M s j k a b before after = (o : ReadResult) (u : Reading) → Told M s o j a u → u .own k ≡ [] → Filled M s o (suc k) b k u before after
+-- what the reader of conditions says, whatever the result and the state in which it begins
+abbrev Conditions : Model → List ℕ → Section → Section → List ℕ → List ℕ → Type 0
+Conditions M s a b before after = (o : ReadResult) (u : Reading) → Told M s o 0 a u → u .own 1 ≡ [] → Filled M s o 2 b 1 u before after
 
--- .. of steps, by a table of methods
-abbrev ReaderBy : Model → List ℕ → List ℕ → Section → Section → List ℕ → List ℕ → Type 0
-ReaderBy M s ms a b before after = (o : ReadResult) (u : Reading) → Told M s o 4 a u → u .own 4 ≡ [] → MethodsListed s ms 4 u → Filled M s o 5 b 4 u before after
+-- .. and that of section k, by the tables of points and of methods
+abbrev Reader : Model → List ℕ → ℕ → List ℕ → List ℕ → Section → Section → List ℕ → List ℕ → Type 0
+Reader M s k ps ms a b before after =
+    (o : ReadResult) (u : Reading) → Told M s o k a u → u .own k ≡ [] → NamedListed s ps ms k u → Filled M s o (suc k) b k u before after
 
 -- a table that a reader has filled, in a state of which nothing was counted before
 in-front : {k : ℕ} {r v : Reading} {before after : List ℕ} {xs : List Counted} → v .before ≡ (λ k. []) → Extended k r v before after → v .own k ≡ xs → after ≡ overwritten (startsOf xs) before
@@ -58,9 +59,15 @@ in-front {k} {r} {v} {before} none g is =
     g .table ∙ ap (λ (b : ℕ → List Counted). overwrittenFrom (length (b k)) (startsOf (v .own k)) before) none
     ∙ ap (λ (xs : List Counted). overwritten (startsOf xs) before) is
 
-module _ {M : Model} {s : List ℕ} {t₀ : Tally} {a₁ a₂ a₃ a₄ : Section} {c₀ c p₀ p m₀ m e₀ e : List ℕ} (fits : length s ≤ M .bytes) (start : t₀ ≡ nothingCounted)
-    (room : methodLimit ≤ length m₀) (r₁ : Reader M s 0 1 (Done 0 t₀) a₁ c₀ c) (r₂ : Reader M s 2 2 a₁ a₂ p₀ p) (r₃ : Reader M s 3 3 a₂ a₃ m₀ m)
-    (r₄ : ReaderBy M s m a₃ a₄ e₀ e) where
+-- of a section of which nothing was counted each table is right
+none-listed : (s table : List ℕ) (k : ℕ) (r : Reading) → r .before ≡ (λ k. []) → r .own k ≡ [] → Listed s table k r
+none-listed s table k r none-before none =
+    let before = ap (λ (before : ℕ → List Counted). before k ++ r .own k) none-before in
+    subst (Leads s table) (sym (before ∙ none)) (λ n l. absurd (not-suc-le-zero l))
+
+module _ {M : Model} {s : List ℕ} {t₀ : Tally} {a₁ a₂ a₃ a₄ : Section} {c₀ c p₀ p m₀ m e₀ e n : List ℕ}
+    (fits : length s ≤ M .bytes) (start : t₀ ≡ nothingCounted)
+    (r₁ : Conditions M s (Done 0 t₀) a₁ c₀ c) (r₂ : Reader M s 2 n n a₁ a₂ p₀ p) (r₃ : Reader M s 3 p n a₂ a₃ m₀ m) (r₄ : Reader M s 4 p m a₃ a₄ e₀ e) where
   abbrev o : ReadResult
   o = readSheet M s
 
@@ -78,22 +85,35 @@ module _ {M : Model} {s : List ℕ} {t₀ : Tally} {a₁ a₂ a₃ a₄ : Sectio
   f₁ : Filled M s o 2 a₁ 1 fresh c₀ c
   f₁ = r₁ o fresh begins-here refl
 
+  no-points : f₁ .state .own 2 ≡ []
+  no-points = f₁ .grown .others 2 (λ e. omega arith)
+
   f₂ : Filled M s o 3 a₂ 2 (f₁ .state) p₀ p
-  f₂ = r₂ o (f₁ .state) (f₁ .told) (f₁ .grown .others 2 (λ e. omega arith))
+  f₂ =
+      r₂ o (f₁ .state) (f₁ .told) no-points
+      (record { points-listed = λ low. absurd (omega arith); methods-listed = λ is. absurd (omega arith) })
+
+  -- the points, when they are read
+  points-listed : Listed s p 2 (f₂ .state)
+  points-listed = f₂ .listed (omega arith) (none-listed s p₀ 2 (f₁ .state) (f₁ .grown .same) no-points)
+
+  no-methods : f₂ .state .own 3 ≡ []
+  no-methods = f₂ .grown .others 3 (λ e. omega arith) ∙ f₁ .grown .others 3 (λ e. omega arith)
 
   f₃ : Filled M s o 4 a₃ 3 (f₂ .state) m₀ m
-  f₃ = r₃ o (f₂ .state) (f₂ .told) (f₂ .grown .others 3 (λ e. omega arith) ∙ f₁ .grown .others 3 (λ e. omega arith))
+  f₃ = r₃ o (f₂ .state) (f₂ .told) no-methods (record { points-listed = λ low. points-listed; methods-listed = λ is. absurd (omega arith) })
 
-  -- the methods, when they are read
-  methods-listed : MethodsListed s m 4 (f₃ .state)
-  methods-listed is =
-      let alone = f₃ .grown .same ∙ f₂ .grown .same ∙ f₁ .grown .same in
-      listed M s o 4 a₃ (f₃ .state) (begins-here .0 .comes) (f₃ .told) alone m m₀ (in-front alone (f₃ .grown) refl) room
+  -- .. and the methods
+  still-points : Listed s p 2 (f₃ .state)
+  still-points = still-listed s p 2 (f₃ .grown) (λ e. omega arith) points-listed
+
+  methods-listed : Listed s m 3 (f₃ .state)
+  methods-listed = f₃ .listed (omega arith) (none-listed s m₀ 3 (f₂ .state) (f₂ .grown .same ∙ f₁ .grown .same) no-methods)
 
   f₄ : Filled M s o 5 a₄ 4 (f₃ .state) e₀ e
   f₄ =
       r₄ o (f₃ .state) (f₃ .told) (f₃ .grown .others 4 (λ e. omega arith) ∙ f₂ .grown .others 4 (λ e. omega arith) ∙ f₁ .grown .others 4 (λ e. omega arith))
-      methods-listed
+      (record { points-listed = λ low. still-points; methods-listed = λ is. methods-listed })
 
   -- the state past the steps
   abbrev u : Reading
@@ -143,13 +163,13 @@ module _ {M : Model} {s : List ℕ} {t₀ : Tally} {a₁ a₂ a₃ a₄ : Sectio
     pub certificates-le : t .certificates ≤ at
     certificates-le = omega (arith, counted 5, ap (λ (xs : List Counted). length xs) no-certificates)
 
-    no-method : eqb (length (u .own 3)) 0 ≡ eqb (t .methods) 0
-    no-method = ap (λ (n : ℕ). eqb n 0) (sym (counted 3))
+    first-sheet : FirstSheet s p u
+    first-sheet = record { none-before = nothing-before; points-listed = still-listed s p 2 (f₄ .grown) (λ e. omega arith) still-points }
 
     -- .. in the certificates, or with them
-    pub concludes : {r : Read} → ((o : ReadResult) (u : Reading) → Told M s o 5 (Done at t) u → u .own 5 ≡ [] → eqb (length (u .own 3)) 0 ≡ eqb (t .methods) 0 → Concluded s o u r)
+    pub concludes : {r : Read} → ((o : ReadResult) (u : Reading) → Told M s o 5 (Done at t) u → u .own 5 ≡ [] → FirstSheet s p u → Concluded s o u r)
         → Reads M s r c₀ c p₀ p m₀ m e₀ e
-    concludes {r} read-on = go r (read-on o u comes-there no-certificates no-method)
+    concludes {r} read-on = go r (read-on o u comes-there no-certificates first-sheet)
       where
         go : (r : Read) → Concluded s o u r → Reads M s r c₀ c p₀ p m₀ m e₀ e
         go (read.Whole x) w =

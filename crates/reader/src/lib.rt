@@ -38,16 +38,25 @@ fn read_with(
     }
     let first = read_conditions(s, limits, nothing_counted(), conditions);
     let none: [u32; 0] = [];
-    let second = read_alone(s, limits, POINTS, limits.points, first, &none, points);
-    let third = read_alone(s, limits, METHODS, 64, second, &none, methods);
-    let fourth = read_alone(s, limits, STEPS, 512, third, methods, steps);
+    let second = read_alone(
+        s,
+        limits,
+        POINTS,
+        limits.points,
+        first,
+        &none,
+        &none,
+        points,
+    );
+    let third = read_alone(s, limits, METHODS, 64, second, points, &none, methods);
+    let fourth = read_alone(s, limits, STEPS, 512, third, points, methods, steps);
     match fourth {
         Section::Refused(x) => Read::Refused(x),
-        Section::Done { at, tally } => read_certificates(s, limits, at, tally),
+        Section::Done { at, tally } => read_certificates(s, limits, at, tally, points),
     }
 }
 
-// The sheet, as an instrument takes it: whole, or the first refusal of 1 to 9 and 18 to 20. Each table ends with the offsets of what was read in its
+// The sheet, as an instrument takes it: whole, or the first refusal of 1 to 9, 18 to 20, 24 and 25. Each table ends with the offsets of what was read in its
 // front, also of a sheet that is refused. The table of points has room for the instrument's.
 pub fn read_sheet(
     instrument: Instrument,

@@ -1,55 +1,47 @@
 -- Points, methods and steps: records that stand alone, each counted and its offset stored. One law for the three sections.
-use mathlib.Core.Path.{_≡_, refl, sym, ap, _∙_, subst}
+use mathlib.Core.Path.{_≡_, refl, sym, ap, ap₂, _∙_, subst}
 use mathlib.Core.Bool.{Bool, true, false, not, _&&_}
-use mathlib.Core.List.{List, [], _++_, map}
+use mathlib.Core.List.{List, [], _++_}
 use Prim.Native.Nat.{ℕ, zero, suc, _+_, _≤_, _<_}
-use native.Mathlib.Omega.{arith}
-use lib.ListN.{length, length-append, getElem?, set}
+use native.Mathlib.Omega.{arith, by-contra}
+use lib.ListN.{length, length-append, set}
 use lib.Dec.{T, eqb, eqb·suc-zero, leb}
-use borrow.Author.Tests.{ne-eqb, eq-eqb}
+use borrow.Author.Tests.{ne-eqb, eq-eqb, not-true, not-false}
 use Rattle.sheet.specs.Model.{Model}
-use Rattle.sheet.specs.Kind.{Role, symbol, a-pair, counts, edition, methods, steps, kindOf, sectionOf}
+use Rattle.sheet.specs.Kind.{Role, symbol, a-pair, counts, edition, kindOf, sectionOf}
 use Rattle.sheet.specs.Record.{byteAt, recordAt}
-use Rattle.sheet.specs.Reading.{Opened, Counted, Reading, tally, startOf, startsOf, wrongItems, full, overLimit, inCondition, allExist, twoOutcomesIn, pastAt, ReadResult}
-use Rattle.sheet_laws.proofs.Order.{is-4, is-19, is-20, is-5, is-6, all-named, is-9, is-18, twenty, six, seven, nine, eighteen, takes}
+use Rattle.sheet.specs.Reading.{Opened, Counted, Reading, tally, startOf, startsOf, wrongItems, full, overLimit, inCondition, allExist, refusalOf, pastAt, ReadResult}
+use Rattle.sheet_laws.proofs.Order.{is-4, is-19, is-20, is-5, is-6, all-named, is-9, is-18, is-24, twenty, six, seven, nine, eighteen, twenty-four, takes}
 use Rattle.format.specs.declared.Refusal.{Refusal}
-use Rattle.format.specs.declared.Refusal.the-variants.{WrongSection, StopInOldSheet, OverLimit, UnknownName, NoFirstBody, WrongOutcomes}
-use Rattle.kinds.specs.Kinds.{primitiveKind, twoOutcomeKind}
+use Rattle.format.specs.declared.Refusal.the-variants.{WrongSection, StopInOldSheet, OverLimit}
+use Rattle.kinds.specs.Kinds.{primitiveKind}
 use Rattle.kinds.proofs.Table.{Suits, suits, primitive-section}
-use Rattle.format.proofs.Laws.{Stood, Refuses}
+use Rattle.format.proofs.Laws.{cond-by, Stood, Refuses}
 use Rattle.instrument.specs.declared.Limits.{Limits}
 use Rattle.instrument.specs.Model.{modelWith}
 use Rattle.tally.specs.declared.Tally.{Tally}
 use Rattle.tally.specs.Tally.{countOf, tallyAfter}
 use Rattle.refusals.specs.Editions.{stopFits}
-use Rattle.names.specs.Outcomes.{kindListed, wrongOutcomesAt}
+use Rattle.owners.specs.Owners.{ownersFit}
+use Rattle.names.specs.declared.judge.Judged.{Judged}
+use Rattle.names.specs.declared.judge.Judged.the-variants.{Fits}
+use Rattle.names.specs.declared.judge.Judged.the-variants as judged
+use Rattle.names.specs.Outcomes.{wrongOutcomesAt}
+use Rattle.names.specs.Judge.{judgedAt}
 use Rattle.sections.specs.declared.Section.{Section}
 use Rattle.sections.specs.declared.Section.the-variants.{Done, Refused}
-use Rattle.sections.specs.Sections.{Counts, Between, Told, overwrittenFrom, Extended, Filled, MethodsListed, Alone}
+use Rattle.sections.specs.Sections.{Counts, Between, Told, overwrittenFrom, Extended, Filled, NamedListed, Alone}
 use Rattle.sections.proofs.Comes.{refuses, taken-on}
 use Rattle.sections.proofs.Overwritten.{none-written}
 use Rattle.sections.proofs.Counted.{closed, counts-more, grown-more}
-use Rattle.sections.proofs.Tests.{and-left, and-right, section-is, not-3, early, in-order, no-mark, stop-is, names-are, primitive-is}
+use Rattle.sections.proofs.Listed.{listed-more, still-listed}
 use Rattle.sections.proofs.Outcomes.{outcomes-are}
+use Rattle.sections.proofs.Owners.{owners-are}
+use Rattle.sections.proofs.Tests.{and-left, and-right, section-is, not-3, early, in-order, no-mark, stop-is, names-are, primitive-is}
 
 and-true : (b : Bool) → b ≡ (b && true)
 and-true true = refl
 and-true false = refl
-
-not-not : (b : Bool) → not (not b) ≡ b
-not-not true = refl
-not-not false = refl
-
--- the test for a first method that is a primitive, by what its parts are
-pub first-test : {a b n m : ℕ} {p q both : Bool} → both ≡ (eqb n m && p) → p ≡ q → n ≡ a → m ≡ b → (eqb a b && q) ≡ both
-first-test {a} {n = n} {m} {q = q} e x y z = sym (e ∙ ap (λ c. eqb n m && c) x ∙ ap (λ c. eqb c m && q) y ∙ ap (λ c. eqb a c && q) z)
-
--- .. and the test of 18, which the code turns round
-pub wrong-if : {fit wrong : Bool} → fit ≡ not wrong → not fit ≡ true → wrong ≡ true
-wrong-if {wrong = wrong} is e = sym (not-not wrong) ∙ sym (ap not is) ∙ e
-
-pub fit-if : {fit wrong : Bool} → fit ≡ not wrong → not fit ≡ false → wrong ≡ false
-fit-if {wrong = wrong} is e = sym (not-not wrong) ∙ sym (ap not is) ∙ e
 
 -- the kinds of these sections count, each by itself
 stands-alone : (k : ℕ) → 2 ≤ sectionOf k → sectionOf k ≤ 4 → kindOf k .role ≡ counts
@@ -76,7 +68,12 @@ begin {k} {r} table e =
 pub passes : {M : Model} {s : List ℕ} {o : ReadResult} {k next : ℕ} {a : Section} {x : Refusal} {r : Reading} {table : List ℕ} → a ≡ Refused x → Told M s o k a r → r .own k ≡ []
     → Filled M s o next a k r table table
 passes {M} {s} {o} {k} {next} {r = r} {table} is told none =
-    record { state = r; told = subst (λ (a : Section). Told M s o next a r) (sym is) (subst (λ (a : Section). Told M s o k a r) is told); grown = begin table none }
+    record {
+      state = r;
+      told = subst (λ (a : Section). Told M s o next a r) (sym is) (subst (λ (a : Section). Told M s o k a r) is told);
+      grown = begin table none;
+      listed = λ low h. h;
+    }
 
 -- none of this sheet's was counted, if the count is the one at the beginning
 none-yet : (k : ℕ) (r u : Reading) (t₀ t : Tally) → u .before ≡ r .before → r .own k ≡ [] → Counts r t₀ → Counts u t
@@ -92,21 +89,6 @@ none-yet k r u t₀ t same none h₀ h = go (length (u .own k)) counted
     go : (n : ℕ) → countOf t k ≡ length (r .before k) + n → eqb n 0 ≡ eqb (countOf t k) (countOf t₀ k)
     go zero e = sym (eq-eqb (countOf t k) (countOf t₀ k) (omega (arith, at-first)))
     go (suc n) e = eqb·suc-zero n ∙ sym (ne-eqb (countOf t k) (countOf t₀ k) (λ (same : countOf t k ≡ countOf t₀ k). omega (arith, at-first)))
-
--- the methods of a state, and that a table leads to their kinds
-abbrev methodsIn : Reading → List Counted
-methodsIn r = r .before methods ++ r .own methods
-
-abbrev Lead : List ℕ → List ℕ → List Counted → Type 0
-Lead s table cs = (m : ℕ) → m < length cs → twoOutcomesIn (getElem? (map (λ (c : Counted). c .last) cs) m) ≡ twoOutcomeKind (kindListed s table m)
-
--- .. which steps do not change
-still-listed : (s table : List ℕ) {k : ℕ} {r u : Reading} {before after : List ℕ} → Extended k r u before after → MethodsListed s table k r → k ≡ steps
-    → Lead s table (methodsIn u)
-still-listed s table {k} {r} {u} g listed e =
-    let before = ap (λ (before : ℕ → List Counted). before 3 ++ u .own 3) (g .same) in
-    let own = ap (λ (own : List Counted). r .before 3 ++ own) (g .others 3 (λ f. omega arith)) in
-    subst (Lead s table) (sym (before ∙ own)) (listed e)
 
 module _ {l : Limits} {s : List ℕ} {o : ReadResult} {k at limit : ℕ} {t : Tally} {r : Reading} {table₀ table room : List ℕ} (a : Alone l k limit room)
     (h : Filled (modelWith l) s o k (Done at t) k r table₀ table) where
@@ -126,11 +108,12 @@ module _ {l : Limits} {s : List ℕ} {o : ReadResult} {k at limit : ℕ} {t : Ta
         state = u;
         told = (record { comes = b .comes; section = omega (arith, b .section); closed = b .closed; begun = λ inside low. absurd (omega arith) }, h .told .1);
         grown = h .grown;
+        listed = h .listed;
       }
 
   module _ (before : at < length s) where
     ends : (x : Refusal) → Refuses M s at u x → Filled M s o (suc k) (Refused x) k r table₀ table
-    ends x e = record { state = u; told = refuses (b .comes) before e; grown = h .grown }
+    ends x e = record { state = u; told = refuses (b .comes) before e; grown = h .grown; listed = h .listed }
 
     -- 2 and 3
     pub no-record : (x : Refusal) → Refuses M s at u x → Filled M s o (suc k) (Refused x) k r table₀ table
@@ -150,6 +133,7 @@ module _ {l : Limits} {s : List ℕ} {o : ReadResult} {k at limit : ℕ} {t : Ta
               h .told .1,
             );
             grown = h .grown;
+            listed = h .listed;
           }
 
       -- a record of section k
@@ -190,62 +174,89 @@ module _ {l : Limits} {s : List ℕ} {o : ReadResult} {k at limit : ℕ} {t : Ta
           pub over-limit : leb limit (countOf t k) ≡ true → Filled M s o (suc k) (Refused (OverLimit at)) k r table₀ table
           over-limit e = ends (OverLimit at) (six M s at u (w .not-2) (not-3 w u) not-4 not-19 not-20 not-5 (limit-is ∙ e), refl)
 
-          module _ (within : leb limit (countOf t k) ≡ false) where
-            -- 7
-            pub unnamed : allExist (l .events) (countOf t) (kindOf kind .fields) (recordAt s at .values) ≡ false
-                → Filled M s o (suc k) (Refused (UnknownName at)) k r table₀ table
-            unnamed e =
-                ends (UnknownName at) (seven M s at u (w .not-2) (not-3 w u) not-4 not-19 not-20 not-5 (limit-is ∙ within) (names-are w u (h .told .1) ∙ e), refl)
+          -- there is room; nothing of the section was counted in this sheet where it began, and what its records name is listed
+          module _ (within : leb limit (countOf t k) ≡ false) {t₀ : Tally} (counts₀ : Counts r t₀) (none : r .own k ≡ []) (ps ms : List ℕ)
+              (named : NamedListed s ps ms k r) where
+            under : is-6 M s at u ≡ false
+            under = limit-is ∙ within
 
-            module _ (names : allExist (l .events) (countOf t) (kindOf kind .fields) (recordAt s at .values) ≡ true) {t₀ : Tally} (counts₀ : Counts r t₀) (none : r .own k ≡ []) where
-              named : all-named M s at u ≡ true
-              named = names-are w u (h .told .1) ∙ names
+            first-is : is-9 M s at u ≡ (eqb (countOf t k) (countOf t₀ k) && primitiveKind kind)
+            first-is =
+                ap (λ (b : Bool). b && eqb (length (u .own 3)) 0) (primitive-is w u) ∙ go (primitiveKind kind) refl
+              where
+                go : (b : Bool) → primitiveKind kind ≡ b → (b && eqb (length (u .own 3)) 0) ≡ (eqb (countOf t k) (countOf t₀ k) && b)
+                go true e =
+                    let three : k ≡ 3 = sym same ∙ primitive-section kind e in
+                    ap (λ (j : ℕ). eqb (length (u .own j)) 0) (sym three) ∙ none-yet k r u t₀ t (h .grown .same) none counts₀ (h .told .1)
+                    ∙ and-true (eqb (countOf t k) (countOf t₀ k))
+                go false e = sym (and-right (eqb (countOf t k) (countOf t₀ k)) false refl)
 
-              first-is : is-9 M s at u ≡ (eqb (countOf t k) (countOf t₀ k) && primitiveKind kind)
-              first-is =
-                  ap (λ (b : Bool). b && eqb (length (u .own 3)) 0) (primitive-is w u) ∙ go (primitiveKind kind) refl
+            module _ (names : all-named M s at u ≡ true) where
+              outcomes-is : is-18 M s at u ≡ wrongOutcomesAt s at kind ms
+              outcomes-is =
+                  outcomes-are (l .events) s at u (subst T (sym names) tt) ms
+                  (λ e. still-listed s ms 3 (h .grown) (λ f. omega (arith, here)) (named .methods-listed (sym here ∙ e))) (w .kind)
+
+              owners-is : is-24 M s at u ≡ not (ownersFit s at kind (t .methods) ps)
+              owners-is =
+                  owners-are (l .events) s ps u at (w .kind) (h .told .1 3) (subst T (sym names) tt)
+                  (λ ne. still-listed s ps 2 (h .grown) (λ e. ne (here ∙ sym e)) (named .points-listed (above (λ e. ne (here ∙ e)))))
                 where
-                  go : (b : Bool) → primitiveKind kind ≡ b → (b && eqb (length (u .own 3)) 0) ≡ (eqb (countOf t k) (countOf t₀ k) && b)
-                  go true e =
-                      let three : k ≡ 3 = sym same ∙ primitive-section kind e in
-                      ap (λ (j : ℕ). eqb (length (u .own j)) 0) (sym three) ∙ none-yet k r u t₀ t (h .grown .same) none counts₀ (h .told .1)
-                      ∙ and-true (eqb (countOf t k) (countOf t₀ k))
-                  go false e = sym (and-right (eqb (countOf t k) (countOf t₀ k)) false refl)
+                  above : (k ≡ 2 → ⊥) → 2 < k
+                  above ne = by-contra 3 k (λ g. ne (omega (arith, a .low)))
 
-              -- 9
-              pub primitive-first : (eqb (countOf t k) (countOf t₀ k) && primitiveKind kind) ≡ true → Filled M s o (suc k) (Refused (NoFirstBody at)) k r table₀ table
-              primitive-first e =
-                  ends (NoFirstBody at) (nine M s at u (w .not-2) (not-3 w u) not-4 not-19 not-20 not-5 (limit-is ∙ within) named (first-is ∙ e), refl)
+            -- what the code's judgement says of the record
+            abbrev Judges : Judged → Type 0
+            Judges Fits = refusalOf M s at u ≡ 0
+            Judges (judged.Refused x) = Refuses M s at u x
 
-              module _ (first : (eqb (countOf t k) (countOf t₀ k) && primitiveKind kind) ≡ false) (ms : List ℕ) (listed : MethodsListed s ms k r) where
-                outcomes-is : is-18 M s at u ≡ wrongOutcomesAt s at kind ms
-                outcomes-is =
-                    outcomes-are (l .events) s at u (subst T (sym named) tt) ms (λ e. still-listed s ms (h .grown) listed (sym here ∙ e)) (w .kind)
+            -- 7, 9, 18 and 24
+            judges : Judges (judgedAt (l .events) s at kind (eqb (countOf t k) (countOf t₀ k)) t ps ms)
+            judges =
+                let exist = allExist (l .events) (countOf t) (kindOf kind .fields) (recordAt s at .values) in
+                cond-by Judges (not exist)
+                (λ e. (seven M s at u (w .not-2) (not-3 w u) not-4 not-19 not-20 not-5 under (names-are w u (h .told .1) ∙ not-true exist e), refl))
+                (λ e. let names : all-named M s at u ≡ true = names-are w u (h .told .1) ∙ not-false exist e in
+                cond-by Judges (eqb (countOf t k) (countOf t₀ k) && primitiveKind kind)
+                (λ f. (nine M s at u (w .not-2) (not-3 w u) not-4 not-19 not-20 not-5 under names (first-is ∙ f), refl))
+                (λ f. cond-by Judges (wrongOutcomesAt s at kind ms)
+                (λ g. (eighteen M s at u (w .not-2) (not-3 w u) not-4 not-19 not-20 not-5 under names (first-is ∙ f) (outcomes-is names ∙ g), refl))
+                (λ g. cond-by Judges (not (ownersFit s at kind (t .methods) ps))
+                (λ i. (
+                  twenty-four M s at u (w .not-2) (not-3 w u) not-4 not-19 not-20 not-5 under names (first-is ∙ f) (outcomes-is names ∙ g)
+                      (owners-is names ∙ i),
+                  refl,
+                ))
+                (λ i. takes M s at u (w .not-2) (not-3 w u) not-4 not-19 not-20 not-5 under names (first-is ∙ f) (outcomes-is names ∙ g)
+                (owners-is names ∙ i)))))
 
-                -- 18
-                pub wrong-outcomes : wrongOutcomesAt s at kind ms ≡ true → Filled M s o (suc k) (Refused (WrongOutcomes at)) k r table₀ table
-                wrong-outcomes e =
-                    ends (WrongOutcomes at)
-                    (eighteen M s at u (w .not-2) (not-3 w u) not-4 not-19 not-20 not-5 (limit-is ∙ within) named (first-is ∙ first) (outcomes-is ∙ e), refl)
+            module _ {n n₀ : ℕ} {j : Judged} (n-is : n ≡ countOf t k) (n₀-is : n₀ ≡ countOf t₀ k)
+                (is : j ≡ judgedAt (l .events) s at kind (eqb n n₀) t ps ms) where
+              by-code : Judges j
+              by-code = subst Judges (sym (is ∙ ap₂ (λ (n n₀ : ℕ). judgedAt (l .events) s at kind (eqb n n₀) t ps ms) n-is n₀-is)) judges
 
-                -- the record is taken
-                pub again : {n : ℕ} {t′ : Tally} → wrongOutcomesAt s at kind ms ≡ false → n ≡ countOf t k → t′ ≡ tallyAfter t k
-                    → Filled M s o k (Done q t′) k r table₀ (set table n at)
-                again {n} {t′} fit n-is after =
-                    let taken = takes M s at u (w .not-2) (not-3 w u) not-4 not-19 not-20 not-5 (limit-is ∙ within) named (first-is ∙ first) (outcomes-is ∙ fit) in
-                    let t-is : Counts (pastAt s at u) t′ = subst (Counts (pastAt s at u)) (sym after) (counts-more s at u role k here (omega (arith, a .low)) (omega (arith, a .high)) (h .told .1)) in
-                    let here-starts : startOf (u .opened) at ≡ at = ap (λ (o : Opened). startOf o at) (b .closed) in
-                    record {
-                      state = pastAt s at u;
-                      told = (
-                        record {
-                          comes = taken-on (b .comes) before w taken;
-                          section = omega (arith, here);
-                          closed = closed s at u role k here;
-                          begun = λ inside low. absurd (omega (arith, here));
-                        },
-                        t-is,
-                      );
-                      grown =
-                          subst (λ (i : ℕ). Extended k r (pastAt s at u) table₀ (set table n i)) here-starts (grown-more s at u role k here (h .told .1) n-is (h .grown));
-                    }
+              pub misnamed : {x : Refusal} → j ≡ judged.Refused x → Filled M s o (suc k) (Refused x) k r table₀ table
+              misnamed {x} e = ends x (subst Judges e by-code)
+
+              -- the record is taken
+              pub again : {t′ : Tally} → j ≡ Fits → n < length table → t′ ≡ tallyAfter t k → Filled M s o k (Done q t′) k r table₀ (set table n at)
+              again {t′} e free after =
+                  let t-is : Counts (pastAt s at u) t′ = subst (Counts (pastAt s at u)) (sym after)
+                  (counts-more s at u role k here (omega (arith, a .low)) (omega (arith, a .high)) (h .told .1)) in
+                  let here-starts : startOf (u .opened) at ≡ at = ap (λ (o : Opened). startOf o at) (b .closed) in
+                  record {
+                    state = pastAt s at u;
+                    told = (
+                      record {
+                        comes = taken-on (b .comes) before w (subst Judges e by-code);
+                        section = omega (arith, here);
+                        closed = closed s at u role k here;
+                        begun = λ inside low. absurd (omega (arith, here));
+                      },
+                      t-is,
+                    );
+                    grown =
+                        subst (λ (i : ℕ). Extended k r (pastAt s at u) table₀ (set table n i)) here-starts
+                        (grown-more s at u role k here (h .told .1) n-is (h .grown));
+                    listed = λ low first. listed-more s at u role k here table (n-is ∙ sym (h .told .1 k)) free (h .listed low first);
+                  }

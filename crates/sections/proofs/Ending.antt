@@ -1,16 +1,18 @@
 -- The section of certificates, and the end of the sheet.
 use mathlib.Core.Path.{_≡_, refl, sym, ap, ap₂, _∙_, subst}
 use mathlib.Core.Bool.{Bool, true, false, cond}
+use mathlib.Core.Option.{Option, some}
+use mathlib.Core.Option as option
 use mathlib.Core.List.{List, [], _∷_, _++_}
 use Prim.Native.Nat.{ℕ, _≤_, _<_}
 use native.Mathlib.Omega.{arith}
-use lib.ListN.{length, getD}
+use lib.ListN.{length, getD, take}
 use lib.Dec.{T, eqb, ltb}
 use borrow.Author.Tests.{ne-eqb, eq-eqb, ltb-false}
 use Rattle.sheet.specs.Model.{Model}
 use Rattle.sheet.specs.Kind.{Role, symbol, a-pair, counts, edition, kindOf, sectionOf}
 use Rattle.sheet.specs.Record.{byteAt, recordAt}
-use Rattle.sheet.specs.Reading.{Opened, Counted, Reading, tally, startOf, startsOf, wrongItems, full, overLimit, refusalOf, openedPast, pastAt, ReadResult, whole, refusal}
+use Rattle.sheet.specs.Reading.{Opened, Counted, Reading, tally, startOf, startsOf, wrongItems, full, overLimit, refusalOf, openedPast, pastAt, ReadResult, refusal, ownersFrom, atEnd}
 use Rattle.sheet_laws.proofs.Order.{is-4, is-5, is-6, takes}
 use Rattle.format.specs.declared.Refusal.{Refusal}
 use Rattle.format.specs.declared.Refusal.the-variants.{WrongSection, Unfinished, NoFirstBody}
@@ -18,14 +20,18 @@ use Rattle.kinds.specs.Kinds.{countsOne}
 use Rattle.kinds.proofs.Table.{section-high, Suits, suits, names-nothing}
 use Rattle.format.proofs.Laws.{Stood, Refuses}
 use Rattle.tally.specs.declared.Tally.{Tally}
-use Rattle.tally.specs.Tally.{tallyAfter}
+use Rattle.tally.specs.Tally.{countOf, tallyAfter}
+use Rattle.owners.specs.Owners.{strayIn}
+use Rattle.sections.specs.declared.Contents.{Contents}
 use Rattle.sections.specs.declared.Section.the-variants.{Done}
 use Rattle.sections.specs.declared.Read.{Read}
-use Rattle.sections.specs.declared.Read.the-variants.{Whole, Refused}
-use Rattle.sections.specs.Sections.{Counts, Comes, Told, Answers, Concluded}
+use Rattle.sections.specs.declared.Read.the-variants.{Refused}
+use Rattle.sections.specs.Sections.{Counts, Comes, Told, Answers, wholeUnless, endOf, Concluded, FirstSheet}
 use Rattle.sections.proofs.Comes.{ended, refuses, taken-on}
 use Rattle.sections.proofs.Counted.{at-is, own-same, counts-same, closed, others, starts, counts-more}
-use Rattle.sections.proofs.Tests.{and-left, section-is, not-3, early, in-order, no-mark, no-stop, no-method, no-call}
+use Rattle.sections.proofs.Tests.{and-left, section-is, not-3, early, in-order, no-mark, no-stop, no-method, no-call, no-join}
+use Rattle.sections.proofs.Listed.{Leads}
+use Rattle.sections.proofs.Owners.{ownersTold, strays-are}
 
 -- what the loop keeps: whether a certificate is open, and that the first one starts where the section does
 pub record Ending (M : Model) (s : List ℕ) (o : ReadResult) (r : Reading) (from at : ℕ) (t : Tally) (inside : Bool) : Type 0 where
@@ -35,14 +41,14 @@ pub record Ending (M : Model) (s : List ℕ) (o : ReadResult) (r : Reading) (fro
   pub begun : at < length s → state .section < 5 → 5 ≤ sectionOf (byteAt s at)
   pub counts : Counts state t
   pub others : (j : ℕ) → (j ≡ 5 → ⊥) → state .own j ≡ r .own j
-  pub none-yet : eqb (length (state .own 3)) 0 ≡ eqb (t .methods) 0
+  pub same : state .before ≡ r .before
   pub no-condition : eqb (state .opened .section) 1 ≡ false
   pub is-inside : ltb 0 (state .opened .section) ≡ inside
   pub first : getD (startsOf (state .own 5)) 0 (startOf (state .opened) at) ≡ from
 
-pub begin : {M : Model} {s : List ℕ} {o : ReadResult} {r : Reading} {from : ℕ} {t : Tally} → Told M s o 5 (Done from t) r → r .own 5 ≡ [] → eqb (length (r .own 3)) 0 ≡ eqb (t .methods) 0
+pub begin : {M : Model} {s : List ℕ} {o : ReadResult} {r : Reading} {from : ℕ} {t : Tally} → Told M s o 5 (Done from t) r → r .own 5 ≡ []
     → Ending M s o r from from t false
-begin {r = r} {from} (b, counted) none none-yet =
+begin {r = r} {from} (b, counted) none =
     record {
       state = r;
       comes = b .comes;
@@ -50,7 +56,7 @@ begin {r = r} {from} (b, counted) none none-yet =
       begun = b .begun;
       counts = counted;
       others = λ j ne. refl;
-      none-yet = none-yet;
+      same = refl;
       no-condition = ap (λ (o : Opened). eqb (o .section) 1) (b .closed);
       is-inside = ap (λ (o : Opened). ltb 0 (o .section)) (b .closed);
       first =
@@ -107,7 +113,7 @@ module _ {M : Model} {s : List ℕ} {o : ReadResult} {r : Reading} {from at : �
             takes M s at u (w .not-2) (not-3 w u) not-4 (no-mark w u (λ e. omega (arith, ap sectionOf e, same))) (no-stop w u (λ e. omega (arith, ap sectionOf e, same)))
             (no-limit .0) (no-limit .1)
             (names-nothing (M .events) (tally u) (byteAt s at) (λ low high. omega (arith, here)) (recordAt s at .values)) (no-method w u (λ e. omega (arith, same)))
-            (no-call w u (λ e. omega (arith, same)))
+            (no-call w u (λ e. omega (arith, same))) (no-join w u (λ e. omega (arith, same)) (λ e. omega (arith, same)))
 
         beyond : Comes M s o q (pastAt s at u)
         beyond = taken-on (h .comes) before w taken
@@ -127,7 +133,7 @@ module _ {M : Model} {s : List ℕ} {o : ReadResult} {r : Reading} {from at : �
               begun = λ before low. absurd (omega (arith, here));
               counts = counts-same s at u goes-on (h .counts);
               others = λ j ne. ap (λ (own : ℕ → List Counted). own j) same-own ∙ h .others j ne;
-              none-yet = ap (λ (own : ℕ → List Counted). eqb (length (own 3)) 0) same-own ∙ h .none-yet;
+              same = h .same;
               no-condition = ap (λ (o : Opened). eqb (o .section) 1) opened-is;
               is-inside = ap (λ (o : Opened). ltb 0 (o .section)) opened-is;
               first =
@@ -157,8 +163,7 @@ module _ {M : Model} {s : List ℕ} {o : ReadResult} {r : Reading} {from at : �
               begun = λ before low. absurd (omega (arith, here));
               counts = subst (Counts (pastAt s at u)) (sym after) (counts-more s at u role 5 here (omega arith) (omega arith) (h .counts));
               others = λ j ne. others s at u role 5 here j ne ∙ h .others j ne;
-              none-yet =
-                  ap (λ (xs : List Counted). eqb (length xs) 0) (others s at u role 5 here 3 (λ e. omega arith)) ∙ h .none-yet ∙ ap (λ (t : Tally). eqb (t .methods) 0) (sym after);
+              same = h .same;
               no-condition = ap (λ (o : Opened). eqb (o .section) 1) closed-is;
               is-inside = ap (λ (o : Opened). ltb 0 (o .section)) closed-is;
               first =
@@ -174,39 +179,52 @@ module _ {M : Model} {s : List ℕ} {o : ReadResult} {r : Reading} {from at : �
 
   -- The end of the sheet ----------------------------------------------------------------------------------------------
 
-  module _ (over : length s ≤ at) where
-    concluded : (a : Read) → Answers s o a u → Concluded s o r a
-    concluded a answers = record { state = u; answers = answers; others = h .others }
+  module _ (over : length s ≤ at) {table : List ℕ} (sheet : FirstSheet s table r) where
+    none-before : u .before ≡ (λ k. [])
+    none-before = h .same ∙ sheet .none-before
 
-    at-end : (b c : Bool) → ltb 0 (u .opened .section) ≡ b → eqb (length (u .own 3)) 0 ≡ c → o ≡ cond b (refusal 8 (length s) u) (cond c (refusal 9 (length s) u) (whole u))
-    at-end b c e f =
-        ended (h .comes) over
-        ∙ ap₂ (λ (b c : Bool). cond b (refusal 8 (length s) u) (cond c (refusal 9 (length s) u) (whole u))) e f
+    counted : (k : ℕ) → countOf t k ≡ length (u .own k)
+    counted k = sym (h .counts k) ∙ ap (λ (before : ℕ → List Counted). length (before k ++ u .own k)) none-before
 
-    -- 8
-    pub unfinished : inside ≡ true → Concluded s o r (Refused (Unfinished (length s)))
-    unfinished e =
-        concluded (Refused (Unfinished (length s)))
-        (record { place = length s; placed = refl; result = at-end true (eqb (length (u .own 3)) 0) (h .is-inside ∙ e) refl })
+    -- 25 by the table
+    owners-told : ownersFrom u (u .own 2) ≡ ownersTold u (strayIn s (t .methods) (take (t .points) table))
+    owners-told =
+        let before = ap (λ (before : ℕ → List Counted). before 2 ++ r .own 2) (sheet .none-before) in
+        strays-are s u (u .own 2) table (subst (Leads s table) (before ∙ sym (h .others 2 (λ e. omega arith))) (sheet .points-listed))
+        ∙ ap₂ (λ (m n : ℕ). ownersTold u (strayIn s m (take n table))) (h .counts 3) (sym (counted 2))
 
-    module _ (out : inside ≡ false) where
-      -- 9
-      pub no-methods : t .methods ≡ 0 → Concluded s o r (Refused (NoFirstBody (length s)))
-      no-methods e =
-          concluded (Refused (NoFirstBody (length s)))
-          (record { place = length s; placed = refl; result = at-end false true (h .is-inside ∙ out) (h .none-yet ∙ eq-eqb (t .methods) 0 e) })
+    abbrev c : Contents
+    c = record { tally = t; certificates = from }
 
-      pub all-read : (t .methods ≡ 0 → ⊥) → Concluded s o r (Whole (record { tally = t; certificates = from }))
-      all-read e =
-          concluded (Whole (record { tally = t; certificates = from })) (
-            at-end false false (h .is-inside ∙ out) (h .none-yet ∙ ne-eqb (t .methods) 0 e),
-            h .counts,
-            sym (h .first) ∙ ap (getD (startsOf (u .own 5)) 0) (start-here ∙ at-length),
-          )
-        where
-          at-length : at ≡ length s
-          at-length = omega (arith, h .comes .inside)
+    -- 8, 9 and 25, or all is read
+    answered : (b d : Bool) (stray : Option ℕ) → ltb 0 (u .opened .section) ≡ b → eqb (length (u .own 3)) 0 ≡ d → ownersFrom u (u .own 2) ≡ ownersTold u stray
+        → Answers s o (cond b (Refused (Unfinished (length s))) (cond d (Refused (NoFirstBody (length s))) (wholeUnless c stray))) u
+    answered b d stray e f g = go b d stray e (ended (h .comes) over ∙ at-end)
+      where
+        at-end : atEnd s u ≡ cond b (refusal 8 (length s) u) (cond d (refusal 9 (length s) u) (ownersTold u stray))
+        at-end =
+            ap₂ (λ (b d : Bool). cond b (refusal 8 (length s) u) (cond d (refusal 9 (length s) u) (ownersFrom u (u .own 2)))) e f
+            ∙ ap (λ (x : ReadResult). cond b (refusal 8 (length s) u) (cond d (refusal 9 (length s) u) x)) g
 
-          start-here : startOf (u .opened) at ≡ at
-          start-here =
-              ap (λ (b : Bool). cond b at (u .opened .start)) (eq-eqb (u .opened .section) 0 (omega (arith, ltb-false 0 (u .opened .section) (h .is-inside ∙ out))))
+        at-length : at ≡ length s
+        at-length = omega (arith, h .comes .inside)
+
+        start-here : ltb 0 (u .opened .section) ≡ false → startOf (u .opened) at ≡ at
+        start-here out = ap (λ (b : Bool). cond b at (u .opened .start)) (eq-eqb (u .opened .section) 0 (omega (arith, ltb-false 0 (u .opened .section) out)))
+
+        go : (b d : Bool) (stray : Option ℕ) → ltb 0 (u .opened .section) ≡ b
+            → o ≡ cond b (refusal 8 (length s) u) (cond d (refusal 9 (length s) u) (ownersTold u stray))
+            → Answers s o (cond b (Refused (Unfinished (length s))) (cond d (Refused (NoFirstBody (length s))) (wholeUnless c stray))) u
+        go true d stray out is = record { place = length s; placed = refl; result = is }
+        go false true stray out is = record { place = length s; placed = refl; result = is }
+        go false false (some p) out is = record { place = p; placed = refl; result = is }
+        go false false option.none out is = (is, h .counts, sym (h .first) ∙ ap (getD (startsOf (u .own 5)) 0) (start-here out ∙ at-length))
+
+    pub concluded : {a : Read} → a ≡ endOf s inside c table → Concluded s o r a
+    concluded {a} is =
+        record { state = u; answers = subst (λ (a : Read). Answers s o a u) (sym is) answers; others = h .others }
+      where
+        answers : Answers s o (endOf s inside c table) u
+        answers =
+            answered inside (eqb (t .methods) 0) (strayIn s (t .methods) (take (t .points) table)) (h .is-inside) (ap (λ (n : ℕ). eqb n 0) (sym (counted 3)))
+            owners-told

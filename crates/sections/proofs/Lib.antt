@@ -1,7 +1,9 @@
 pub mod Overwritten
 pub mod Comes
 pub mod Counted
-pub mod Tests
+pub mod Listed
 pub mod Outcomes
+pub mod Owners
+pub mod Tests
 pub mod Alone
 pub mod Ending

@@ -1,25 +1,27 @@
--- 18 by the table of methods: where every name exists, and the table leads to the kinds of the methods, the code's test is the definition's.
+-- 18 by the table of methods: where every name exists, and the table leads to the records of the methods, the code's test is the definition's.
 use mathlib.Core.Path.{_≡_, refl, sym, ap, _∙_, subst}
-use mathlib.Core.Bool.{Bool, true, false, not, _&&_, _||_}
+use mathlib.Core.Bool.{Bool, true, false, not, cond, _&&_, _||_}
 use mathlib.Core.List.{List, [], _∷_}
-use Prim.Native.Nat.{ℕ, _+_, _<_}
+use Prim.Native.Nat.{ℕ, _+_}
 use native.Mathlib.Omega.{arith}
-use lib.ListN.{getD}
+use lib.ListN.{length, getD}
 use lib.Dec.{T, eqb, ltb, ltb→lt}
-use borrow.Author.Tests.{eqb-true}
+use borrow.Author.Tests.{eqb-true, lt-ltb}
 use Rattle.sheet.specs.Kind.{methods, steps, kindOf, sectionOf}
 use Rattle.sheet.specs.Record.{Record, byteAt, valuesAt, recordAt, value}
 use Rattle.sheet_laws.specs.AtOffset.{shortAt}
-use Rattle.sheet.specs.Reading.{Reading, tally, allExist, methodRecord, twoOutcomesIn, wrongOutcomes}
+use Rattle.sheet.specs.Reading.{Reading, tally, allExist, recordNamed, twoOutcomesIn, wrongOutcomes}
 use Rattle.sheet_laws.proofs.Fields.{shortsThen, names-alone}
 use Rattle.sheet_laws.proofs.Named.{FieldsExist, at-exists}
 use Rattle.sheet_laws.proofs.Outcomes.{never-wrong}
 use Rattle.kinds.specs.Kinds.{twoOutcomeKind}
+use Rattle.format.proofs.Laws.{kind-there}
 use Rattle.names.specs.Outcomes.{kindListed, wrongOutcomesAt}
+use Rattle.sections.specs.Sections.{Listed}
 
 module _ (events : ℕ) (s : List ℕ) (at : ℕ) (u : Reading) (names : T (allExist events (tally u) (kindOf (byteAt s at) .fields) (recordAt s at .values)))
     (table : List ℕ)
-    (listed : sectionOf (byteAt s at) ≡ steps → (m : ℕ) → m < tally u methods → twoOutcomesIn (methodRecord u m) ≡ twoOutcomeKind (kindListed s table m)) where
+    (listed : sectionOf (byteAt s at) ≡ steps → Listed s table methods u) where
   abbrev x : Record
   x = recordAt s at
 
@@ -35,12 +37,16 @@ module _ (events : ℕ) (s : List ℕ) (at : ℕ) (u : Reading) (names : T (allE
 
   -- whether the method m, which the record of a step names, has two outcomes
   two-outcomes : sectionOf (byteAt s at) ≡ steps → (m n : ℕ) → T (ltb m (tally u methods)) → m ≡ n
-      → twoOutcomesIn (methodRecord u m) ≡ twoOutcomeKind (kindListed s table n)
-  two-outcomes e m n named is = listed e m (ltb→lt _ _ named) ∙ ap (λ (m : ℕ). twoOutcomeKind (kindListed s table m)) is
+      → twoOutcomesIn (recordNamed u methods m) ≡ twoOutcomeKind (kindListed s table n)
+  two-outcomes e m n named is =
+      let (inside, there) = listed e m (ltb→lt _ _ named) in
+      ap twoOutcomesIn there
+      ∙ ap twoOutcomeKind (kind-there s (getD table m 0) ∙ sym (ap (λ (b : Bool). cond b (byteAt s (getD table m 0)) 0) (lt-ltb m (length table) inside)))
+      ∙ ap (λ (m : ℕ). twoOutcomeKind (kindListed s table m)) is
 
   -- the definition's test, by the kind
   abbrev wrong : ℕ → Bool
-  wrong k = (eqb k 11 && twoOutcomesIn (methodRecord u (value x 2))) || (eqb k 17 && not (twoOutcomesIn (methodRecord u (value x 3))))
+  wrong k = (eqb k 11 && twoOutcomesIn (recordNamed u methods (value x 2))) || (eqb k 17 && not (twoOutcomesIn (recordNamed u methods (value x 3))))
 
   wrong-11 : byteAt s at ≡ 11 → wrongOutcomes u x ≡ wrongOutcomesAt s at 11 table
   unfolding recordAt

@@ -1,8 +1,9 @@
 -- The tests of a record that stands where reading has come to: what each refusal asks, in the code's terms.
 use mathlib.Core.Path.{_≡_, refl, sym, ap, _∙_, subst}
 use mathlib.Core.Bool.{Bool, true, false, not, cond, _&&_, _||_}
+use mathlib.Core.Option.{Option}
 use mathlib.Core.List.{List}
-use Prim.Native.Nat.{ℕ, _≤_, _<_}
+use Prim.Native.Nat.{ℕ, _+_, _≤_, _<_}
 use native.Mathlib.Omega.{arith, by-contra}
 use lib.ListN.{length}
 use lib.Dec.{T, eqb, ltb}
@@ -10,8 +11,8 @@ use borrow.Author.Tests.{lt-ltb, le-ltb, ne-eqb}
 use Rattle.sheet.specs.Model.{Model}
 use Rattle.sheet.specs.Kind.{kindOf, sectionOf}
 use Rattle.sheet.specs.Record.{byteAt, recordAt, nextAt}
-use Rattle.sheet.specs.Reading.{Reading, tally, inCondition, isNew, allExist, isPrimitive}
-use Rattle.sheet_laws.proofs.Order.{is-3, is-4, is-19, is-20, all-named, is-9, is-18, four}
+use Rattle.sheet.specs.Reading.{Reading, tally, inCondition, isNew, allExist, isPrimitive, pointOwner, allAgree}
+use Rattle.sheet_laws.proofs.Order.{is-3, is-4, is-19, is-20, all-named, is-9, is-18, is-24, four}
 use Rattle.sheet_laws.proofs.Outcomes.{never-wrong}
 use Rattle.format.specs.declared.Refusal.the-variants.{WrongSection}
 use Rattle.kinds.specs.Kinds.{primitiveKind}
@@ -21,6 +22,7 @@ use Rattle.tally.specs.declared.Tally.{Tally}
 use Rattle.tally.specs.Tally.{countOf}
 use Rattle.refusals.specs.Editions.{stopFits}
 use Rattle.sections.specs.Sections.{Counts}
+use Rattle.sections.proofs.Owners.{none-joined}
 
 pub or-left : (a b : Bool) → a ≡ true → (a || b) ≡ true
 or-left true b e = refl
@@ -99,3 +101,10 @@ module _ {M : Model} {s : List ℕ} {at kind q : ℕ} (w : Stood M s at kind q) 
       where
         other : (k : ℕ) → sectionOf k ≡ 4 → byteAt s at ≡ k → ⊥
         other k step e = ne (sym section-is ∙ ap sectionOf e ∙ step)
+
+    -- not 24: no method and no step
+    pub no-join : (sectionOf kind ≡ 3 → ⊥) → (sectionOf kind ≡ 4 → ⊥) → is-24 M s at u ≡ false
+    unfolding recordAt
+    no-join no-method no-step =
+        ap (λ (owners : List (Option ℕ)). not (allAgree owners))
+        (none-joined s (at + 1) (tally u 3) (pointOwner u) (byteAt s at) (λ e. no-method (sym section-is ∙ e)) (λ e. no-step (sym section-is ∙ e)))

@@ -2,22 +2,25 @@
 -- with the code's values, or has ended. The result is o, whatever state reading started in.
 use Prim.Native.Nat.{ℕ, zero, suc, _+_, _≤_, _<_}
 use mathlib.Core.Path.{_≡_}
-use mathlib.Core.Option.{some}
+use mathlib.Core.Bool.{Bool, cond}
+use mathlib.Core.Option.{Option, none, some}
 use mathlib.Core.List.{List, [], _∷_}
-use lib.ListN.{length, getD}
-use lib.Dec.{leb}
+use lib.ListN.{length, getD, take}
+use lib.Dec.{eqb, leb}
 use Rattle.sheet.specs.Model.{Model}
 use Rattle.sheet.specs.Kind.{points, methods, steps, certificates, sectionOf}
-use Rattle.sheet.specs.Record.{byteAt}
-use Rattle.sheet.specs.Reading.{nothing, Reading, tally, startsOf, full, methodRecord, twoOutcomesIn, ReadResult, whole, refusal, readOn}
+use Rattle.sheet.specs.Record.{byteAt, recordAt}
+use Rattle.sheet.specs.Reading.{nothing, Reading, tally, startsOf, full, recordNamed, ReadResult, whole, refusal, readOn}
 use Rattle.format.specs.declared.Refusal.{Refusal}
-use Rattle.kinds.specs.Kinds.{lastKind, twoOutcomeKind}
+use Rattle.format.specs.declared.Refusal.the-variants.{Unfinished, NoFirstBody, UnknownOwner}
+use Rattle.kinds.specs.Kinds.{lastKind}
 use Rattle.format.specs.Refusal.{numberOf, placeOf}
 use Rattle.instrument.specs.declared.Limits.{Limits}
 use Rattle.instrument.specs.Model.{modelWith}
 use Rattle.tally.specs.declared.Tally.{Tally}
 use Rattle.tally.specs.Tally.{countOf}
-use Rattle.names.specs.Outcomes.{kindListed}
+use Rattle.owners.specs.Owners.{strayIn}
+use Rattle.sections.specs.declared.Contents.{Contents}
 use Rattle.sections.specs.declared.Section.{Section}
 use Rattle.sections.specs.declared.Section.the-variants.{Done, Refused}
 use Rattle.sections.specs.declared.Read.{Read}
@@ -75,16 +78,33 @@ pub record Extended (k : ℕ) (r u : Reading) (before after : List ℕ) : Type 0
   pub others : (j : ℕ) → (j ≡ k → ⊥) → u .own j ≡ r .own j
   pub table : after ≡ overwrittenFrom (length (u .before k)) (startsOf (u .own k)) before
 
--- what the reader of section k, which began in the state r, has told when section `next` comes next
+-- the table leads to the records of section k that were counted
+abbrev pub Listed : (s table : List ℕ) → ℕ → Reading → Type 0
+Listed s table k r = (n : ℕ) → n < tally r k → (n < length table) × (recordNamed r k n ≡ some (recordAt s (getD table n 0)))
+
+-- what the reader of section k, which began in the state r, has told when section `next` comes next; where each record counts by itself, the table leads to
+-- those that it has counted, too
 pub record Filled (M : Model) (s : List ℕ) (o : ReadResult) (next : ℕ) (a : Section) (k : ℕ) (r : Reading) (before after : List ℕ) : Type 0 where
   pub state : Reading
   pub told : Told M s o next a state
   pub grown : Extended k r state before after
+  pub listed : points ≤ k → Listed s before k r → Listed s after k state
 
 -- the answer is the result of reading, which ends in the state u
 abbrev pub Answers : List ℕ → ReadResult → Read → Reading → Type 0
 Answers s o (Whole c) u = (o ≡ whole u) × Counts u (c .tally) × (c .certificates ≡ getD (startsOf (u .own certificates)) 0 (length s))
 Answers s o (read.Refused x) u = Ends o u x
+
+-- the end of the sheet, as the code tests it: 8, 9 and 25, where the points stand at the offsets of a table
+abbrev pub wholeUnless : Contents → Option ℕ → Read
+wholeUnless c none = Whole c
+wholeUnless c (some at) = read.Refused (UnknownOwner at)
+
+abbrev pub endOf : List ℕ → (inside : Bool) → Contents → (table : List ℕ) → Read
+endOf s inside c table =
+    cond inside (read.Refused (Unfinished (length s)))
+    (cond (eqb (c .tally .methods) 0) (read.Refused (NoFirstBody (length s)))
+    (wholeUnless c (strayIn s (c .tally .methods) (take (c .tally .points) table))))
 
 -- what the reader of certificates, which began in the state r, tells: the result, and that only certificates were counted
 pub record Concluded (s : List ℕ) (o : ReadResult) (r : Reading) (a : Read) : Type 0 where
@@ -92,10 +112,15 @@ pub record Concluded (s : List ℕ) (o : ReadResult) (r : Reading) (a : Read) : 
   pub answers : Answers s o a state
   pub others : (j : ℕ) → (j ≡ certificates → ⊥) → state .own j ≡ r .own j
 
--- where section k is that of steps, which name methods: the table leads to the kinds of the methods that were counted
-abbrev pub MethodsListed : List ℕ → List ℕ → ℕ → Reading → Type 0
-MethodsListed s table k r =
-    k ≡ steps → (m : ℕ) → m < tally r methods → twoOutcomesIn (methodRecord r m) ≡ twoOutcomeKind (kindListed s table m)
+-- what the end of a sheet asks: nothing was counted before the sheet, and the table leads to its points
+pub record FirstSheet (s points-table : List ℕ) (r : Reading) : Type 0 where
+  pub none-before : r .before ≡ (λ k. [])
+  pub points-listed : Listed s points-table points r
+
+-- what the records of section k name is listed: those of methods and steps name points, those of steps methods
+pub record NamedListed (s points-table methods-table : List ℕ) (k : ℕ) (r : Reading) : Type 0 where
+  pub points-listed : points < k → Listed s points-table points r
+  pub methods-listed : k ≡ steps → Listed s methods-table methods r
 
 -- section k, of points, methods or steps: it has `limit` at most, and the table has room for them
 pub record Alone (l : Limits) (k limit : ℕ) (table : List ℕ) : Type 0 where

@@ -3,13 +3,11 @@ ghost use mathlib.Core.Path.{_≡_};
 ghost use mathlib.Core.List.{[]};
 ghost use Prim.Native.Nat.{suc, _≤_};
 ghost use lib.ListN.{length};
-ghost use lib.Dec.{eqb};
-ghost use Rattle.sheet.specs.Kind.{methods, certificates};
+ghost use Rattle.sheet.specs.Kind.{certificates};
 ghost use Rattle.sheet.specs.Reading.{Reading, ReadResult};
 ghost use Rattle.kinds.specs.Kinds.{lastKind};
 ghost use Rattle.instrument.specs.Model.{modelWith};
-ghost use Rattle.sections.specs.Sections.{addressable, Told, Filled, MethodsListed, Alone, Concluded};
-use bits::both;
+ghost use Rattle.sections.specs.Sections.{addressable, Told, Filled, FirstSheet, NamedListed, Alone, endOf, Concluded};
 use format::Found;
 use format::Refusal;
 use format::record_at;
@@ -17,10 +15,11 @@ use format::refusal_at;
 use instrument::Limits;
 use kinds::CERTIFICATES;
 use kinds::counts;
-use kinds::is_primitive;
 use kinds::section_of;
-use names::names_exist;
-use names::outcomes::outcomes_fit;
+use names::judge::Judged;
+use names::judge::judge;
+use owners::Stray;
+use owners::first_stray_owner;
 use refusals::editions::stop_fits;
 use tally::Tally;
 use tally::past;
@@ -45,19 +44,21 @@ pub enum Section {
 // The section readers. Each starts where the section before ended, and tells where its own ends, or the refusal that ends reading (`Told`),
 // whatever was counted before the sheet. A table holds each offset in four bytes.
 
-// The points, the methods or the steps, at most `limit` of them. Each record counts by itself. Steps name methods, whose offsets are in `methods`.
+// The points, the methods or the steps, at most `limit` of them. Each record counts by itself. Methods and steps name points, and steps name methods, whose
+// offsets are in `points` and `methods`.
 pub fn read_alone(
     s: &[u8],
     limits: Limits,
     section: u8,
     limit: usize,
     reached: Section,
+    points: &[u32],
     methods: &[u32],
     table: &mut [u32],
 ) -> Section
     requires { ⌜ Alone limits section limit (now table) × (length (now s) ≤ addressable) ⌝ }
     ensures { λ r. ⌜ ((o : ReadResult) (u : Reading) → Told (modelWith limits) (now (s .entry)) o section reached u → u .own section ≡ []
-        → MethodsListed (now (s .entry)) (now (methods .entry)) section u
+        → NamedListed (now (s .entry)) (now (points .entry)) (now (methods .entry)) section u
         → Filled (modelWith limits) (now (s .entry)) o (suc section) r section u (now (table .entry)) (now (table .exit))) ⌝ }
 {
     let Section::Done { at, tally } = reached else {
@@ -85,14 +86,10 @@ pub fn read_alone(
         if limit <= n {
             return Section::Refused(Refusal::OverLimit(at));
         }
-        if !names_exist(s, at, kind, tally, limits.events) {
-            return Section::Refused(Refusal::UnknownName(at));
-        }
-        if both(n == first, is_primitive(kind)) {
-            return Section::Refused(Refusal::NoFirstBody(at));
-        }
-        if !outcomes_fit(s, at, kind, methods) {
-            return Section::Refused(Refusal::WrongOutcomes(at));
+        let events = limits.events;
+        let judged = judge(s, at, kind, n == first, tally, events, points, methods);
+        if let Judged::Refused(x) = judged {
+            return Section::Refused(x);
         }
         table[n] = at as u32;
         tally = past(tally, section);
@@ -101,11 +98,34 @@ pub fn read_alone(
     Section::Done { at, tally }
 }
 
-// The certificates, and the end of the sheet. Certificates have no table.
-pub fn read_certificates(s: &[u8], limits: Limits, from: usize, given: Tally) -> Read
+// The end of the sheet: refusals 8, 9 and 25, or the sheet is read whole. The points stand at the offsets of a table.
+fn at_end(s: &[u8], inside: bool, contents: Contents, points: &[u32]) -> Read
+    ensures { λ r. ⌜ r ≡ endOf (now (s .entry)) inside contents (now (points .entry)) ⌝ }
+{
+    if inside {
+        return Read::Refused(Refusal::Unfinished(s.len()));
+    }
+    if contents.tally.methods == 0 {
+        return Read::Refused(Refusal::NoFirstBody(s.len()));
+    }
+    let stray = first_stray_owner(s, points, contents.tally.points, contents.tally.methods);
+    match stray {
+        Stray::At(at) => Read::Refused(Refusal::UnknownOwner(at)),
+        Stray::Nowhere => Read::Whole(contents),
+    }
+}
+
+// The certificates, and the end of the sheet. Certificates have no table; the points stand at the offsets of one.
+pub fn read_certificates(
+    s: &[u8],
+    limits: Limits,
+    from: usize,
+    given: Tally,
+    points: &[u32],
+) -> Read
     requires { ⌜ (limits .kinds ≤ lastKind) × (given .certificates ≤ from) ⌝ }
     ensures { λ r. ⌜ ((o : ReadResult) (u : Reading) → Told (modelWith limits) (now (s .entry)) o certificates (Section.Done from given) u → u .own certificates ≡ []
-        → eqb (length (u .own methods)) 0 ≡ eqb (given .methods) 0 → Concluded (now (s .entry)) o u r) ⌝ }
+        → FirstSheet (now (s .entry)) (now (points .entry)) u → Concluded (now (s .entry)) o u r) ⌝ }
 {
     let mut at = from;
     let mut tally = given;
@@ -125,14 +145,9 @@ pub fn read_certificates(s: &[u8], limits: Limits, from: usize, given: Tally) ->
         }
         at = next;
     }
-    if inside {
-        return Read::Refused(Refusal::Unfinished(s.len()));
-    }
-    if tally.methods == 0 {
-        return Read::Refused(Refusal::NoFirstBody(s.len()));
-    }
-    Read::Whole(Contents {
+    let contents = Contents {
         tally,
         certificates: from,
-    })
+    };
+    at_end(s, inside, contents, points)
 }

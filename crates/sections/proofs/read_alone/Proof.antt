@@ -1,42 +1,40 @@
 -- The loop keeps `Filled`, with section k still to come. Each answer is the law of the test that led to it.
 use mathlib.Core.Path.{_≡_, refl, sym, _∙_, subst}
-use mathlib.Core.Bool.{true, false, _&&_}
+use mathlib.Core.Bool.{true, false}
 use mathlib.Core.List.{[]}
-use Prim.Native.Nat.{_-_}
+use Prim.Native.Nat.{_-_, _<_}
 use native.Mathlib.Omega.{arith}
 use lib.ListN.{length, length-set}
-use lib.Dec.{eqb, leb}
+use lib.Dec.{leb}
 use borrow.Author.Tests.{le-leb, lt-leb, not-true, not-false}
 use borrow.Author.Needs.{needs}
-use Rattle.sheet.specs.Kind.{kindOf, sectionOf}
-use Rattle.sheet.specs.Record.{recordAt}
-use Rattle.sheet.specs.Reading.{Reading, allExist, ReadResult}
+use Rattle.sheet.specs.Kind.{sectionOf}
+use Rattle.sheet.specs.Reading.{Reading, ReadResult}
 use Rattle.sheet_laws.proofs.Take.{next-lt}
 use Rattle.format.specs.declared.Refusal.{Refusal}
-use Rattle.kinds.specs.Kinds.{primitiveKind}
 use Rattle.format.proofs.Laws.{Stood, stood, Refuses, refused}
 use Rattle.instrument.specs.Model.{modelWith}
 use Rattle.refusals.specs.Editions.{stopFits}
 use Rattle.tally.specs.Tally.{countOf}
 use Rattle.sections.specs.declared.Section.{Section}
 use Rattle.sections.specs.declared.Section.the-variants.{Done}
-use Rattle.sections.specs.Sections.{Told, Filled, MethodsListed}
-use Rattle.sections.proofs.Alone.{begin, passes, no-more, no-record, too-early, later-section, old-stop, over-limit, unnamed, first-test, primitive-first, wrong-if, fit-if, wrong-outcomes, again}
+use Rattle.sections.specs.Sections.{Told, Filled, NamedListed}
+use Rattle.sections.proofs.Alone.{begin, passes, no-more, no-record, too-early, later-section, old-stop, over-limit, misnamed, again}
 use Rattle.sections.proofs.read_alone.Statement.{statement}
 use Rattle.sections.proofs.read_alone.Tie as tie
 
 abbrev Inv-loop : tie.InvT-loop
-Inv-loop s limits section limit methods table₀ from first at₀ tally₀ table at tally = (length table ≡ length table₀)
-    × ((o : ReadResult) (u : Reading) → Told (modelWith limits) s o section (Done at₀ tally₀) u → u .own section ≡ [] → MethodsListed s methods section u
+Inv-loop s limits section limit points methods table₀ from first at₀ tally₀ table at tally = (length table ≡ length table₀)
+    × ((o : ReadResult) (u : Reading) → Told (modelWith limits) s o section (Done at₀ tally₀) u → u .own section ≡ [] → NamedListed s points methods section u
     → Filled (modelWith limits) s o section (Done at tally) section u table₀ table)
 
 abbrev μ-loop : tie.MeasureT-loop
-μ-loop s limits section limit methods table₀ from first at₀ tally₀ table at tally = length s - at
+μ-loop s limits section limit points methods table₀ from first at₀ tally₀ table at tally = length s - at
 
 -- Places on the way of a turn: what the function was given, where the turn begins, and what it reads ----------------------
 
 abbrev entry : tie.After-count Inv-loop μ-loop → tie.Start Inv-loop μ-loop
-entry c = c .before .before .before .before .before .before .before
+entry c = c .before .before .before .before .before .before .before .before
 
 abbrev of-turn : tie.In-loop Inv-loop μ-loop → tie.Start Inv-loop μ-loop
 of-turn c = entry (c .before .before)
@@ -44,24 +42,24 @@ of-turn c = entry (c .before .before)
 abbrev turn : tie.After-known-told2 Inv-loop μ-loop → tie.In-loop Inv-loop μ-loop
 turn c = c .before .before .before .before
 
--- past the test of stops, the count, the test of the limit, the test of names, and the test for a first primitive
-abbrev judged : tie.After-stop-fits Inv-loop μ-loop → tie.After-known-told2 Inv-loop μ-loop
-judged c = c .before .before .before .before
+-- past the test of stops, the count, the test of the limit, and the judgement
+abbrev fitted : tie.After-stop-fits Inv-loop μ-loop → tie.After-known-told2 Inv-loop μ-loop
+fitted c = c .before .before .before .before
 
 abbrev fitting : tie.After-count2 Inv-loop μ-loop → tie.After-stop-fits Inv-loop μ-loop
 fitting c = c .before .before
 
 abbrev read : tie.After-count2 Inv-loop μ-loop → tie.After-known-told2 Inv-loop μ-loop
-read c = judged (fitting c)
+read c = fitted (fitting c)
 
 abbrev roomy : tie.Else4 Inv-loop μ-loop → tie.After-count2 Inv-loop μ-loop
 roomy c = c .before
 
-abbrev existing : tie.After-both Inv-loop μ-loop → tie.Else5 Inv-loop μ-loop
-existing c = c .before .before
+abbrev tested : tie.After-judge Inv-loop μ-loop → tie.Else4 Inv-loop μ-loop
+tested c = c .before
 
-abbrev tested : tie.After-both Inv-loop μ-loop → tie.Else4 Inv-loop μ-loop
-tested c = existing c .before .before
+abbrev named : tie.After-enum-told3 Inv-loop μ-loop → tie.After-judge Inv-loop μ-loop
+named c = c .before .before
 
 enum-known-reached : tie.Need-enum-known-reached Inv-loop μ-loop
 enum-known-reached c = search needs
@@ -76,7 +74,7 @@ count-requires : tie.Need-count-requires Inv-loop μ-loop
 count-requires c κs = search needs
 
 loop-holds : tie.Need-loop-holds Inv-loop μ-loop
-loop-holds c = (refl, λ o u told none listed. record { state = u; told = told; grown = begin _ none })
+loop-holds c = (refl, λ o u told none listed. record { state = u; told = told; grown = begin _ none; listed = λ low h. h })
 
 record-at-requires : tie.Need-record-at-requires Inv-loop μ-loop
 record-at-requires c κs = of-turn c .pre .0 .kinds
@@ -100,7 +98,8 @@ given c o u told =
 -- what the loop has kept, where a turn begins
 kept : (c : tie.In-loop Inv-loop μ-loop) (o : ReadResult) (u : Reading)
     → Told (modelWith (of-turn c .args .limits)) (of-turn c .args .s .now) o (of-turn c .args .section) (of-turn c .args .reached) u
-    → u .own (of-turn c .args .section) ≡ [] → MethodsListed (of-turn c .args .s .now) (of-turn c .args .methods .now) (of-turn c .args .section) u
+    → u .own (of-turn c .args .section) ≡ []
+    → NamedListed (of-turn c .args .s .now) (of-turn c .args .points .now) (of-turn c .args .methods .now) (of-turn c .args .section) u
     → Filled (modelWith (of-turn c .args .limits)) (of-turn c .args .s .now) o (of-turn c .args .section) (Done (c .before .loop .at) (c .before .loop .tally))
     (of-turn c .args .section) u (of-turn c .args .table .now) (c .before .loop .table)
 kept c o u told none listed = c .before .loop .inv .1 o u (given (c .before .before) o u told) none listed
@@ -143,19 +142,19 @@ returns-4 c = λ o u told none listed.
     later-section (of-turn t .pre .0) (kept t o u told none listed) (t .loop-test .taken) (standing (c .before .before .before)) (omega (arith, c .if2 .taken, c .before .before .section-of .ensures))
 
 -- the record is of the section
-same : (c : tie.After-stop-fits Inv-loop μ-loop) → sectionOf (judged c .before .got .given .0 .0) ≡ of-turn (turn (judged c)) .args .section
+same : (c : tie.After-stop-fits Inv-loop μ-loop) → sectionOf (fitted c .before .got .given .0 .0) ≡ of-turn (turn (fitted c)) .args .section
 same c = omega (arith, c .before .if2 .left, c .before .before .if1 .left, c .before .before .before .section-of .ensures)
 
 stop-fits-requires : tie.Need-stop-fits-requires Inv-loop μ-loop
 stop-fits-requires c κs = search needs
 
 same-length-4 : tie.Need-same-length-4 Inv-loop μ-loop
-same-length-4 c = turn (judged (c .before)) .before .loop .inv .0
+same-length-4 c = turn (fitted (c .before)) .before .loop .inv .0
 
 returns-5 : tie.Need-returns-5 Inv-loop μ-loop
 returns-5 c = λ o u told none listed.
-    let t = turn (judged (c .before)) in
-    old-stop (of-turn t .pre .0) (kept t o u told none listed) (t .loop-test .taken) (standing (judged (c .before))) (same (c .before))
+    let t = turn (fitted (c .before)) in
+    old-stop (of-turn t .pre .0) (kept t o u told none listed) (t .loop-test .taken) (standing (fitted (c .before))) (same (c .before))
     (sym (c .before .stop-fits .ensures) ∙ not-true (c .before .stop-fits .result) (c .if3 .taken))
 
 count-requires-2 : tie.Need-count-requires-2 Inv-loop μ-loop
@@ -175,11 +174,11 @@ returns-6 c = λ o u told none listed.
     over-limit (start .pre .0) (kept t o u told none listed) (t .loop-test .taken) (standing (read (c .before))) (same (fitting (c .before))) (stops (c .before))
     (le-leb (start .args .limit) (countOf (t .before .loop .tally) (start .args .section)) (omega (arith, c .if4 .taken, c .before .count2 .ensures)))
 
-names-exist-requires : tie.Need-names-exist-requires Inv-loop μ-loop
-names-exist-requires c κs =
-    let is = same (fitting (c .before)) in
-    let a = of-turn (turn (read (c .before))) .pre .0 in
-    let w = standing (read (c .before)) in
+judge-requires : tie.Need-judge-requires Inv-loop μ-loop
+judge-requires c κs =
+    let is = same (fitting (roomy c)) in
+    let a = of-turn (turn (read (roomy c))) .pre .0 in
+    let w = standing (read (roomy c)) in
     record { is = w .kind; low = omega (arith, a .low); high = omega (arith, a .high); inside = w .inside }
 
 -- there is room for one more
@@ -189,109 +188,71 @@ within c =
     lt-leb (of-turn (turn (read (roomy c))) .args .limit) (countOf (turn (read (roomy c)) .before .loop .tally) (of-turn (turn (read (roomy c))) .args .section))
     (omega (arith, c .if4 .left, c .before .count2 .ensures))
 
+-- .. in the table, too
+free : (c : tie.Else4 Inv-loop μ-loop) → roomy c .count2 .result < length (turn (read (roomy c)) .before .loop .table)
+free c = let t = turn (read (roomy c)) in omega (arith, c .if4 .left, of-turn t .pre .0 .room, t .before .loop .inv .0)
+
+enum-known-judged : tie.Need-enum-known-judged Inv-loop μ-loop
+enum-known-judged c = search needs
+
 same-length-6 : tie.Need-same-length-6 Inv-loop μ-loop
-same-length-6 c = turn (read (roomy (c .before .before))) .before .loop .inv .0
+same-length-6 c = turn (read (roomy (tested (c .before .before .before)))) .before .loop .inv .0
 
 returns-7 : tie.Need-returns-7 Inv-loop μ-loop
 returns-7 c = λ o u told none listed.
-    let counted = roomy (c .before .before) in
-    let t = turn (read counted) in
-    unnamed (of-turn t .pre .0) (kept t o u told none listed) (t .loop-test .taken) (standing (read counted)) (same (fitting counted)) (stops counted) (within (c .before .before))
-    (sym (c .before .names-exist .ensures) ∙ not-true (c .before .names-exist .result) (c .if5 .taken))
-
--- what the record names exists
-named : (c : tie.Else5 Inv-loop μ-loop)
-    → allExist (of-turn (turn (read (roomy (c .before .before)))) .args .limits .events) (countOf (turn (read (roomy (c .before .before))) .before .loop .tally))
-    (kindOf (read (roomy (c .before .before)) .before .got .given .0 .0) .fields)
-    (recordAt (of-turn (turn (read (roomy (c .before .before)))) .args .s .now) (turn (read (roomy (c .before .before))) .before .loop .at) .values) ≡ true
-named c = sym (c .before .names-exist .ensures) ∙ not-false (c .before .names-exist .result) (c .if5 .left)
-
-is-primitive-requires : tie.Need-is-primitive-requires Inv-loop μ-loop
-is-primitive-requires c κs = search needs
-
-both-requires : tie.Need-both-requires Inv-loop μ-loop
-both-requires c κs = search needs
-
--- it is this sheet's first method, and a primitive
-first-primitive : (c : tie.After-both Inv-loop μ-loop)
-    → (eqb (countOf (turn (read (roomy (tested c))) .before .loop .tally) (of-turn (turn (read (roomy (tested c)))) .args .section))
-    (countOf (turn (read (roomy (tested c))) .before .before .before .before .reached .given .0 .1 .0) (of-turn (turn (read (roomy (tested c)))) .args .section))
-    && primitiveKind (read (roomy (tested c)) .before .got .given .0 .0)) ≡ c .both .result
-first-primitive c =
-    first-test (c .both .ensures) (c .before .is-primitive .ensures) (roomy (tested c) .count2 .ensures) (turn (read (roomy (tested c))) .before .before .count .ensures)
-
-same-length-7 : tie.Need-same-length-7 Inv-loop μ-loop
-same-length-7 c = turn (read (roomy (tested (c .before)))) .before .loop .inv .0
-
-returns-8 : tie.Need-returns-8 Inv-loop μ-loop
-returns-8 c = λ o u told none listed.
-    let room = tested (c .before) in
-    let counted = roomy room in
-    let t = turn (read counted) in
-    primitive-first (of-turn t .pre .0) (kept t o u told none listed) (t .loop-test .taken) (standing (read counted)) (same (fitting counted)) (stops counted) (within room)
-    (named (existing (c .before))) (given (t .before .before) o u told .1) none (first-primitive (c .before) ∙ c .if6 .taken)
-
-outcomes-fit-requires : tie.Need-outcomes-fit-requires Inv-loop μ-loop
-outcomes-fit-requires c κs = turn (read (roomy (tested (c .before)))) .loop-test .taken
-
-same-length-8 : tie.Need-same-length-8 Inv-loop μ-loop
-same-length-8 c = turn (read (roomy (tested (c .before .before .before)))) .before .loop .inv .0
-
-returns-9 : tie.Need-returns-9 Inv-loop μ-loop
-returns-9 c = λ o u told none listed.
     let room = tested (c .before .before .before) in
     let counted = roomy room in
     let t = turn (read counted) in
-    wrong-outcomes (of-turn t .pre .0) (kept t o u told none listed) (t .loop-test .taken) (standing (read counted)) (same (fitting counted)) (stops counted) (within room)
-    (named (existing (c .before .before .before))) (given (t .before .before) o u told .1) none (first-primitive (c .before .before .before) ∙ c .before .before .if6 .left) (of-turn t .args .methods .now)
-    listed (wrong-if (c .before .outcomes-fit .ensures) (c .if7 .taken))
+    misnamed (of-turn t .pre .0) (kept t o u told none listed) (t .loop-test .taken) (standing (read counted)) (same (fitting counted)) (stops counted)
+    (within room) (given (t .before .before) o u told .1) none (of-turn t .args .points .now) (of-turn t .args .methods .now) listed
+    (counted .count2 .ensures) (t .before .before .count .ensures) (c .before .before .before .judge .ensures) (c .before .judged .given .1)
+
+enum-told-3 : tie.Need-enum-told-3 Inv-loop μ-loop
+enum-told-3 c = search needs
 
 cast-table : tie.Need-cast-table Inv-loop μ-loop
-cast-table c = let t = turn (read (roomy (tested (c .before .before .before)))) in omega (arith, t .loop-test .taken, of-turn t .pre .1)
+cast-table c = let t = turn (read (roomy (tested (named c)))) in omega (arith, t .loop-test .taken, of-turn t .pre .1)
 
 mul-table : tie.Need-mul-table Inv-loop μ-loop
 mul-table c =
-    let room = tested (c .before .before .before) in
+    let room = tested (named c) in
     let start = of-turn (turn (read (roomy room))) in
     omega (arith, room .if4 .left, start .pre .0 .room, start .good)
 
 slice-write-table : tie.Need-slice-write-table Inv-loop μ-loop
-slice-write-table c =
-    let room = tested (c .before .before .before) in
-    let t = turn (read (roomy room)) in
-    omega (arith, room .if4 .left, of-turn t .pre .0 .room, t .before .loop .inv .0)
+slice-write-table c = free (tested (named c))
 
 past-requires : tie.Need-past-requires Inv-loop μ-loop
 past-requires c κs =
-    let room = tested (c .before .before .before) in
+    let room = tested (named c) in
     let start = of-turn (turn (read (roomy room))) in
     omega (arith, room .if4 .left, roomy room .count2 .ensures, start .pre .0 .room, start .good)
 
 loop-less : tie.Need-loop-less Inv-loop μ-loop
 loop-less c =
-    let here = read (roomy (tested (c .before .before .before .before))) in
+    let here = read (roomy (tested (named (c .before)))) in
     let w = standing here in
     omega (arith, w .next, w .inside, next-lt (of-turn (turn here) .args .s .now) (turn here .before .loop .at))
 
 loop-again : tie.Need-loop-again Inv-loop μ-loop
 loop-again c =
-    let room = tested (c .before .before .before .before) in
+    let room = tested (named (c .before)) in
     let counted = roomy room in
     let t = turn (read counted) in (
       length-set (t .before .loop .table) (counted .count2 .result) (t .before .loop .at) ∙ t .before .loop .inv .0,
       λ o u told none listed.
           again (of-turn t .pre .0) (t .before .loop .inv .1 o u told none listed) (t .loop-test .taken) (standing (read counted)) (same (fitting counted)) (stops counted) (within room)
-          (named (existing (c .before .before .before .before))) (told .1) none
-          (first-primitive (c .before .before .before .before) ∙ c .before .before .before .if6 .left) (of-turn t .args .methods .now)
-          listed (fit-if (c .before .before .outcomes-fit .ensures) (c .before .if7 .left))
-          (counted .count2 .ensures) (c .past .ensures),
+          (told .1) none (of-turn t .args .points .now) (of-turn t .args .methods .now) listed
+          (counted .count2 .ensures) (t .before .before .count .ensures) (named (c .before) .judge .ensures) (c .before .enum-told3 .given .1)
+          (free room) (c .past .ensures),
     )
 
-same-length-9 : tie.Need-same-length-9 Inv-loop μ-loop
-same-length-9 c = c .before .loop .inv .0
+same-length-7 : tie.Need-same-length-7 Inv-loop μ-loop
+same-length-7 c = c .before .loop .inv .0
 
-returns-10 : tie.Need-returns-10 Inv-loop μ-loop
-returns-10 c = λ o u told none listed. no-more (entry (c .before .before) .pre .0) (c .before .loop .inv .1 o u (given (c .before .before) o u told) none listed) (c .loop-test .left)
+returns-8 : tie.Need-returns-8 Inv-loop μ-loop
+returns-8 c = λ o u told none listed.
+    no-more (entry (c .before .before) .pre .0) (c .before .loop .inv .1 o u (given (c .before .before) o u told) none listed) (c .loop-test .left)
 
 pub read-alone-spec : {M : Type 1} → statement M
 read-alone-spec =
@@ -321,21 +282,16 @@ read-alone-spec =
     count-requires-2
     same-length-5
     returns-6
-    names-exist-requires
+    judge-requires
+    enum-known-judged
     same-length-6
     returns-7
-    is-primitive-requires
-    both-requires
-    same-length-7
-    returns-8
-    outcomes-fit-requires
-    same-length-8
-    returns-9
+    enum-told-3
     cast-table
     mul-table
     slice-write-table
     past-requires
     loop-less
     loop-again
-    same-length-9
-    returns-10)
+    same-length-7
+    returns-8)
