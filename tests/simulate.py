@@ -1,6 +1,8 @@
 """Random runs of accepted sheets, also of those in which calls may fail (document
-02, Ask 2) and of those that stop (Ask 4), checked against demand 3 of document 01 and
-against Ask 12 of document 02, by the languages of the conditions.
+02, Ask 2), of those that stop (Ask 4) and of those with owners (Ask 9), checked against
+demand 3 of document 01 and against Asks 9 and 12 of document 02, by the languages of
+the conditions. Then runs of sheets that are read whole, accepted or not, checked
+against Ask 9.
 
     python3 simulate.py [SEED [SHEETS]]
 
@@ -11,7 +13,7 @@ import sys
 from collections import Counter
 from typing import NamedTuple
 
-from generate import outcomes, stops
+from generate import outcomes, owners, stops
 from generate.draws import Draws
 from generate.faults import changed_bytes, changed_conditions
 from generate.plans import FAILING_SHAPES, STOPPING_SHAPES, repeated_calls
@@ -19,10 +21,12 @@ from generate.special import examples
 from generate.true_sheets import true_sheets
 from generate.words import derived
 from reference.loader import Accepted, verdict
-from reference.reading import CALL_STEP, EVENT_STEP, STOP_STEP, read_sheet
-from reference.runs import (FAIL, RETURN, Move, callers, first_break,
-                            first_owed_break, in_caller, in_condition,
-                            make_move, missing, start)
+from reference.reading import (CALL_STEP, EVENT_STEP, STOP_STEP, Refusal,
+                               read_sheet)
+from reference.runs import (FAIL, RETURN, Move, all_owned, callers, first_break,
+                            first_owed_break, first_owner_break, in_caller,
+                            in_condition, make_move, missing, start)
+from sheets.records import encode, with_certificates
 
 RUNS = 12
 MOVES = 40
@@ -38,6 +42,7 @@ class Totals:
         self.owed_by_failed = self.chosen = 0
         self.stopped = Counter()   # runs that stopped, by the number of open calls
         self.due_at_stop = self.due_above = 0
+        self.owned = Counter()     # states in which all points have owners, by calls
 
     def count_owed(self, run):
         """Count the returned calls whose future is owed in a state."""
@@ -65,6 +70,15 @@ class Totals:
         else:
             self.failed_bodies += 1
 
+    def count_owned(self, sheet, run):
+        """Count a state with an open call in which the point's owner must be the active
+        method: in the outermost call, in a further one, after a return, at a stop."""
+        if run.active is None or not all_owned(sheet):
+            return
+        self.owned["inside" if len(run.open_calls) > 1 else "outermost"] += 1
+        self.owned["stopped"] += run.stopped
+        self.owned["returned"] += any(call.maker is run.active
+                                      for call in run.returned_calls)
 
     def count_stop(self, run):
         """Count a run that has stopped, and the returned calls whose futures must be
@@ -117,8 +131,11 @@ class Walker:
     def ask_12(self, run):
         return first_owed_break(self.sheet, run, self.find)
 
+    def ask_9(self, run):
+        return first_owner_break(self.sheet, run)
+
     def any_break(self, run):
-        return self.demand_3(run) or self.ask_12(run)
+        return self.demand_3(run) or self.ask_12(run) or self.ask_9(run)
 
     def fails(self, may_fail):
         """The outcome of a move: either where the call may fail, mostly the normal
@@ -225,6 +242,7 @@ def walk(walker, totals, number, check=Walker.any_break):
     while len(moves) < MOVES and late < 3 and len(run.history) < MAX_HISTORY:
         totals.states += 1
         totals.count_owed(run)
+        totals.count_owned(sheet, run)
         found = check(walker, run)
         if found:
             return Break(number, moves, *found)
@@ -244,19 +262,22 @@ def walk(walker, totals, number, check=Walker.any_break):
         run = after
     totals.states += 1
     totals.count_owed(run)
+    totals.count_owned(sheet, run)
     found = check(walker, run)
     return Break(number, moves, *found) if found else None
 
 
 def accepted_sheets(seed, count):
-    """Accepted examples, random true sheets, also of those that may fail and of those
-    that stop, and changed ones still accepted."""
+    """Accepted examples, random true sheets, also of those that may fail, of those that
+    stop and of those with owners, and changed ones still accepted."""
     sheets = [sheet for _, sheet in true_sheets(seed, count)]
     sheets += failing_sheets(seed + 4, count)
     sheets += stopping_sheets(seed + 5, count)
+    sheets += owners.true_owned(seed + 6, count // 2)
     yield from accepted_among(examples())
     yield from accepted_among(outcomes.accepted_cases())
     yield from accepted_among(stops.accepted_cases())
+    yield from accepted_among(owners.accepted_cases())
     yield from sheets
     for _, sheet in true_sheets(seed + 3, count // 4, shapes=[repeated_calls]):
         yield sheet
@@ -280,24 +301,31 @@ def accepted_among(cases):
             yield read_sheet(case.data)
 
 
-def simulate(seed, sheets, totals):
-    """Walk the sheets; the first break, or None."""
+def sheets_read_whole(seed, count):
+    """Random sheets with owners at all points that are read whole, most of them
+    unproved."""
+    draws = Draws(seed)
+    for number in range(count):
+        sheet = owners.random_sheet(draws, number % 4 * 0.01)
+        sheet = read_sheet(encode(with_certificates(sheet)))
+        if not isinstance(sheet, Refusal):
+            yield sheet
+
+
+def simulate(seed, sheets, totals, check=Walker.any_break):
+    """Walk the sheets; the first break that the check finds, or None."""
     draws = Draws(seed)
     for number, sheet in enumerate(sheets):
         walker = Walker(draws, sheet)
         totals.sheets += 1
         for _ in range(RUNS):
-            found = walk(walker, totals, number)
+            found = walk(walker, totals, number, check)
             if found:
                 return found
     return None
 
 
-def main(arguments):
-    seed = int(arguments[0]) if arguments else 71
-    count = int(arguments[1]) if len(arguments) > 1 else 400
-    totals = Totals()
-    found = simulate(seed, accepted_sheets(seed, count), totals)
+def print_totals(totals):
     print(f"{totals.states} states checked: {totals.sheets} sheets, "
           f"{totals.runs} runs, {totals.moves} moves ({totals.made} made, "
           f"{totals.after_end} after the end), {totals.ended} runs ended, "
@@ -316,6 +344,26 @@ def main(arguments):
           + f"; {totals.due_at_stop} futures of returned calls met there, "
           f"{totals.due_above} of them of calls that a caller of the active call "
           f"had made")
+
+
+def print_owned(totals):
+    print(f"{totals.owned['outermost'] + totals.owned['inside']} states with owners at "
+          f"all points, {totals.owned['inside']} of them in calls that were made, "
+          f"{totals.owned['returned']} after a call had returned there, "
+          f"{totals.owned['stopped']} at a stop")
+
+
+def main(arguments):
+    seed = int(arguments[0]) if arguments else 71
+    count = int(arguments[1]) if len(arguments) > 1 else 400
+    totals, whole = Totals(), Totals()
+    found = simulate(seed, accepted_sheets(seed, count), totals)
+    print_totals(totals)
+    print_owned(totals)
+    found = found or simulate(seed, sheets_read_whole(seed + 7, 2 * count), whole,
+                              Walker.ask_9)
+    print(f"{whole.sheets} sheets that are read whole, accepted or not:")
+    print_owned(whole)
     if found is None:
         print("0 breaks")
         return 0

@@ -3,7 +3,7 @@ import unittest
 from collections import Counter
 from functools import lru_cache
 
-from generate import entry, faults
+from generate import entry, faults, owners
 from generate.draws import Draws
 from generate.refusals import limit_cases, random_cases
 from generate.special import EXAMPLES, M
@@ -59,7 +59,7 @@ class Limits(unittest.TestCase):
         self.check(data, line, line, line_of)
 
     def test_values(self):
-        self.assertEqual((LARGE, ENTRY), ((65536, 512, 19), (8192, 64, 19)))
+        self.assertEqual((LARGE, ENTRY), ((65536, 512, 20), (8192, 64, 20)))
 
     def test_bytes(self):
         for size in (8191, 8192):
@@ -107,7 +107,7 @@ class Limits(unittest.TestCase):
                    "refused 7 at 450")
         for length in range(1, 7):
             self.same(full + POINT[:length], "refused 3 at 450")
-        self.same(full + b"\x14" + POINT, "refused 2 at 450")
+        self.same(full + b"\x15" + POINT, "refused 2 at 450")
         self.same(full + b"\x0f" + POINT, "refused 3 at 450")
         self.same(full + b"\x02" + POINT, "refused 4 at 450")
         self.same(full + METHOD + POINT, "refused 4 at 461")
@@ -267,10 +267,17 @@ class SmallerAndLarger(unittest.TestCase):
                       faults.certificate_counts(34, true[:20]),
                       faults.changed_bytes(35, true, 3),
                       faults.changed_records(36, true, 2),
-                      random_cases(37, 60)):
+                      random_cases(37, 60), SmallerAndLarger.owner_cases(true[:40])):
             yield from (case.data for case in cases)
         yield from (data + b"\x00" for data, _ in REFUSED.values())
         yield from (data for data, _ in REFUSED.values())
+
+    @staticmethod
+    def owner_cases(sheets):
+        """Sheets with owners, right and wrong ones."""
+        owned = list(map(owners.owned_sheet, sheets))
+        yield from owners.owner_changes(44, owned, 2)
+        yield from owners.unknown_owner_sheets(45, owned[:5])
 
     @staticmethod
     def limits(draws, data):
@@ -297,7 +304,7 @@ class SmallerAndLarger(unittest.TestCase):
                 if isinstance(answer, Refusal) and answer.number not in (1, 6):
                     self.assertEqual(larger, answer)
                 found[kind_of(answer), kind_of(larger), answer == larger] += 1
-        for kind in ("Accepted", "Unproved", 2, 3, 4, 5, 7, 8, 9, 10):
+        for kind in ("Accepted", "Unproved", 2, 3, 4, 5, 7, 8, 9, 10, 24, 25):
             self.assertGreater(found[kind, kind, True], 4, kind)
             self.assertEqual(sum(count for (one, _, equal), count in found.items()
                                  if one == kind and not equal), 0)

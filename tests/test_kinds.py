@@ -2,17 +2,18 @@
 import re
 import struct
 import unittest
-from hashlib import sha256
+from itertools import chain
 from unittest.mock import patch
 
+import test_outcomes
 import test_reference
-from generate import kinds, stops
+from generate import kinds, owners
 from generate.kinds import LENGTHS
 from generate.refusals import positions
 from reference import reading
 from reference.instruments import INSTRUMENTS, LARGE
 from reference.reading import BODY_LENGTHS, Refusal, read_sheet, reading_line
-from test_reference import CRATES, STORED
+from test_reference import CRATES
 
 # More bytes than any body has.
 MOST = 40
@@ -44,10 +45,10 @@ class Lengths(unittest.TestCase):
         return sum(short)
 
     def test_first_byte(self):
-        """Each of the 256 kinds, on instruments of 14, 17 and 19 kinds."""
-        self.assertEqual(sorted(LENGTHS), list(range(1, 20)))
+        """Each of the 256 kinds, on instruments of 14, 17, 19 and 20 kinds."""
+        self.assertEqual(sorted(LENGTHS), list(range(1, 21)))
         for instrument in INSTRUMENTS.values():
-            for last in (14, 17, 19):
+            for last in (14, 17, 19, 20):
                 on = instrument._replace(kinds=last)
                 for kind in range(256):
                     length = LENGTHS[kind] if 1 <= kind <= last else None
@@ -56,7 +57,7 @@ class Lengths(unittest.TestCase):
     def test_every_place(self):
         """The same behind every record of a sheet of each edition, since 2 and 3 come
         before all that depends on the records in front."""
-        for base in (stops.OLD_BASE, stops.BASE):
+        for base in (owners.OLD_BASE, owners.BASE):
             for _, before, _ in positions(base):
                 for kind in (0, *range(1, 22), 128, 255):
                     self.assertEqual(self.found(before, kind, LARGE),
@@ -64,34 +65,37 @@ class Lengths(unittest.TestCase):
 
 
 class Cases(unittest.TestCase):
-    FILES = {"reading": kinds.reading_cases,
-             "entry_reading": kinds.entry_reading_cases}
+    FILES = {"reading": (kinds.reading_cases, kinds.later_cases),
+             "entry_reading": (kinds.entry_reading_cases, kinds.later_cases)}
 
     @classmethod
     def setUpClass(cls):
         cls.stored = test_reference.Vectors
         cls.stored.setUpClass()
 
+    def cases(self, name):
+        return chain.from_iterable(part() for part in self.FILES[name])
+
     def test_lines(self):
         """The tables and the reference agree, also on a case that another file of
         generate/ has too."""
-        for name, cases in self.FILES.items():
-            for case in cases():
+        for name in self.FILES:
+            for case in self.cases(name):
                 line = reading_line(case.data, self.stored.FILES[name])
                 self.assertEqual(line, case.line, case.label)
 
     def test_stored(self):
         """Each case is stored, with its line."""
-        for name, cases in self.FILES.items():
+        for name in self.FILES:
             stored = dict(zip(self.stored.cases(name), self.stored.lines[name]))
-            for case in cases():
+            for case in self.cases(name):
                 self.assertEqual(stored.get(case.data), case.line, case.label)
 
     def test_every_kind(self):
         """Each of the 256 kinds is refused 2 behind records of each edition, or is
         read there whole."""
-        for name, cases in self.FILES.items():
-            lines = {case.data: case.line for case in cases()}
+        for name in self.FILES:
+            lines = {case.data: case.line for case in self.cases(name)}
             for kind in range(256):
                 for front in kinds.fronts(kind):
                     before = kinds.sheet(front)
@@ -118,36 +122,18 @@ class Cases(unittest.TestCase):
                     self.assertEqual(changed, wrong != length, (kind, wrong))
 
 
-class AsBefore(unittest.TestCase):
-    """Every refusal is as it was.
-
-    The stored cases of before are the first ones of each file. For each file: the
-    bytes of these, a digest of the bytes, and the number of lines. DIGEST is that of
-    all their lines.
-    """
+class AsBefore(test_outcomes.AsBefore):
+    """Every refusal is as it was with 19 kinds."""
+    KINDS = 19
     FORMER = {
-        "reading": (1504667, "646d034e111929b0", 5991),
-        "sheets": (3341616, "ebabf36302823fe5", 6482),
-        "words": (1263062, "a59fc2a67755835c", 23367),
-        "entry_reading": (760153, "b4c0b3167be6071c", 1565),
-        "entry_sheets": (903013, "5db7d217104aeb6d", 1413),
-        "entry_words": (188517, "6b60ebff0c70b7fa", 1469)}
+        "reading": (1504667, "646d034e111929b0", 5991, 39),
+        "sheets": (3341616, "ebabf36302823fe5", 6482, 1),
+        "words": (1263062, "a59fc2a67755835c", 23367, 0),
+        "entry_reading": (760153, "b4c0b3167be6071c", 1565, 8),
+        "entry_sheets": (903013, "5db7d217104aeb6d", 1413, 0),
+        "entry_words": (188517, "6b60ebff0c70b7fa", 1469, 0)}
     DIGEST = "e607080081e95bf7"
-
-    def test_former_bytes(self):
-        """The former cases stand where they stood."""
-        for name, (size, digest, _) in self.FORMER.items():
-            data = (STORED / "data" / name).read_bytes()[:size]
-            self.assertEqual(sha256(data).hexdigest()[:16], digest, name)
-
-    def test_former_lines(self):
-        """The former lines are the present ones."""
-        stored = test_reference.Vectors
-        stored.setUpClass()
-        former = [line + "\n" for name, (_, _, count) in self.FORMER.items()
-                  for line in stored.lines[name][:count]]
-        digest = sha256("".join(former).encode()).hexdigest()
-        self.assertEqual(digest[:16], self.DIGEST)
+    test_what_differs = None   # test_owners has it, with as many kinds
 
 
 class Source(unittest.TestCase):

@@ -663,8 +663,8 @@ class AsBefore(unittest.TestCase):
     """
     KINDS = 14
     FORMER = {
-        "reading": (685097, "a5fb2941603d27be", 3487, 101),
-        "sheets": (1872777, "5b6c542622aa9f84", 3386, 7),
+        "reading": (685097, "a5fb2941603d27be", 3487, 106),
+        "sheets": (1872777, "5b6c542622aa9f84", 3386, 8),
         "words": (1124520, "8a46f0af547ce523", 22059, 6),
         "entry_reading": (390250, "79d2c2c5c1419580", 807, 19),
         "entry_sheets": (486841, "5f2d8a6a5f7fe505", 605, 1),

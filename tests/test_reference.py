@@ -348,7 +348,7 @@ class Loader(unittest.TestCase):
 
     def test_word_test_order(self):
         long = (40,) * 4097
-        self.assertEqual(word_line(b"\x14", 9, long), "refused 2 at 0")
+        self.assertEqual(word_line(b"\x15", 9, long), "refused 2 at 0")
         self.assertEqual(word_line(b"\x0f", 9, long), "refused 3 at 0")
         self.assertEqual(word_line(FRONT, 1, long), "refused 14")
         self.assertEqual(word_line(FRONT, 0, long), "refused 12")
@@ -798,6 +798,18 @@ class Documents(unittest.TestCase):
             self.assertIn(one, source.splitlines())
             source = source.replace(one, two)
         self.assertEqual(load_line(assemble(source)), "accepted 43")
+
+    def test_step_in_the_wrong_method(self):
+        """The statements are those of an example; the line is that of another."""
+        *shown, step_, line = re.findall(
+            r"^ {4}(\w.*)$", self.section("A step in the wrong method"), re.M)
+        source = (EXAMPLES / "owned_points.txt").read_text(encoding="utf-8")
+        self.assertEqual(len(shown), 2)
+        for statement in shown:
+            self.assertIn(statement, source.splitlines())
+        data = assemble(source + step_)
+        self.assertEqual(load_line(data), line)
+        self.assertEqual(data, (EXAMPLES / "pasted_step.sheet").read_bytes())
 
     def test_sheets_to_try(self):
         rows = re.findall(r"^\| (?!bytes|--)(.*) \| `(.*)` \|$",

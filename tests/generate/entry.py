@@ -184,9 +184,9 @@ def filled(draws, sheet, size):
 
 def refused_6(label, sheet, instrument):
     """The case of a sheet with too many points."""
-    size = sheet.new + len(b"".join(map(r.condition, sheet.conditions)))
-    return Case(label, r.encode(sheet),
-                f"refused 6 at {size + 7 * instrument.points}")
+    first = sheet._replace(points=sheet.points[:instrument.points], methods=[],
+                           steps=[], certificates=[])
+    return Case(label, r.encode(sheet), f"refused 6 at {len(r.encode(first))}")
 
 
 def accepted(label, sheet):

@@ -11,7 +11,7 @@ typed from the documents and share nothing with the reference.
 """
 from .refusals import Case, refused
 
-# Document 01, "Records"; document 02, Ask 2 (15 to 17) and Ask 4 (18 and 19).
+# Document 01, "Records"; document 02, Asks 2 (15 to 17), 4 (18 and 19) and 9 (20).
 LENGTHS = {
     1: 4, 2: 0, 3: 0, 4: 0, 5: 0, 6: 0, 7: 6, 8: 6, 9: 10, 10: 5, 11: 6, 12: 4,
     13: 5, 14: 0,
@@ -19,20 +19,24 @@ LENGTHS = {
     16: 16,  # these, entry, exit, failed exit
     17: 8,   # from, to, failed target, method
     18: 0,   # no body
-    19: 2}   # from
+    19: 2,   # from
+    20: 8}   # past, own, due, owner
 # The kinds of the records in front of one of the kind, in a sheet of the old edition;
 # of the new one where there is no other.
 SMALL, FAILING = (2, 6, 7, 9), (2, 6, 7, 16)
 FRONTS = {
     1: (), 2: (), 3: (2, 2), 4: (2, 2), 5: (2,), 6: (2,), 7: (2, 6), 8: SMALL,
     9: (2, 6, 7), 10: SMALL, 11: SMALL, 12: SMALL, 13: SMALL, 14: SMALL, 15: FAILING,
-    16: (2, 6, 7), 17: FAILING, 18: (), 19: (18, *SMALL)}
+    16: (2, 6, 7), 17: FAILING, 18: (), 19: (18, *SMALL), 20: (2, 6)}
 # What is counted: conditions, points, methods, steps, certificates.
-COUNTED = (6,), (7,), (8, 9, 15, 16), (10, 11, 12, 17, 19), (14,)
+COUNTED = (6,), (7, 20), (8, 9, 15, 16), (10, 11, 12, 17, 19), (14,)
 # The refusal of a whole record that is the first of a sheet.
 FIRST_REFUSALS = {3: 5, 4: 5, 5: 5, 6: 5, 7: 7, 8: 7, 9: 7, 10: 7, 11: 7, 12: 7,
-                  15: 7, 16: 7, 17: 7, 19: 20}
+                  15: 7, 16: 7, 17: 7, 19: 20, 20: 7}
 NO_KINDS = 0, 255
+# A kind with a length that record_cases has behind a method, as it has those without
+# one; later_cases has it where it may stand.
+LATE = 20
 
 
 def record(kind):
@@ -75,19 +79,31 @@ def length_cases(kind, front):
         yield refused(f"2 {byte} behind kind {kind}", 2, before + one, bytes([byte]))
 
 
-def no_length_cases(kind, front):
-    """A kind without a length behind records: last, and with bytes behind it."""
+def bare_cases(kind, front):
+    """A kind behind records that it may not stand behind: last, and with bytes behind
+    it. Without a length it is refused 2, else 3 or 4."""
     for count in (0, 1, 16):
-        yield refused(f"2 kind {kind}, {count} bytes behind it", 2, sheet(front),
-                      bytes([kind]), bytes(count))
+        number = 2
+        if kind in LENGTHS:
+            number = 3 if count < LENGTHS[kind] else 4
+        yield refused(f"{number} kind {kind}, {count} bytes behind it", number,
+                      sheet(front), bytes([kind]), bytes(count))
 
 
 def record_cases():
-    """Each of the 256 kinds where it may stand."""
+    """Each of the 256 kinds where it may stand; behind a method if it has no length or
+    is the late one."""
     for kind in range(256):
-        cases = length_cases if kind in LENGTHS else no_length_cases
-        for front in fronts(kind):
+        is_bare = kind not in LENGTHS or kind == LATE
+        cases = bare_cases if is_bare else length_cases
+        for front in (SMALL, (18, *SMALL)) if is_bare else fronts(kind):
             yield from cases(kind, front)
+
+
+def later_cases():
+    """The late kind where it may stand."""
+    for front in fronts(LATE):
+        yield from length_cases(LATE, front)
 
 
 def first_line(kind, count):

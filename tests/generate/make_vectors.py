@@ -6,7 +6,7 @@ entry instrument) and what it must print (stdout), below FOLDER, its crate. The 
 are the same byte for byte each time. A case whose line the documents give by
 construction must get that line from the reference. The cases of document 02, Ask 2,
 stand behind those of document 01 and Ask 8 in each file, those of Ask 4 behind these,
-and those of Ask 7, which are only read, last.
+then those of Ask 7, which are only read, and those of Ask 9 last.
 """
 import sys
 import time
@@ -18,7 +18,7 @@ from reference.reading import read_sheet, reading_line
 from reference.rules import rule_count
 from sheets.records import encode
 
-from . import entry, faults, kinds, outcomes, stops
+from . import entry, faults, kinds, outcomes, owners, stops
 from .refusals import Case, reading_cases, without_repeats
 from .special import last_cases, special_cases, wide_sides
 from .true_sheets import large_true_sheets, true_sheets
@@ -100,20 +100,24 @@ def write_words(path, groups, instrument):
 # The files in the order of their lines: what writes one, and from what.
 FILES = {
     "reading": (write_cases, (all_reading_cases, outcomes.reading_cases,
-                              stops.reading_cases, kinds.reading_cases),
-                reading_line, LARGE),
+                              stops.reading_cases, kinds.reading_cases,
+                              owners.reading_cases), reading_line, LARGE),
     "sheets": (write_cases, (all_sheet_cases, outcomes.sheet_cases,
-                             stops.sheet_cases), load_line, LARGE),
-    "words": (write_words, (word_groups, outcomes.word_groups, stops.word_groups),
-              LARGE),
+                             stops.sheet_cases, owners.sheet_cases),
+               load_line, LARGE),
+    "words": (write_words, (word_groups, outcomes.word_groups, stops.word_groups,
+                            owners.word_groups), LARGE),
     "entry_reading": (write_cases, (entry.reading_cases,
                                     outcomes.entry_reading_cases,
                                     stops.entry_reading_cases,
-                                    kinds.entry_reading_cases), reading_line, ENTRY),
+                                    kinds.entry_reading_cases,
+                                    owners.entry_reading_cases), reading_line, ENTRY),
     "entry_sheets": (write_cases, (entry.sheet_cases, outcomes.entry_sheet_cases,
-                                   stops.entry_sheet_cases), load_line, ENTRY),
+                                   stops.entry_sheet_cases,
+                                   owners.entry_sheet_cases), load_line, ENTRY),
     "entry_words": (write_words, (entry.word_groups, outcomes.entry_word_groups,
-                                  stops.entry_word_groups), ENTRY),
+                                  stops.entry_word_groups,
+                                  owners.entry_word_groups), ENTRY),
 }
 
 

@@ -60,22 +60,25 @@ def may_call(kind, method_kind):
 
 def kind_cases():
     """Refusal 2: every kind above 17 alone, and some of them anywhere; among them the
-    bytes 12 and 13, which are kinds since document 02, Ask 4."""
+    bytes 12, 13 and 14, which are kinds since document 02, Asks 4 and 9."""
     yield Case("kind 18", b"\x12", "refused 9 at 1")
     yield refused("3 kind 19", 3, b"", b"\x13")
-    for kind in range(20, 256):
+    yield refused("3 kind 20", 3, b"", b"\x14")
+    for kind in range(21, 256):
         yield refused(f"2 kind {kind}", 2, b"", bytes([kind]))
     for kind in (18, 19, 20, 21, 22, 23, 255):
         one, many = bytes([kind]), bytes(16)
-        # Behind the first record, kind 18 is out of order here; kind 19 stands in an
-        # old sheet.
+        # Behind the first record, kinds 18 and 20 are out of order here; kind 19 stands
+        # in an old sheet.
         if kind == 18:
             yield refused("2 behind kind 18", 2, one, many)
         else:
-            yield refused(f"kind {kind}, long", 20 if kind == 19 else 2, b"",
+            yield refused(f"kind {kind}, long", {19: 20, 20: 7}.get(kind, 2), b"",
                           one + many)
-        yield refused(f"kind {kind} last", {18: 4, 19: 3}.get(kind, 2), FOUR, one)
-        yield refused(f"kind {kind} among methods", {18: 4, 19: 20}.get(kind, 2),
+        yield refused(f"kind {kind} last", {18: 4, 19: 3, 20: 3}.get(kind, 2), FOUR,
+                      one)
+        yield refused(f"kind {kind} among methods",
+                      {18: 4, 19: 20, 20: 4}.get(kind, 2),
                       FRONT + POINT + METHODS[16], one, METHODS[15])
     for index, before, after in positions(BASE):
         yield refused(f"2 kind 0 at record {index}", 2, before, b"\x00", after)
@@ -669,7 +672,7 @@ def sheet_cases():
     yield from faults.certificate_faults(132, sheets, 2, range(1, 18))
     yield from faults.broken_rules(133, 8, NEW_RULES, FAILING_SHAPES)
     yield from faults.broken_rules(134, 2, range(1, 18), FAILING_SHAPES)
-    yield from special.outcome_examples()
+    yield from special.listed_among(special.OUTCOME_EXAMPLES)
 
 
 def entry_sheet_cases():
@@ -680,7 +683,7 @@ def entry_sheet_cases():
     yield from faults.certificate_faults(151, sheets, 2, NEW_RULES)
     yield from faults.broken_rules(152, 2, NEW_RULES, FAILING_SHAPES)
     yield from entry.point_sheets(153, sheets[:9], ENTRY)
-    yield from special.outcome_examples(ENTRY)
+    yield from special.listed_among(special.OUTCOME_EXAMPLES, ENTRY)
 
 
 def refused_groups(instrument):

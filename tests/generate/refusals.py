@@ -152,7 +152,7 @@ def name_cases(base=BASE, kinds=tuple(FIELDS)):
             width = 1 if letter == "e" else 2
             count = counts_before(base, index)[letter]
             for value in (count - 1, count, count + 1, 256 ** width - 1):
-                if value < 0:
+                if not 0 <= value < 256 ** width:
                     continue
                 changed = (record[:at] + value.to_bytes(width, "little")
                            + record[at + width:])
@@ -166,11 +166,11 @@ def name_cases(base=BASE, kinds=tuple(FIELDS)):
 
 
 def counts_before(base, index):
-    """How many of each there are before a record of a base."""
+    """How many of each there are before a record of a base; an owner may be any."""
     kinds = [record[0] for record in base[:index]]
     sections = [SECTIONS[kind - 1] for kind in kinds]
     return {"c": kinds.count(6), "p": sections.count(2),
-            "m": sections.count(3), "e": 32}
+            "m": sections.count(3), "e": 32, "o": 65536}
 
 
 def first_name_cases():

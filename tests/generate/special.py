@@ -20,9 +20,11 @@ EXAMPLES = Path(__file__).resolve().parent.parent.parent / "examples"
 # that came later, and those on which the entry instrument has another line.
 LATER_EXAMPLES = {"one_round"}
 ENTRY_EXAMPLES = {"long_walk"}
-# Examples of document 02, Asks 2 and 4, which stand with the cases of these.
+# Examples of document 02, Asks 2, 4 and 9, which stand with the cases of these.
 OUTCOME_EXAMPLES = {"gate_may_fail", "gate_may_fail_owed", "method_may_fail"}
 STOP_EXAMPLES = {"stop_inside", "stop_owed", "two_call_sites"}
+OWNER_EXAMPLES = {"owned_points", "pasted_step"}
+REQUESTED_EXAMPLES = OUTCOME_EXAMPLES | STOP_EXAMPLES | OWNER_EXAMPLES
 ANY_STAR = (STAR, (LEAF, ANY))
 EMPTY_TREE = (EMPTY,)
 M = bytes.fromhex("0206" "07000000000000" "0900000000000000000000"
@@ -53,21 +55,14 @@ def listed_examples(instrument=LARGE):
 
 
 def former_examples(instrument=LARGE):
-    """The listed ones but those of document 02, Asks 2 and 4."""
+    """The listed ones but those of document 02, Asks 2, 4 and 9."""
     return (case for case in listed_examples(instrument)
-            if case.label not in OUTCOME_EXAMPLES | STOP_EXAMPLES)
+            if case.label not in REQUESTED_EXAMPLES)
 
 
-def outcome_examples(instrument=LARGE):
-    """The listed ones of document 02, Ask 2."""
-    return (case for case in listed_examples(instrument)
-            if case.label in OUTCOME_EXAMPLES)
-
-
-def stop_examples(instrument=LARGE):
-    """The listed ones of document 02, Ask 4."""
-    return (case for case in listed_examples(instrument)
-            if case.label in STOP_EXAMPLES)
+def listed_among(names, instrument=LARGE):
+    """The listed ones with these names."""
+    return (case for case in listed_examples(instrument) if case.label in names)
 
 
 def starred():
@@ -248,7 +243,7 @@ def special_cases():
     yield from starred()
     yield from (case for case in examples()
                 if case.label not in (LATER_EXAMPLES | ENTRY_EXAMPLES
-                                      | OUTCOME_EXAMPLES | STOP_EXAMPLES))
+                                      | REQUESTED_EXAMPLES))
     yield full_limits()
     yield many_calls()
     yield from wide_sides()

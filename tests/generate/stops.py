@@ -6,8 +6,8 @@ from itertools import chain, islice
 
 from reference.conditions import EITHER, LEAF, STAR
 from reference.instruments import ENTRY, LARGE
-from reference.reading import (CALL_STEP, STOP_STEP, Method, Point, Sheet, Step,
-                               read_sheet)
+from reference.reading import (BODY_LENGTHS, CALL_STEP, OWNED_POINT, STOP_STEP,
+                               Method, Point, Sheet, Step, read_sheet)
 from reference.rules import rule_count, subject_kind
 from reference.runs import Move
 from sheets import records as r
@@ -36,11 +36,18 @@ M19 = M18[:21] + STOP + M18[21:]
 
 
 def kind_cases():
-    """Refusal 2 anywhere in a sheet of the new edition."""
+    """Refusal 2 in a sheet of the new edition; and the byte 14, which is a kind since
+    document 02, Ask 9, anywhere in it."""
     for kind in (0, *range(20, 26), 255):
-        yield refused(f"2 kind {kind} behind the edition", 2, NEW, bytes([kind]))
+        yield refused(f"kind {kind} behind the edition", 3 if kind == 20 else 2, NEW,
+                      bytes([kind]))
     for index, before, after in positions(BASE):
-        yield refused(f"2 kind 20 at record {index}", 2, before, b"\x14", after)
+        number = 7  # what follows is taken for names
+        if len(after) < BODY_LENGTHS[OWNED_POINT - 1]:
+            number = 3
+        elif index and is_out_of_order(OWNED_POINT, BASE[index - 1][0]):
+            number = 4
+        yield refused(f"kind 20 at record {index}", number, before, b"\x14", after)
 
 
 def new_order_cases():
@@ -716,7 +723,7 @@ def sheet_cases():
     yield from faults.certificate_faults(232, sheets, 1, range(1, 25))
     yield from faults.broken_rules(233, 16, (25, 26), STOPPING_SHAPES)
     yield from faults.broken_rules(234, 1, range(1, 25), STOPPING_SHAPES)
-    yield from special.stop_examples()
+    yield from special.listed_among(special.STOP_EXAMPLES)
 
 
 def entry_sheet_cases():
@@ -727,7 +734,7 @@ def entry_sheet_cases():
     yield from faults.certificate_faults(251, sheets, 3, (26,))
     yield from faults.broken_rules(252, 4, (25, 26), STOPPING_SHAPES)
     yield from entry.point_sheets(253, sheets[:6], ENTRY)
-    yield from special.stop_examples(ENTRY)
+    yield from special.listed_among(special.STOP_EXAMPLES, ENTRY)
 
 
 def refused_groups():

@@ -300,7 +300,7 @@ class Numbering:
 
 
 def renamed(one, letter, new):
-    """A method or step with new names of one sort: c conditions, p points."""
+    """A point, method or step with new names of one sort: c conditions, p points."""
     fields = zip(FIELDS[one.kind], FIELD_NAMES[one.kind])
     return one._replace(**{name: new(getattr(one, name))
                            for sort, name in fields if sort == letter})
@@ -310,7 +310,7 @@ def shuffled_conditions(draws, sheet):
     """The same sheet with its conditions in another order."""
     order = draws.shuffled(range(len(sheet.conditions)))
     new = {old: number for number, old in enumerate(order)}
-    points = [Point(*(new[name] for name in point)) for point in sheet.points]
+    points = [renamed(one, "c", new.__getitem__) for one in sheet.points]
     methods = [renamed(one, "c", new.__getitem__) for one in sheet.methods]
     return sheet._replace(conditions=[sheet.conditions[old] for old in order],
                           points=points, methods=methods, certificates=[])

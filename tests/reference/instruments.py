@@ -7,10 +7,11 @@ OPTION = "--instrument"
 
 class Instrument(NamedTuple):
     """The limits in which instruments differ, any numbers, and the highest kind of a
-    record: 14 in document 01, 17 with Ask 2 of document 02, 19 with Ask 4."""
+    record: 14 in document 01, 17 with Ask 2 of document 02, 19 with Ask 4, 20 with
+    Ask 9."""
     bytes: int
     points: int
-    kinds: int = 19
+    kinds: int = 20
 
 
 LARGE = Instrument(65536, 512)

@@ -25,7 +25,7 @@ class Unproved(NamedTuple):
 
 
 def well_formed(data, instrument=LARGE):
-    """The sheet, or the first of refusals 1 to 10 and 18 to 20."""
+    """The sheet, or the first of refusals 1 to 10, 18 to 20, 24 and 25."""
     sheet = read_sheet(data, instrument)
     if isinstance(sheet, Refusal):
         return sheet

@@ -1,6 +1,7 @@
 """Document 01, "Records" and refusals 1 to 9 of "What the loader returns", on an
 instrument (document 02, Ask 8); calls that may fail and refusal 18 (Ask 2); sheets of
-the new edition, stops, refusals 19 and 20 (Ask 4).
+the new edition, stops, refusals 19 and 20 (Ask 4); points with an owner, refusals 24
+and 25 (Ask 9).
 
 A method of kinds 8 and 9 has one outcome, a method of kinds 15 and 16 two: the
 normal one and the failed one. In code an outcome is `failed`, False or True.
@@ -13,16 +14,16 @@ from .instruments import LARGE
 END_CONDITION, POINT, PRIMITIVE, METHOD = 6, 7, 8, 9
 EVENT_STEP, CALL_STEP, PASS_STEP, PAIR, END_CERTIFICATE = 10, 11, 12, 13, 14
 FAILING_PRIMITIVE, FAILING_METHOD, FAILING_CALL = 15, 16, 17
-EDITION, STOP_STEP = 18, 19
+EDITION, STOP_STEP, OWNED_POINT = 18, 19, 20
 
-BODY_LENGTHS = (4, 0, 0, 0, 0, 0, 6, 6, 10, 5, 6, 4, 5, 0, 10, 16, 8, 0, 2)
+BODY_LENGTHS = (4, 0, 0, 0, 0, 0, 6, 6, 10, 5, 6, 4, 5, 0, 10, 16, 8, 0, 2, 8)
 CONDITIONS, POINTS, METHODS, STEPS, CERTIFICATES = range(1, 6)
-SECTIONS = (1, 1, 1, 1, 1, 1, 2, 3, 3, 4, 4, 4, 5, 5, 3, 3, 4, 1, 4)
-# Fields of a body: c condition, p point, m method (2 bytes each), e event (1).
+SECTIONS = (1, 1, 1, 1, 1, 1, 2, 3, 3, 4, 4, 4, 5, 5, 3, 3, 4, 1, 4, 2)
+# Fields of a body: c condition, p point, m method, o owner (2 bytes each), e event (1).
 FIELDS = {POINT: "ccc", PRIMITIVE: "ccc", METHOD: "cccpp",
           EVENT_STEP: "ppe", CALL_STEP: "ppm", PASS_STEP: "pp",
           FAILING_PRIMITIVE: "ccccc", FAILING_METHOD: "cccppccp",
-          FAILING_CALL: "pppm", STOP_STEP: "p"}
+          FAILING_CALL: "pppm", STOP_STEP: "p", OWNED_POINT: "ccco"}
 # Their names in Point, Method and Step.
 FIELD_NAMES = {
     POINT: ("past", "own", "due"),
@@ -35,7 +36,8 @@ FIELD_NAMES = {
     FAILING_METHOD: ("pre", "trace", "future", "entry", "exit",
                      "failed_trace", "failed_future", "failed_exit"),
     FAILING_CALL: ("source", "target", "failed_target", "operand"),
-    STOP_STEP: ("source",)}
+    STOP_STEP: ("source",),
+    OWNED_POINT: ("past", "own", "due", "owner")}
 
 MAX_CONDITIONS = 256
 MAX_RECORDS = 96
@@ -60,9 +62,15 @@ class Record(NamedTuple):
 
 
 class Point(NamedTuple):
+    """A point; the owner is a method's number, or None where there is none."""
     past: int
     own: int
     due: int
+    owner: int | None = None
+
+    @property
+    def kind(self):
+        return POINT if self.owner is None else OWNED_POINT
 
 
 class Outcome(NamedTuple):
@@ -194,6 +202,7 @@ class Reader:
         self.records = 0          # its records of kinds 1 to 5
         self.leaves = 0
         self.pairs = None         # pairs of the open certificate
+        self.owners = []          # each owner with the offset of its point
 
     @property
     def condition_open(self):
@@ -234,12 +243,13 @@ class Reader:
         return section == STEPS and len(sheet.steps) == MAX_STEPS
 
     def has_bad_name(self, record):
+        """An owner may point forward, and is no name here."""
         if record.kind not in FIELDS:
             return False
         counts = {"c": len(self.sheet.conditions), "p": len(self.sheet.points),
                   "m": len(self.sheet.methods), "e": 32}
         return any(value >= counts[letter]
-                   for letter, value in fields_of(record))
+                   for letter, value in fields_of(record) if letter != "o")
 
     def is_primitive_first(self, record):
         return (record.kind in (PRIMITIVE, FAILING_PRIMITIVE)
@@ -251,8 +261,20 @@ class Reader:
         called = self.sheet.methods[named_fields(record)["operand"]]
         return called.may_fail != (record.kind == FAILING_CALL)
 
+    def has_other_owner(self, record):
+        """Whether a step joins points of different owners, or a method's entry, exit
+        or failed exit has another owner. Points without an owner agree with any."""
+        section = SECTIONS[record.kind - 1]
+        if section not in (METHODS, STEPS):
+            return False
+        owners = {self.sheet.points[value].owner
+                  for letter, value in fields_of(record) if letter == "p"}
+        if section == METHODS:
+            owners.add(len(self.sheet.methods))
+        return len(owners - {None}) > 1
+
     def refusal_at(self, record):
-        """Refusals 4, 19, 20, 5, 6, 7, 9 and 18 at one record, in this order."""
+        """Refusals 4, 19, 20, 5, 6, 7, 9, 18 and 24 at one record, in this order."""
         for number, applies in ((4, self.is_out_of_order),
                                 (19, self.is_late_edition),
                                 (20, self.is_stop_in_old_sheet),
@@ -260,17 +282,21 @@ class Reader:
                                 (6, self.is_over_limit),
                                 (7, self.has_bad_name),
                                 (9, self.is_primitive_first),
-                                (18, self.is_call_of_other_outcomes)):
+                                (18, self.is_call_of_other_outcomes),
+                                (24, self.has_other_owner)):
             if applies(record):
                 return Refusal(number, record.offset)
         return None
 
     def refusal_at_end(self, length):
-        """Refusals 8 and 9 at the end."""
+        """Refusals 8, 9 and 25 at the end."""
         if self.condition_open or self.certificate_open:
             return Refusal(8, length)
         if not self.sheet.methods:
             return Refusal(9, length)
+        for owner, offset in self.owners:
+            if owner >= len(self.sheet.methods):
+                return Refusal(25, offset)
         return None
 
     def add(self, record):
@@ -303,6 +329,8 @@ class Reader:
         fields = named_fields(record)
         if self.section == POINTS:
             self.sheet.points.append(Point(**fields))
+            if record.kind == OWNED_POINT:
+                self.owners.append((fields["owner"], record.offset))
         elif self.section == METHODS:
             self.sheet.methods.append(Method(**fields))
         else:
@@ -310,8 +338,8 @@ class Reader:
 
 
 def read_sheet(data, instrument=LARGE):
-    """The sheet that the bytes stand for, or the first of refusals 1 to 9 and 18 to
-    20."""
+    """The sheet that the bytes stand for, or the first of refusals 1 to 9, 18 to 20,
+    24 and 25."""
     if len(data) > instrument.bytes:
         return Refusal(1, instrument.bytes)
     reader, offset = Reader(instrument), 0
@@ -328,7 +356,7 @@ def read_sheet(data, instrument=LARGE):
 
 
 def reading_line(data, instrument=LARGE):
-    """One line: the refusal of 1 to 9 and 18 to 20, or the five counts."""
+    """One line: the refusal that ends reading, or the five counts."""
     result = read_sheet(data, instrument)
     if isinstance(result, Refusal):
         return f"refused {result.number} at {result.place}"

@@ -120,7 +120,8 @@ def pass_rules(number, p, q):
 
 def point_conditions(sheet, number):
     """The trees of a point's past, own and due."""
-    return [sheet.conditions[name] for name in sheet.points[number]]
+    past, own, due, _ = sheet.points[number]
+    return [sheet.conditions[name] for name in (past, own, due)]
 
 
 def step_rules(sheet, number):

@@ -1,6 +1,6 @@
 """Document 01, "Runs": the state of a run, its moves, and demand 3 on a state;
-document 02, Ask 2: calls that fail, Ask 4: stops, and Ask 12: what is owed while a
-run goes on.
+document 02, Ask 2: calls that fail, Ask 4: stops, Ask 9: the owner of the point, and
+Ask 12: what is owed while a run goes on.
 
 Demand 3: every call so far, the outermost activation too, began after a
 history in its pre; every returned call raised a word of its trace; if the
@@ -10,6 +10,9 @@ Ask 12: after a call has returned, and whenever control is in the activation
 that made it or in one of that activation's callers, the events raised since
 that return, followed by any word of the due at the present point, lie in the
 call's future.
+
+Ask 9: if all points have owners, the point of a run belongs to the active method as
+long as a call is open, also where the run has stopped.
 
 Failing is a way of returning. The trace and the future of a returned call are
 those of its outcome.
@@ -189,3 +192,16 @@ def first_owed_break(sheet, run, find=missing):
             if find(sheet, sheet.points[run.point].due, future, since) is not None:
                 return call, "owed"
     return None
+
+
+def all_owned(sheet):
+    """Whether every point has an owner."""
+    return all(point.owner is not None for point in sheet.points)
+
+
+def first_owner_break(sheet, run):
+    """The active call that breaks Ask 9 as (call, "owner"), or None."""
+    if run.active is None or not all_owned(sheet):
+        return None
+    owner = sheet.points[run.point].owner
+    return None if owner == run.active.method else (run.active, "owner")

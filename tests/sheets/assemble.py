@@ -1,6 +1,7 @@
 """Assembler for the sheets of document 01: python3 sheets/assemble.py FILE > sheet
 
-One statement a line; # starts a comment; names are defined before use.
+One statement a line; # starts a comment; names are defined before use, but for an
+owner's.
 docs/SHEETS.md has the whole form. `--instrument entry` in front of FILE holds the
 sheet to the limits of the entry instrument.
 
@@ -25,6 +26,10 @@ may have stops:
 
     edition new
     step POINT stop
+
+A point with an owner (document 02, Ask 9) says the method, which may come later:
+
+    point NAME past CONDITION own CONDITION due CONDITION owner METHOD
 
 The certificates are all reachable pairs, breadth first.
 """
@@ -82,6 +87,7 @@ class Assembler:
         self.words = {}       # names in expressions: events, conditions' trees
         self.conditions = {}  # numbers by name
         self.points = {}
+        self.owners = []      # by point: the line and the name, or None
         self.methods = {}
         self.method_lines = []
         self.step_lines = []
@@ -162,27 +168,29 @@ class Assembler:
         self.conditions[name] = len(self.sheet.conditions)
         self.sheet.conditions.append(tree)
 
-    def named(self, words, keys, statement, failed_keys=()):
-        """The name and the values, by key, of NAME key value key value ...; the
-        failed keys come all or not at all."""
+    def named(self, words, keys, statement, more=()):
+        """The name and the values, by key, of NAME key value key value ...; the keys
+        of more come all or not at all. An owner's value is its name."""
         found = keyed(words[1:])
-        if list(found or ()) not in (list(keys), list(keys + failed_keys)):
+        if list(found or ()) not in (list(keys), list(keys + more)):
             form = f"expected: {statement} NAME {shown(keys)}"
-            if failed_keys:
-                form += f", then all or none of {shown(failed_keys)}"
+            if more:
+                form += f", then all or none of {shown(more)}"
             self.fail(form)
         for key, word in found.items():
             if key.split()[-1] in ("entry", "exit"):
                 found[key] = self.find(word, self.points, "point")
-            else:
+            elif key != "owner":
                 found[key] = self.find(word, self.conditions, "condition")
         return words[0], {key.replace(" ", "_"): value
                           for key, value in found.items()}
 
     def point(self, words):
-        name, values = self.named(words, ("past", "own", "due"), "point")
+        name, values = self.named(words, ("past", "own", "due"), "point", ("owner",))
         self.room(self.sheet.points, self.instrument.points, "points")
         self.points[self.new_name(name, self.points)] = len(self.sheet.points)
+        owner = values.pop("owner", None)
+        self.owners.append(None if owner is None else (self.line, owner))
         self.sheet.points.append(Point(**values))
 
     def primitive(self, words):
@@ -245,12 +253,23 @@ class Assembler:
         return Step(FAILING_CALL, source, target, number,
                     self.find(failed_target[0], self.points, "point"))
 
+    def owned(self, point, owner):
+        """A point with its owner, if it has one."""
+        if owner is None:
+            return point
+        line, name = owner
+        if name not in self.methods:
+            raise TextError(line, f"unknown method '{name}'")
+        return point._replace(owner=self.methods[name])
+
     def finish(self):
         """The whole sheet with its certificates."""
         if not self.sheet.methods:
             self.fail("there is no method")
+        sheet = self.sheet._replace(points=list(map(self.owned, self.sheet.points,
+                                                    self.owners)))
         try:
-            return with_certificates(self.sheet, most_pairs(self.instrument))
+            return with_certificates(sheet, most_pairs(self.instrument))
         except TooManyPairs as error:
             rule = error.rule
             lines = (self.method_lines if rule.subject_kind == "method"

@@ -17,9 +17,9 @@ from reference.loader import load_line
 from reference.reading import (BODY_LENGTHS, CALL_STEP, EDITION, END_CERTIFICATE,
                                END_CONDITION, EVENT_STEP, FAILING_CALL,
                                FAILING_METHOD, FAILING_PRIMITIVE, FIELD_NAMES,
-                               METHOD, METHODS, PAIR, PASS_STEP, POINT, POINTS,
-                               PRIMITIVE, SECTIONS, STOP_STEP, Reader, Refusal,
-                               fields_of, pair_of, read_record)
+                               METHOD, METHODS, OWNED_POINT, PAIR, PASS_STEP, POINT,
+                               POINTS, PRIMITIVE, SECTIONS, STOP_STEP, Reader,
+                               Refusal, fields_of, pair_of, read_record)
 from reference.conditions import LEAF
 from reference.rules import all_rules
 
@@ -36,11 +36,11 @@ NAMES = {POINT: "point", PRIMITIVE: "primitive", METHOD: "method",
          EVENT_STEP: "event step", CALL_STEP: "call step",
          PASS_STEP: "pass step", FAILING_PRIMITIVE: "primitive",
          FAILING_METHOD: "method", FAILING_CALL: "call step",
-         STOP_STEP: "stop step"}
+         STOP_STEP: "stop step", OWNED_POINT: "point"}
 LONGEST = 1 + max(BODY_LENGTHS)
 
 
-def certificate_owners(sheet):
+def certified_rules(sheet):
     """What each certificate is for, in order."""
     return [f"rule {rule.number} {rule.subject_kind} {rule.subject}"
             for rule in all_rules(sheet) if rule.has_certificate]
@@ -51,15 +51,15 @@ class Printer:
 
     def __init__(self, instrument=LARGE):
         self.reader = Reader(instrument)
-        self.owners = None
+        self.rules = None
 
-    def owner(self):
+    def rule(self):
         """What the certificate that is read is for."""
-        if self.owners is None:
+        if self.rules is None:
             sheet = self.reader.sheet
-            self.owners = certificate_owners(sheet) if sheet.methods else []
+            self.rules = certified_rules(sheet) if sheet.methods else []
         number = len(self.reader.sheet.certificates)
-        return self.owners[number] if number < len(self.owners) else "no rule"
+        return self.rules[number] if number < len(self.rules) else "no rule"
 
     def numbered(self, record):
         """A record that is counted by itself: of a point, a method or a step."""
@@ -86,7 +86,7 @@ class Printer:
                     f"set {{{show_places(rights)}}}")
         if kind == END_CERTIFICATE:
             number = len(reader.sheet.certificates)
-            return f"end of certificate {number}: {self.owner()}"
+            return f"end of certificate {number}: {self.rule()}"
         if kind == EDITION:
             return "edition new"
         return self.numbered(record)

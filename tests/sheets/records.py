@@ -30,6 +30,10 @@ def point(past, own, due):
     return b"\x07" + u16(past, own, due)
 
 
+def owned_point(past, own, due, owner):
+    return b"\x14" + u16(past, own, due, owner)
+
+
 def primitive(pre, trace, future):
     return b"\x08" + u16(pre, trace, future)
 
@@ -82,13 +86,13 @@ def certificate(pairs):
     return b"".join(pair(*one) for one in pairs) + b"\x0e"
 
 
-WRITERS = {8: primitive, 9: method, 10: event_step, 11: call_step, 12: pass_step,
-           15: failing_primitive, 16: failing_method, 17: failing_call,
-           19: stop_step}
+WRITERS = {7: point, 8: primitive, 9: method, 10: event_step, 11: call_step,
+           12: pass_step, 15: failing_primitive, 16: failing_method,
+           17: failing_call, 19: stop_step, 20: owned_point}
 
 
 def named_record(one):
-    """The record of a method or of a step."""
+    """The record of a point, of a method or of a step."""
     return WRITERS[one.kind](*(getattr(one, name)
                                for name in FIELD_NAMES[one.kind]))
 
@@ -98,8 +102,7 @@ def encode(sheet):
     return b"".join(
         [edition()] * sheet.new
         + [condition(tree) for tree in sheet.conditions]
-        + [point(*one) for one in sheet.points]
-        + [named_record(one) for one in sheet.methods + sheet.steps]
+        + [named_record(one) for one in sheet.points + sheet.methods + sheet.steps]
         + [certificate(pairs) for pairs in sheet.certificates])
 
 
