@@ -7,8 +7,9 @@
  * for SHEET_LOADER_ROOM numbers, each door writes that many at its front:
  *
  *   out[0]     the status, which the door also returns
- *   out[1]     the number of documents 01 and 02: 1 to 10, 12 to 14 and 18 to 20
- *              of a refusal, 11 of an unproved sheet, 0 of any other answer
+ *   out[1]     the number of documents 01 and 02: 1 to 10, 12 to 14, 18 to 20,
+ *              24 and 25 of a refusal, 11 of an unproved sheet, 0 of any other
+ *              answer
  *   out[2]..   the values given below
  *   the rest   0
  *
@@ -67,7 +68,7 @@ size_t sheet_loader_word_test(size_t instrument, const uint8_t *sheet, size_t sh
                               size_t condition, const uint8_t *word, size_t word_len, size_t *out,
                               size_t out_len);
 
-/* Reads a sheet, refusals 1 to 9 and 18 to 20 alone.
+/* Reads a sheet, refusals 1 to 9, 18 to 20, 24 and 25 alone.
  *   READ_WHOLE  conditions, points, methods, steps, certificates
  *   REFUSED     place */
 #define SHEET_LOADER_READ_WHOLE 1

@@ -47,42 +47,48 @@ type Make = Box<dyn Fn(&str) -> Family>;
 
 /// The families by name; each is made where it is asked for.
 fn families() -> Vec<(&'static str, Make)> {
-    let smalls: [(&str, MakeSmall); 3] = [
+    let smalls: [(&str, MakeSmall); 4] = [
         ("small honest sheet", sheets::small_honest),
         ("small honest sheet, two outcomes", sheets::small_failing),
         ("small sheets that stop", sheets::small_stopping),
+        ("small honest sheet, owned points", sheets::small_owned),
     ];
-    let mut list: Vec<(&str, Make)> = vec![];
-    for (name, make) in smalls {
-        list.push((name, Box::new(move |name| small(name, make(200)))));
-    }
-    let loads: [(&str, MakeSheet); 4] = [
+    let loads: [(&str, MakeSheet); 5] = [
         ("as many rules as fit", sheets::many_rules),
         ("as many rules as fit, under 35 stars", sheets::starred_rules),
         ("new edition: as many rules as fit, under 35 stars", sheets::new_rules),
+        ("as many rules as fit, owned points", sheets::owned_rules),
         ("large honest certificate", sheets::large_certificate),
     ];
-    for (name, make) in loads {
-        list.push((name, Box::new(move |name| one_load(name, LARGE, make()))));
-    }
-    for (name, make) in sheets::HOSTILE {
-        list.push((name, Box::new(move |name| one_load(name, LARGE, make(usize::MAX)))));
-    }
     let words: [(&str, MakeWord); 3] = [
         ("word in the same places", sheets::steady_word),
         ("word in changing places", sheets::changing_word),
         ("word in one place at a time", sheets::single_word),
     ];
-    for (name, make) in words {
-        list.push((name, Box::new(move |name| one_word(name, make()))));
-    }
-    list.push(("reading alone", Box::new(|name| reading(name, sheets::many_rules()))));
-    let records = |name: &str| reading(name, sheets::many_records());
-    list.push(("reading alone, most records", Box::new(records)));
-    for (name, make) in sheets::ENTRY_SHEETS {
-        list.push((name, Box::new(move |name| one_load(name, ENTRY, make()))));
-    }
+    let readings: [(&str, MakeSheet); 3] = [
+        ("reading alone", sheets::many_rules),
+        ("reading alone, most records", sheets::many_records),
+        ("reading alone, owned points", sheets::owned_rules),
+    ];
+    let mut list: Vec<(&str, Make)> = vec![];
+    add(&mut list, &smalls, |name, make| small(name, make(200)));
+    add(&mut list, &loads, |name, make| one_load(name, LARGE, make()));
+    add(&mut list, &sheets::HOSTILE, |name, make| one_load(name, LARGE, make(usize::MAX)));
+    add(&mut list, &words, |name, make| one_word(name, make()));
+    add(&mut list, &readings, |name, make| reading(name, make()));
+    add(&mut list, &sheets::ENTRY_SHEETS, |name, make| one_load(name, ENTRY, make()));
     list
+}
+
+/// Adds families, given the names, what makes the sheets, and the family of these.
+fn add<M: Copy + 'static>(
+    list: &mut Vec<(&'static str, Make)>,
+    named: &[(&'static str, M)],
+    family: fn(&str, M) -> Family,
+) {
+    for &(name, make) in named {
+        list.push((name, Box::new(move |name| family(name, make))));
+    }
 }
 
 fn small(name: &str, small: Vec<Vec<u8>>) -> Family {

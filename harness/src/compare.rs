@@ -1,11 +1,11 @@
 //! Two loaders on the same random sheets and words, on a smaller and a larger
-//! instrument each; what request 8 states of the two instruments, and what requests 2
-//! and 4 leave as it was.
+//! instrument each; what request 8 states of the two instruments, and what requests 2,
+//! 4 and 9 leave as it was.
 mod seen;
 
 use crate::answer::{Answer, Counts, Doors, Refusal, Verdict};
 use crate::former::{Asked, Former};
-use crate::instrument::{Instrument, ENTRY, LARGE};
+use crate::instrument::{Instrument, ENTRY, FORMER_KINDS, LARGE};
 use crate::random::Random;
 use crate::sheets::{self, Test};
 use crate::smaller::{Related, Ways};
@@ -33,7 +33,7 @@ struct Comparison<'a> {
     models: Related,
     limits: Related,
     /// The first loader's answers with fewer kinds, and the second's with all.
-    former: [Former; 2],
+    former: [Former; FORMER_KINDS.len()],
     /// Whether the second loader takes any limits.
     any_limits: bool,
 }

@@ -1,4 +1,4 @@
-//! What requests 2 and 4 leave as it was, on the answers to one sheet with kinds up to
+//! What requests 2, 4 and 9 leave as it was, on the answers to one sheet with kinds up to
 //! a former highest one and with all kinds: the former answer is refused 2 at a record
 //! of a later kind, or equal to the latter with all its values.
 use crate::answer::{Refusal, Verdict};
@@ -58,7 +58,7 @@ pub struct Former {
 
 impl Former {
     /// One for each former highest kind.
-    pub fn all() -> [Former; 2] {
+    pub fn all() -> [Former; FORMER_KINDS.len()] {
         FORMER_KINDS.map(|kinds| Former { kinds, ways: Default::default(), now: [0; 3] })
     }
 

@@ -15,9 +15,9 @@ pub struct Instrument {
 }
 
 /// The highest kind.
-pub const KINDS: u8 = 19;
-/// The highest before request 2, and the highest before request 4.
-pub const FORMER_KINDS: [u8; 2] = [14, 17];
+pub const KINDS: u8 = 20;
+/// The highest before request 2, before request 4, and before request 9.
+pub const FORMER_KINDS: [u8; 3] = [14, 17, 19];
 
 pub const LARGE: Instrument =
     Instrument { name: "large", number: header::LARGE, bytes: 65_536, points: 512, kinds: KINDS };

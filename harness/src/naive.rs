@@ -11,8 +11,8 @@ use crate::instrument::{Instrument, ENTRY};
 use crate::tree::Tree;
 pub use glushkov::Side;
 pub use matching::{holds, holds_empty};
-pub use reading::{read as read_sheet, Act, Outcome, Sheet};
-use reading::{Method, Point, Step};
+pub use reading::{read as read_sheet, read_without, Act, Outcome, Sheet, Step};
+use reading::{Method, Point};
 
 pub const DOORS: Doors = Doors { name: "naive", load, load_entry, word_test, read };
 
@@ -32,14 +32,7 @@ pub struct Rule {
 type Pairs = [(usize, u32)];
 
 pub fn read(on: &Instrument, bytes: &[u8]) -> Result<Counts, Refusal> {
-    let sheet = reading::read(on, bytes)?;
-    Ok(Counts {
-        conditions: sheet.conditions.len(),
-        points: sheet.points.len(),
-        methods: sheet.methods.len(),
-        steps: sheet.steps.len(),
-        certificates: sheet.certificates.len(),
-    })
+    reading::read(on, bytes).map(|sheet| sheet.counts())
 }
 
 pub fn load_entry(bytes: &[u8]) -> Verdict {

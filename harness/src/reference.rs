@@ -16,7 +16,7 @@ const LONGEST_WORD: usize = 4_096;
 
 pub const DOORS: Doors = Doors { name: "reference", load, load_entry, word_test, read };
 
-/// Reading alone: refusals 1 to 9 and 18 to 20, or the tally.
+/// Reading alone: refusals 1 to 9, 18 to 20, 24 and 25, or the tally.
 pub fn read(on: &Instrument, sheet: &[u8]) -> Result<Counts, Refusal> {
     Sheet::read(on, sheet).map(|sheet| sheet.counts)
 }

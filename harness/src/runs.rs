@@ -1,5 +1,5 @@
 //! Runs of a sheet and what is promised of them: document 01, "Runs", with
-//! demand 3, and document 02, Asks 2, 4 and 12.
+//! demand 3, and document 02, Asks 2, 4, 9 and 12.
 use crate::derivatives::missing_word;
 use crate::naive::{holds, Act, Outcome, Sheet};
 use crate::random::Random;
@@ -156,6 +156,14 @@ impl<'a> Run<'a> {
         self.history.extend_from_slice(word);
         self.close(outcome, target);
         true
+    }
+
+    /// Whether a call is open, and control is at a point whose owner is not the active
+    /// call's method.
+    pub fn elsewhere(&self) -> bool {
+        let owner = self.sheet.points[self.point].owner;
+        let active = self.open.last().map(|&call| self.calls[call].method);
+        active.is_some() && owner.is_some() && active != owner
     }
 
     /// Whether control is in the activation that made a call, or in one of that

@@ -7,6 +7,7 @@ mod honest;
 mod hostile;
 mod limits;
 mod mutate;
+mod owners;
 mod stopping;
 mod stray;
 mod words;
@@ -22,8 +23,9 @@ pub use draft::{certificate, Method, Step, MOST_PAIRS};
 pub use failing::failing;
 use families::entry_rules;
 pub use families::{
-    changing_word, large_certificate, many_records, many_rules, new_rules, single_word,
-    small_failing, small_honest, small_stopping, starred_rules, steady_word,
+    changing_word, large_certificate, many_records, many_rules, new_rules, owned_rules,
+    single_word, small_failing, small_honest, small_owned, small_stopping, starred_rules,
+    steady_word,
 };
 #[cfg(test)]
 pub use honest::spoil;
@@ -31,6 +33,9 @@ pub use hostile::HOSTILE;
 pub use limits::limits;
 #[cfg(test)]
 pub use limits::of_length;
+pub use owners::{all_owned, rightly_owned};
+#[cfg(test)]
+pub use owners::{give as give_owners, right as right_owners};
 #[cfg(test)]
 pub use stopping::{large as large_stopping, stopping};
 #[cfg(test)]
@@ -38,8 +43,16 @@ pub use stray::{least, row};
 pub use words::{words, Test};
 pub use worst::{Recipe, WORST, WORST_ENTRY};
 
-/// One sheet of a random sort.
+/// One sheet of a random sort; of a third, points have owners.
 pub fn sheet(random: &mut Random) -> Vec<u8> {
+    let sheet = any_sort(random);
+    match random.below(3) {
+        0 => owners::owned(&sheet, random),
+        _ => sheet,
+    }
+}
+
+fn any_sort(random: &mut Random) -> Vec<u8> {
     match random.below(100) {
         0..=4 => stray::bytes(random),
         5..=19 => stray::records(random),
@@ -80,6 +93,12 @@ pub fn is_new(sheet: &[u8]) -> bool {
 /// Whether a sheet has a stop among its records.
 pub fn has_stop(sheet: &[u8]) -> bool {
     mutate::split(sheet).iter().any(|record| record[0] == 19)
+}
+
+/// The numbers of a sheet's points, and of those of them that have an owner.
+pub fn points(sheet: &[u8]) -> (usize, usize) {
+    let points = mutate::split(sheet).into_iter().filter(|record| mutate::is_point(record));
+    points.fold((0, 0), |(all, owned), record| (all + 1, owned + (record[0] == 20) as usize))
 }
 
 /// What makes a sheet, with its name.

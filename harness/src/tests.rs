@@ -5,6 +5,7 @@ mod doors;
 mod instruments;
 mod kinds;
 mod outcomes;
+mod owners;
 mod reading;
 mod runs;
 mod stops;

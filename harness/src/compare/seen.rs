@@ -4,7 +4,7 @@ use crate::instrument::{Instrument, BOTH, ENTRY};
 use crate::sheets;
 
 /// The numbers of refusals.
-const REFUSALS: [usize; 16] = [1, 2, 3, 4, 5, 6, 7, 8, 9, 10, 12, 13, 14, 18, 19, 20];
+const REFUSALS: [usize; 18] = [1, 2, 3, 4, 5, 6, 7, 8, 9, 10, 12, 13, 14, 18, 19, 20, 24, 25];
 
 /// The answers on one instrument.
 #[derive(Default)]
@@ -13,14 +13,18 @@ struct Answers {
     /// Accepted sheets of the new edition, and those of them with a stop.
     accepted_new: usize,
     accepted_stops: usize,
-    /// Unproved sheets of the new edition.
+    /// Accepted sheets with owners: for some points, and for all.
+    accepted_owned: usize,
+    accepted_all_owned: usize,
+    /// Unproved sheets of the new edition, and those with owners.
     unproved_new: usize,
-    refused: [usize; 21],
+    unproved_owned: usize,
+    refused: [usize; 26],
     /// By rule and clause.
     unproved: [[usize; 6]; 27],
     yes: usize,
     no: usize,
-    word_refused: [usize; 21],
+    word_refused: [usize; 26],
 }
 
 /// Sheets with so many bytes or points, and those of them that each instrument accepts.
@@ -53,16 +57,20 @@ impl Seen {
     pub fn verdict(&mut self, on: &Instrument, sheet: &[u8], verdict: &Verdict) {
         let Some(seen) = self.answers(on) else { return };
         let new = sheets::is_new(sheet) as usize;
+        let (points, owned) = sheets::points(sheet);
         match verdict {
             Verdict::Accepted(_) => {
                 seen.accepted += 1;
                 seen.accepted_new += new;
                 seen.accepted_stops += sheets::has_stop(sheet) as usize;
+                seen.accepted_owned += (owned > 0 && owned < points) as usize;
+                seen.accepted_all_owned += (owned == points) as usize;
             }
             Verdict::Refused(refusal) => seen.refused[refusal.number] += 1,
             Verdict::Unproved { rule, fault, .. } => {
                 seen.unproved[*rule][fault.clause] += 1;
                 seen.unproved_new += new;
+                seen.unproved_owned += (owned > 0) as usize;
             }
         }
     }
@@ -114,6 +122,9 @@ impl Seen {
         println!("| accepted | {} | {} | | |", a.accepted, b.accepted);
         println!("| accepted, new edition | {} | {} | | |", a.accepted_new, b.accepted_new);
         println!("| accepted, with a stop | {} | {} | | |", a.accepted_stops, b.accepted_stops);
+        let (some, all) = ("owners of some points", "owners of all points");
+        println!("| accepted, {some} | {} | {} | | |", a.accepted_owned, b.accepted_owned);
+        println!("| accepted, {all} | {} | {} | | |", a.accepted_all_owned, b.accepted_all_owned);
         println!("| yes | | | {} | {} |", a.yes, b.yes);
         println!("| no | | | {} | {} |", a.no, b.no);
         for i in REFUSALS {
@@ -123,6 +134,7 @@ impl Seen {
         let [all, also] = [a, b].map(|seen| seen.unproved.iter().flatten().sum::<usize>());
         println!("| unproved | {all} | {also} | | |");
         println!("| unproved, new edition | {} | {} | | |", a.unproved_new, b.unproved_new);
+        println!("| unproved, with owners | {} | {} | | |", a.unproved_owned, b.unproved_owned);
     }
 }
 

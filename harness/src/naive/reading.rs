@@ -1,10 +1,11 @@
 //! Reading by looking back over the list of records before each record.
-use crate::answer::Refusal;
+use crate::answer::{Counts, Refusal};
 use crate::instrument::Instrument;
 use crate::tree::Tree;
 
-const BODY_LENGTHS: [usize; 19] = [4, 0, 0, 0, 0, 0, 6, 6, 10, 5, 6, 4, 5, 0, 10, 16, 8, 0, 2];
+const BODY_LENGTHS: [usize; 20] = [4, 0, 0, 0, 0, 0, 6, 6, 10, 5, 6, 4, 5, 0, 10, 16, 8, 0, 2, 8];
 
+const POINTS: [u8; 2] = [7, 20];
 const METHODS: [u8; 4] = [8, 9, 15, 16];
 const STEPS: [u8; 5] = [10, 11, 12, 17, 19];
 
@@ -19,6 +20,8 @@ pub struct Point {
     pub past: usize,
     pub own: usize,
     pub due: usize,
+    /// A method's number.
+    pub owner: Option<usize>,
 }
 
 /// How a call returns.
@@ -87,13 +90,40 @@ pub struct Sheet {
     pub certificates: Vec<Vec<(usize, u32)>>,
 }
 
+impl Sheet {
+    /// Whether every point has an owner.
+    pub fn all_owned(&self) -> bool {
+        self.points.iter().all(|point| point.owner.is_some())
+    }
+
+    pub fn counts(&self) -> Counts {
+        Counts {
+            conditions: self.conditions.len(),
+            points: self.points.len(),
+            methods: self.methods.len(),
+            steps: self.steps.len(),
+            certificates: self.certificates.len(),
+        }
+    }
+}
+
 pub fn read(on: &Instrument, bytes: &[u8]) -> Result<Sheet, Refusal> {
+    read_without(None, on, bytes)
+}
+
+/// Reading that leaves out one of the refusals of a record.
+pub fn read_without(
+    left_out: Option<usize>,
+    on: &Instrument,
+    bytes: &[u8],
+) -> Result<Sheet, Refusal> {
     if bytes.len() > on.bytes {
         return Err(Refusal::at(1, on.bytes));
     }
     let (records, cut) = split(on, bytes);
     for (i, record) in records.iter().enumerate() {
-        if let Some(number) = refusal(on, &records[..i], record) {
+        let mut refusals = refusals(on, &records[..i], record);
+        if let Some(number) = refusals.find(|number| Some(*number) != left_out) {
             return Err(Refusal::at(number, record.offset));
         }
     }
@@ -106,6 +136,9 @@ pub fn read(on: &Instrument, bytes: &[u8]) -> Result<Sheet, Refusal> {
     }
     if count(&records, &METHODS) == 0 {
         return Err(Refusal::at(9, bytes.len()));
+    }
+    if let Some(point) = records.iter().find(|record| unknown_owner(&records, record)) {
+        return Err(Refusal::at(25, point.offset));
     }
     Ok(build(&records))
 }
@@ -129,10 +162,14 @@ fn split<'a>(on: &Instrument, bytes: &'a [u8]) -> (Vec<Record<'a>>, Option<Refus
     (records, None)
 }
 
-/// The first of 4 to 7, 9 and 18 to 20 that applies to a record.
-fn refusal(on: &Instrument, before: &[Record], record: &Record) -> Option<usize> {
+/// Those of 4 to 7, 9, 18 to 20 and 24 that apply to a record, in their order.
+fn refusals<'a>(
+    on: &'a Instrument,
+    before: &'a [Record],
+    record: &'a Record,
+) -> impl Iterator<Item = usize> + 'a {
     type Test = fn(&Instrument, &[Record], &Record) -> bool;
-    let tests: [(usize, Test); 8] = [
+    let tests: [(usize, Test); 9] = [
         (4, |_, before, record| misplaced(before, record)),
         (19, |_, before, record| record.kind == 18 && !before.is_empty()),
         (20, |_, before, record| record.kind == 19 && !new_edition(before)),
@@ -141,12 +178,14 @@ fn refusal(on: &Instrument, before: &[Record], record: &Record) -> Option<usize>
         (7, |_, before, record| misnamed(before, record)),
         (9, |_, before, record| primitive_first(before, record)),
         (18, |_, before, record| other_outcomes(before, record)),
+        (24, |_, before, record| other_owners(before, record)),
     ];
-    tests.iter().find(|(_, test)| test(on, before, record)).map(|(number, _)| *number)
+    let applies = move |&(_, test): &(usize, Test)| test(on, before, record);
+    tests.into_iter().filter(applies).map(|(number, _)| number)
 }
 
 fn section(kind: u8) -> usize {
-    let sections: [&[u8]; 5] = [&[1, 2, 3, 4, 5, 6, 18], &[7], &METHODS, &STEPS, &[13, 14]];
+    let sections: [&[u8]; 5] = [&[1, 2, 3, 4, 5, 6, 18], &POINTS, &METHODS, &STEPS, &[13, 14]];
     sections.iter().position(|kinds| kinds.contains(&kind)).unwrap()
 }
 
@@ -191,7 +230,7 @@ fn too_many(on: &Instrument, before: &[Record], record: &Record) -> bool {
         1 if count(open_condition(before), &[1]) + 1 > 31 => true,
         1..=5 => open_condition(before).len() + 1 > 96,
         6 => count(before, &[6]) + 1 > 256,
-        7 => count(before, &[7]) + 1 > on.points,
+        kind if POINTS.contains(&kind) => count(before, &POINTS) + 1 > on.points,
         kind if METHODS.contains(&kind) => count(before, &METHODS) + 1 > 64,
         kind if STEPS.contains(&kind) => count(before, &STEPS) + 1 > 512,
         _ => false,
@@ -209,15 +248,15 @@ fn misnamed(before: &[Record], record: &Record) -> bool {
         indices.iter().any(|&i| name(body, i) >= bound)
     };
     match record.kind {
-        7 | 8 => any(&[0, 1, 2], &[6]),
-        9 => any(&[0, 1, 2], &[6]) || any(&[3, 4], &[7]),
-        10 => any(&[0, 1], &[7]) || body[4] > 31,
-        11 => any(&[0, 1], &[7]) || any(&[2], &METHODS),
-        12 => any(&[0, 1], &[7]),
-        19 => any(&[0], &[7]),
+        7 | 8 | 20 => any(&[0, 1, 2], &[6]),
+        9 => any(&[0, 1, 2], &[6]) || any(&[3, 4], &POINTS),
+        10 => any(&[0, 1], &POINTS) || body[4] > 31,
+        11 => any(&[0, 1], &POINTS) || any(&[2], &METHODS),
+        12 => any(&[0, 1], &POINTS),
+        19 => any(&[0], &POINTS),
         15 => any(&[0, 1, 2, 3, 4], &[6]),
-        16 => any(&[0, 1, 2, 5, 6], &[6]) || any(&[3, 4, 7], &[7]),
-        17 => any(&[0, 1, 2], &[7]) || any(&[3], &METHODS),
+        16 => any(&[0, 1, 2, 5, 6], &[6]) || any(&[3, 4, 7], &POINTS),
+        17 => any(&[0, 1, 2], &POINTS) || any(&[3], &METHODS),
         _ => false,
     }
 }
@@ -238,6 +277,40 @@ fn other_outcomes(before: &[Record], record: &Record) -> bool {
     methods.nth(method).is_some_and(|named| others.contains(&named.kind))
 }
 
+/// The owner of a point, by its number, if it has one.
+fn owner(before: &[Record], point: usize) -> Option<usize> {
+    let mut points = before.iter().filter(|record| POINTS.contains(&record.kind));
+    points.nth(point).filter(|point| point.kind == 20).map(|point| name(point.body, 3))
+}
+
+/// A step joins two points of different owners, or a method has an entry or an exit of
+/// another owner than the method.
+fn other_owners(before: &[Record], record: &Record) -> bool {
+    let owners = |indices: &[usize]| -> Vec<usize> {
+        indices.iter().filter_map(|&i| owner(before, name(record.body, i))).collect()
+    };
+    let others = |indices: &[usize]| {
+        let number = count(before, &METHODS);
+        owners(indices).iter().any(|&owner| owner != number)
+    };
+    let differ = |indices: &[usize]| {
+        let owners = owners(indices);
+        owners.iter().any(|one| owners.iter().any(|two| one != two))
+    };
+    match record.kind {
+        9 => others(&[3, 4]),
+        16 => others(&[3, 4, 7]),
+        10..=12 => differ(&[0, 1]),
+        17 => differ(&[0, 1, 2]),
+        _ => false,
+    }
+}
+
+/// A point has an owner that is none of the sheet's methods.
+fn unknown_owner(all: &[Record], record: &Record) -> bool {
+    record.kind == 20 && name(record.body, 3) >= count(all, &METHODS)
+}
+
 /// The parts of a sheet whose records are all in order.
 fn build(records: &[Record]) -> Sheet {
     let mut sheet = Sheet { new_edition: new_edition(records), ..Sheet::default() };
@@ -248,9 +321,10 @@ fn build(records: &[Record]) -> Sheet {
         match record.kind {
             1..=5 => token(record, &mut items),
             6 => sheet.conditions.push(items.pop().unwrap()),
-            7 => {
+            7 | 20 => {
                 let (past, own, due) = (name(body, 0), name(body, 1), name(body, 2));
-                sheet.points.push(Point { past, own, due });
+                let owner = (record.kind == 20).then(|| name(body, 3));
+                sheet.points.push(Point { past, own, due, owner });
             }
             8 | 9 | 15 | 16 => sheet.methods.push(method(record)),
             10 | 11 | 12 | 17 | 19 => sheet.steps.push(step(record)),

@@ -1,4 +1,4 @@
-//! Reading a sheet: refusals 1 to 9 and 18 to 20, and where its parts are.
+//! Reading a sheet: refusals 1 to 9, 18 to 20, 24 and 25, and where its parts are.
 use crate::answer::{Counts, Refusal};
 use crate::instrument::{Instrument, KINDS};
 
@@ -9,15 +9,17 @@ const METHODS: usize = 64;
 const STEPS: usize = 512;
 
 /// The most points with which the last method starts below 65,536, whatever the bytes:
-/// the edition's byte, 256 conditions of 221 bytes at most, 63 methods of 17 and 1,126
-/// points of 7.
-const MOST_POINTS: usize = 1_126;
+/// the edition's byte, 256 conditions of 221 bytes at most, 63 methods of 17 and 876
+/// points of 9.
+const MOST_POINTS: usize = 876;
 
 /// By kind, with a row for every byte, so that no index is tested.
-const BODY: [u8; 256] = rows([0, 4, 0, 0, 0, 0, 0, 6, 6, 10, 5, 6, 4, 5, 0, 10, 16, 8, 0, 2]);
-const SECTION: [u8; 256] = rows([0, 1, 1, 1, 1, 1, 1, 2, 3, 3, 4, 4, 4, 5, 5, 3, 3, 4, 1, 4]);
+const BODY: [u8; 256] = rows([0, 4, 0, 0, 0, 0, 0, 6, 6, 10, 5, 6, 4, 5, 0, 10, 16, 8, 0, 2, 8]);
+const SECTION: [u8; 256] = rows([0, 1, 1, 1, 1, 1, 1, 2, 3, 3, 4, 4, 4, 5, 5, 3, 3, 4, 1, 4, 2]);
 
+/// A point's record without an owner, and with one, which follows the three names.
 const POINT_LENGTH: usize = 7;
+const OWNED_LENGTH: usize = 9;
 
 /// The rows of the kinds from 0 on; there is no kind 0, nor one above the last.
 const fn rows(kinds: [u8; KINDS as usize + 1]) -> [u8; 256] {
@@ -37,7 +39,7 @@ struct Number {
     two: usize,
 }
 
-/// A sheet that none of 1 to 9 and 18 to 20 applies to.
+/// A sheet that none of 1 to 9, 18 to 20, 24 and 25 applies to.
 pub struct Sheet<'a> {
     pub bytes: &'a [u8],
     pub counts: Counts,
@@ -50,6 +52,9 @@ pub struct Sheet<'a> {
     entering: usize,
     stops: usize,
     condition_ends: [u16; CONDITIONS],
+    /// Where the points are, up to the last that has an owner; those behind it stand from
+    /// `points_at` on. A sheet without owners has no list.
+    owned_at: Vec<u16>,
     points_at: usize,
     methods_at: [u16; METHODS],
     /// Where the first step is, and from there each.
@@ -141,8 +146,17 @@ impl<'a> Sheet<'a> {
     }
 
     pub fn point(&self, number: usize) -> Point {
-        let at = self.points_at + POINT_LENGTH * number + 1;
+        let at = 1 + match self.owned_at.get(number) {
+            Some(&at) => at as usize,
+            None => self.points_at + POINT_LENGTH * (number - self.owned_at.len()),
+        };
         Point { past: self.name(at), own: self.name(at + 2), due: self.name(at + 4) }
+    }
+
+    /// The owner of the point that is at an offset, if it has one.
+    fn owner(&self, at: u16) -> Option<usize> {
+        let at = at as usize;
+        (self.bytes[at] == 20).then(|| self.name(at + POINT_LENGTH))
     }
 
     /// The conditions of an outcome, which stand side by side.
@@ -219,6 +233,8 @@ struct Reader<'a> {
     sheet: Sheet<'a>,
     /// The most points.
     points: usize,
+    /// One more than the highest owner; 0 if there is none.
+    owners: usize,
     section: u8,
     /// Records, leaves and items of the open condition.
     records: usize,
@@ -239,16 +255,26 @@ impl<'a> Reader<'a> {
             entering: 0,
             stops: 0,
             condition_ends: [0; CONDITIONS],
+            owned_at: vec![],
             points_at: 0,
             methods_at: [0; METHODS],
             first_step: 0,
             steps_at: [0; STEPS],
         };
-        Reader { sheet, points, section: 0, records: 0, leaves: 0, items: 0, in_certificate: false }
+        Reader {
+            sheet,
+            points,
+            owners: 0,
+            section: 0,
+            records: 0,
+            leaves: 0,
+            items: 0,
+            in_certificate: false,
+        }
     }
 
-    /// One whole record; an error is the number of its refusal. Methods, steps and the
-    /// edition are few, and kept out of the loop over all records.
+    /// One whole record; an error is the number of its refusal. Methods, steps, owners and
+    /// the edition are few, and kept out of the loop over all records.
     #[inline(always)]
     fn record(&mut self, kind: u8, at: usize) -> Result<(), usize> {
         let section = SECTION[kind as usize];
@@ -273,15 +299,17 @@ impl<'a> Reader<'a> {
                 Ok(())
             }
             8 | 9 | 15 | 16 => self.method(kind, at),
-            _ => self.step_or_edition(kind, at),
+            _ => self.other(kind, at),
         }
     }
 
+    /// A step, a point with an owner, or the edition.
     #[inline(never)]
-    fn step_or_edition(&mut self, kind: u8, at: usize) -> Result<(), usize> {
+    fn other(&mut self, kind: u8, at: usize) -> Result<(), usize> {
         match kind {
             18 => self.edition(at),
             19 => self.stop(at),
+            20 => self.owned_point(at),
             _ => self.step(kind, at),
         }
     }
@@ -338,6 +366,7 @@ impl<'a> Reader<'a> {
         }
     }
 
+    #[inline(always)]
     fn point(&mut self, at: usize) -> Result<(), usize> {
         let number = self.sheet.counts.points;
         if number == self.points {
@@ -348,6 +377,37 @@ impl<'a> Reader<'a> {
             self.sheet.points_at = at;
         }
         self.sheet.counts.points += 1;
+        Ok(())
+    }
+
+    /// A point with an owner. It is listed, and those before it that are not.
+    fn owned_point(&mut self, at: usize) -> Result<(), usize> {
+        self.point(at)?;
+        let Sheet { owned_at, points_at, .. } = &mut self.sheet;
+        if owned_at.is_empty() {
+            owned_at.reserve(self.points);
+        }
+        while *points_at < at {
+            owned_at.push(*points_at as u16);
+            *points_at += POINT_LENGTH;
+        }
+        owned_at.push(at as u16);
+        *points_at = at + OWNED_LENGTH;
+        self.owners = self.owners.max(self.sheet.name(at + POINT_LENGTH) + 1);
+        Ok(())
+    }
+
+    /// 24, unless an owner, if one is given, and those of as many points, named from `at`
+    /// on, are all equal; a point without owner agrees with any.
+    fn agree(&self, mut owner: Option<usize>, at: usize, many: usize) -> Result<(), usize> {
+        for i in 0..many {
+            let point = self.sheet.owned_at.get(self.sheet.name(at + 2 * i));
+            let found = point.and_then(|&at| self.sheet.owner(at));
+            if owner.is_some() && found.is_some() && owner != found {
+                return Err(24);
+            }
+            owner = owner.or(found);
+        }
         Ok(())
     }
 
@@ -371,6 +431,10 @@ impl<'a> Reader<'a> {
         if number == 0 && (kind == 8 || kind == 15) {
             return Err(9);
         }
+        if self.owners > 0 && has_body(kind) {
+            self.agree(Some(number), at + 7, 2)?;
+            self.agree(Some(number), at + 15, (kind == 16) as usize)?;
+        }
         self.sheet.methods_at[number] = at as u16;
         self.sheet.counts.methods += 1;
         Ok(())
@@ -391,6 +455,9 @@ impl<'a> Reader<'a> {
                 self.call(at + 7, true)?;
             }
             _ => {}
+        }
+        if self.owners > 0 {
+            self.agree(None, at + 1, if kind == 17 { 3 } else { 2 })?;
         }
         self.add_step(at);
         Ok(())
@@ -441,6 +508,19 @@ impl<'a> Reader<'a> {
         if self.sheet.counts.methods == 0 {
             return Err(Refusal::at(9, length));
         }
-        Ok(self.sheet)
+        match self.unknown_owner() {
+            Some(&at) => Err(Refusal::at(25, at as usize)),
+            None => Ok(self.sheet),
+        }
+    }
+
+    /// Where the first point is whose owner is no method, if there is one.
+    fn unknown_owner(&self) -> Option<&u16> {
+        let methods = self.sheet.counts.methods;
+        if self.owners <= methods {
+            return None;
+        }
+        let unknown = |at: u16| self.sheet.owner(at).is_some_and(|owner| owner >= methods);
+        self.sheet.owned_at.iter().find(|&&at| unknown(at))
     }
 }

@@ -3,6 +3,7 @@ use super::draft::{certify, Draft, Method, Step};
 use super::failing::failing;
 use super::honest::honest;
 use super::hostile::by_entry;
+use super::owners::rightly_owned;
 use super::stopping::stopping;
 use super::stray::{least, row};
 use crate::answer::Verdict;
@@ -47,6 +48,16 @@ pub fn small_stopping(count: usize) -> Vec<Vec<u8>> {
     })
 }
 
+/// The small accepted sheets, with owners of all points.
+pub fn small_owned(count: usize) -> Vec<Vec<u8>> {
+    small_honest(count).iter().map(|sheet| owned(sheet)).collect()
+}
+
+/// A sheet with right owners, which all its points can have.
+fn owned(sheet: &[u8]) -> Vec<u8> {
+    rightly_owned(sheet, &mut Random::new(9))
+}
+
 fn small(count: usize, make: fn(&mut Random) -> Draft) -> Vec<Vec<u8>> {
     let mut random = Random::new(7);
     let mut sheets = vec![];
@@ -74,6 +85,13 @@ pub fn starred_rules() -> Vec<u8> {
 /// The same in the new edition, where each call has one rule more: 3,330 rules.
 pub fn new_rules() -> Vec<u8> {
     rules_on(&starred(mostly_dead(), 35), &LARGE, 64, 512, true)
+}
+
+/// The same rules as of `many_rules`, with owners of all 512 points in place of some
+/// conditions that nothing names.
+pub fn owned_rules() -> Vec<u8> {
+    let on = Instrument { bytes: LARGE.bytes - 2 * LARGE.points, ..LARGE };
+    owned(&rules_on(&mostly_dead().star(), &on, 64, 512, false))
 }
 
 /// As many calls as fit on the entry instrument: one method and 83 steps on its 64

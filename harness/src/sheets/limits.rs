@@ -1,7 +1,8 @@
 //! Sheets around the limits of the entry instrument, and limits around a sheet.
 use super::draft::{certificate, Draft, Method, Step};
 use super::honest::{fitted, random_step};
-use super::mutate::mutate;
+use super::mutate::{is_point, mutate, split};
+use super::owners::{give, right, Owners};
 use super::stopping::either_edition;
 use crate::answer::Refusal;
 use crate::instrument::{Instrument, ENTRY, LARGE};
@@ -21,18 +22,22 @@ pub fn around_entry(random: &mut Random) -> Vec<u8> {
     if many_points {
         more_points(&mut draft, points, random);
     }
-    let mut sheet = match many_bytes {
-        true => of_length(&draft, near(ENTRY.bytes, random), random),
+    let owners = if random.once_in(3) { right_owners(&draft, random) } else { vec![] };
+    let more = 2 * owners.iter().flatten().count();
+    let sheet = match many_bytes {
+        true => of_length(&draft, near(ENTRY.bytes, random) - more, random),
         false => draft.certified(),
     };
+    let sheet = give(&sheet, &owners);
     match random.below(6) {
         0 => mutate(&sheet, random),
-        1 => {
-            misname(&mut sheet, random);
-            sheet
-        }
+        1 => misname(&sheet, random),
         _ => sheet,
     }
+}
+
+fn right_owners(draft: &Draft, random: &mut Random) -> Owners {
+    naive::read_sheet(&LARGE, &draft.bytes()).map_or(vec![], |parts| right(&parts, random))
 }
 
 /// A number around a limit, seldom one far above.
@@ -122,13 +127,15 @@ pub fn of_length(draft: &Draft, length: usize, random: &mut Random) -> Vec<u8> {
 }
 
 /// A name that does not exist, in the first point that is too many or beside it.
-fn misname(sheet: &mut [u8], random: &mut Random) {
+fn misname(sheet: &[u8], random: &mut Random) -> Vec<u8> {
+    let mut records = split(sheet);
     if let Err(Refusal { number: 6, place: Some(at) }) = reference::read(&ENTRY, sheet) {
-        let at = at - 7 + 7 * random.below(3);
-        if sheet.get(at) == Some(&7) {
-            sheet[at + 1 + 2 * random.below(3)] = 255;
+        let which = split(&sheet[..at]).len() - 1 + random.below(3);
+        if let Some(record) = records.get_mut(which).filter(|record| is_point(record)) {
+            record[1 + 2 * random.below(3)] = 255;
         }
     }
+    records.concat()
 }
 
 /// The most points of an instrument with random limits.
@@ -136,7 +143,7 @@ const MOST_POINTS: usize = 600;
 
 /// Two instruments with limits around what a sheet has, the first no larger.
 pub fn limits(sheet: &[u8], random: &mut Random) -> [Instrument; 2] {
-    let points = naive::read(&LARGE, sheet).map_or(random.below(5), |counts| counts.points);
+    let (points, _) = super::points(sheet);
     let mut bytes = [0; 2].map(|_| about(sheet.len(), random));
     let mut points = [0; 2].map(|_| about(points, random).min(MOST_POINTS));
     bytes.sort();

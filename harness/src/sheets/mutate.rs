@@ -1,5 +1,6 @@
 //! Small changes to a sheet.
 use super::stray::BODY;
+use crate::instrument::KINDS;
 use crate::random::Random;
 
 type Records = Vec<Vec<u8>>;
@@ -28,7 +29,7 @@ pub fn split(sheet: &[u8]) -> Records {
     let mut at = 0;
     while at < sheet.len() {
         let length = match sheet[at] {
-            kind @ 1..=19 => 1 + BODY[kind as usize],
+            kind @ 1..=KINDS => 1 + BODY[kind as usize],
             _ => sheet.len(),
         };
         let next = (at + length).min(sheet.len());
@@ -36,6 +37,11 @@ pub fn split(sheet: &[u8]) -> Records {
         at = next;
     }
     records
+}
+
+/// Whether a record is a whole point.
+pub fn is_point(record: &[u8]) -> bool {
+    matches!(record[0], 7 | 20) && record.len() == 1 + BODY[record[0] as usize]
 }
 
 fn change_bytes(sheet: &[u8], random: &mut Random) -> Vec<u8> {
@@ -47,7 +53,7 @@ fn change_bytes(sheet: &[u8], random: &mut Random) -> Vec<u8> {
         let at = random.below(out.len());
         out[at] = match random.below(3) {
             0 => random.byte(),
-            1 => random.below(21) as u8,
+            1 => random.below(KINDS as usize + 2) as u8,
             _ => out[at] ^ 1 << random.below(8),
         };
     }
@@ -113,7 +119,7 @@ fn other_edition(records: &mut Records, random: &mut Random) {
         records.remove(0);
         return;
     }
-    let conditions = records.iter().position(|record| record[0] == 7).unwrap_or(0);
+    let conditions = records.iter().position(|record| is_point(record)).unwrap_or(0);
     let place = match random.below(4) {
         0 => random.below(records.len() + 1),
         1 => random.below(conditions + 1),
@@ -136,7 +142,7 @@ fn more_or_fewer_stops(records: &mut Records, random: &mut Random) {
         0 => random.below(records.len() + 1),
         _ => methods + random.below(steps.max(methods) - methods + 1),
     };
-    let points = records.iter().filter(|record| record[0] == 7).count();
+    let points = records.iter().filter(|record| is_point(record)).count();
     let point = if random.once_in(8) { points } else { random.below(points) };
     records.insert(place, [&[19], &(point as u16).to_le_bytes()[..]].concat());
 }

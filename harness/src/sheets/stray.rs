@@ -1,18 +1,18 @@
 //! Bytes and records at random, and sheets at or over a limit.
 use super::draft::{Draft, Method, Step};
 use crate::answer::Refusal;
-use crate::instrument::LARGE;
+use crate::instrument::{KINDS, LARGE};
 use crate::random::Random;
 use crate::reference;
 use crate::tree::Tree;
 
 /// The body lengths by kind; there is no kind 0.
-pub const BODY: [usize; 20] = [0, 4, 0, 0, 0, 0, 0, 6, 6, 10, 5, 6, 4, 5, 0, 10, 16, 8, 0, 2];
-const SECTION: [usize; 20] = [0, 0, 0, 0, 0, 0, 0, 1, 2, 2, 3, 3, 3, 4, 4, 2, 2, 3, 0, 3];
+pub const BODY: [usize; 21] = [0, 4, 0, 0, 0, 0, 0, 6, 6, 10, 5, 6, 4, 5, 0, 10, 16, 8, 0, 2, 8];
+const SECTION: [usize; 21] = [0, 0, 0, 0, 0, 0, 0, 1, 2, 2, 3, 3, 3, 4, 4, 2, 2, 3, 0, 3, 1];
 
 pub fn bytes(random: &mut Random) -> Vec<u8> {
     let length = random.below(40);
-    let top = if random.once_in(2) { 256 } else { 21 };
+    let top = if random.once_in(2) { 256 } else { KINDS as usize + 2 };
     let mut out = edition(random);
     out.extend((0..length).map(|_| random.below(top) as u8));
     out
@@ -33,6 +33,7 @@ pub fn records(random: &mut Random) -> Vec<u8> {
     let kind = |random: &mut Random| match random.below(24) {
         0 => 18,
         1 | 2 if new || random.once_in(4) => 19,
+        3 | 4 => 20,
         _ => 7 + random.below(11) as u8,
     };
     let mut kinds: Vec<u8> = (0..random.below(12)).map(|_| kind(random)).collect();
@@ -59,7 +60,7 @@ fn tokens(random: &mut Random, out: &mut Vec<u8>) {
     let mut items = 0;
     for _ in 0..random.below(12) {
         let kind = match (items, random.below(40)) {
-            (_, 0) => 1 + random.below(19) as u8,
+            (_, 0) => 1 + random.below(KINDS as usize) as u8,
             (0 | 1, _) => 1 + random.below(2) as u8,
             _ => 1 + random.below(5) as u8,
         };

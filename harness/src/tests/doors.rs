@@ -89,6 +89,23 @@ fn call_due() -> Vec<u8> {
     hex(&format!("12 02 06 01 00000000 06 {points} {body} 0B 0200 0000 0000 {certificate}"))
 }
 
+/// A step that joins the points of two methods, and a point whose owner is no method.
+fn other_owner() -> Vec<u8> {
+    let points = "14 0000 0000 0000 0000 14 0000 0000 0000 0100";
+    let other = "09 0000 0000 0000 0100 0100";
+    hex(&format!("02 06 {points} {BODY} {other} 0C 0000 0100"))
+}
+
+fn unknown_owner() -> Vec<u8> {
+    hex(&format!("02 06 {POINT} 14 0000 0000 0000 0100 {BODY}"))
+}
+
+/// M with an owner of its point.
+fn owned() -> Vec<u8> {
+    let certificate = format!("{PAIR} 0E").repeat(3);
+    hex(&format!("02 06 14 0000 0000 0000 0000 {BODY} {certificate}"))
+}
+
 /// The document's condition with 0 open, 1 close, 2 advance, in a sheet.
 fn condition() -> Vec<u8> {
     hex(&format!("02 01 04000000 01 FFFFFFFF 05 03 04 06 {POINT} {BODY}"))
@@ -123,6 +140,9 @@ fn loading() {
     load(&stop(true), ACCEPTED, 0, &[7]);
     load(&stop(false), UNPROVED, 11, &[25, 0, 5, 0, 0, 0]);
     load(&call_due(), UNPROVED, 11, &[26, 0, 3, 0, 0, 0]);
+    load(&owned(), ACCEPTED, 0, &[6]);
+    load(&other_owner(), REFUSED, 24, &[42]);
+    load(&unknown_owner(), REFUSED, 25, &[9]);
     gives(|out| raw::load(LARGE, &[0; 65_537], out), REFUSED, 1, &[65_536]);
     load_entry(&[0; 8_193], REFUSED, 1, &[8_192]);
     load_entry(&[0; 65_537], REFUSED, 1, &[8_192]);
@@ -214,10 +234,14 @@ fn testing_words() {
     for on in [LARGE, ENTRY] {
         gives(|out| raw::word_test(on, &[15], 0, &[], out), REFUSED, 3, &[0]);
         gives(|out| raw::word_test(on, &[18], 0, &[], out), REFUSED, 9, &[1]);
-        gives(|out| raw::word_test(on, &[20], 0, &[], out), REFUSED, 2, &[0]);
+        gives(|out| raw::word_test(on, &[20], 0, &[], out), REFUSED, 3, &[0]);
+        gives(|out| raw::word_test(on, &[21], 0, &[], out), REFUSED, 2, &[0]);
         gives(|out| raw::word_test(on, &other_outcomes(), 0, &[], out), REFUSED, 18, &[20]);
         gives(|out| raw::word_test(on, &late_edition(), 0, &[], out), REFUSED, 19, &[2]);
         gives(|out| raw::word_test(on, &old_stop(), 0, &[], out), REFUSED, 20, &[20]);
+        gives(|out| raw::word_test(on, &other_owner(), 9, &[99], out), REFUSED, 24, &[42]);
+        gives(|out| raw::word_test(on, &unknown_owner(), 9, &[99], out), REFUSED, 25, &[9]);
+        gives(|out| raw::word_test(on, &owned(), 0, &[], out), YES, 0, &[]);
         gives(|out| raw::word_test(on, &stop(false), 0, &[], out), YES, 0, &[]);
         gives(|out| raw::word_test(on, &stop(false), 1, &[], out), NO, 0, &[]);
     }
@@ -237,6 +261,9 @@ fn reading() {
         gives(|out| raw::read(on, &late_edition(), out), REFUSED, 19, &[2]);
         gives(|out| raw::read(on, &old_stop(), out), REFUSED, 20, &[20]);
         gives(|out| raw::read(on, &stop(false), out), READ_WHOLE, 0, &[2, 2, 1, 1, 3]);
+        gives(|out| raw::read(on, &owned(), out), READ_WHOLE, 0, &[1, 1, 1, 0, 3]);
+        gives(|out| raw::read(on, &other_owner(), out), REFUSED, 24, &[42]);
+        gives(|out| raw::read(on, &unknown_owner(), out), REFUSED, 25, &[9]);
     }
     let points = hex(&format!("02 06 {} {BODY}", POINT.repeat(65)));
     gives(|out| raw::read(LARGE, &points, out), READ_WHOLE, 0, &[1, 65, 1, 0, 0]);
@@ -252,7 +279,10 @@ fn from_c() {
         from_c_prints(&program, &least(), ["accepted 0 6 0 0 0 0 0"; 2]);
         from_c_prints(&program, &[15], ["refused 3 0 0 0 0 0 0"; 2]);
         from_c_prints(&program, &[18], ["refused 9 1 0 0 0 0 0"; 2]);
-        from_c_prints(&program, &[20], ["refused 2 0 0 0 0 0 0"; 2]);
+        from_c_prints(&program, &[20], ["refused 3 0 0 0 0 0 0"; 2]);
+        from_c_prints(&program, &[21], ["refused 2 0 0 0 0 0 0"; 2]);
+        from_c_prints(&program, &other_owner(), ["refused 24 42 0 0 0 0 0"; 2]);
+        from_c_prints(&program, &unknown_owner(), ["refused 25 9 0 0 0 0 0"; 2]);
         from_c_prints(&program, &old_stop(), ["refused 20 20 0 0 0 0 0"; 2]);
         from_c_prints(&program, &call_due(), ["unproved 11 26 0 3 0 0 0"; 2]);
         from_c_prints(&program, &unproved(), ["unproved 11 5 0 3 0 0 0"; 2]);

@@ -84,7 +84,7 @@ fn a_point_too_many_and_another_fault() {
         let before = format!("refused 7 at {}", point_at(on.points - 1));
         loads_on(&on, &misnamed(&on, on.points - 1), &before);
         let mut sheet = with_points(on.points + 1);
-        for (kind, number) in [(0, 2), (20, 2), (3, 4), (18, 4)] {
+        for (kind, number) in [(0, 2), (21, 2), (3, 4), (18, 4), (20, 6)] {
             sheet[at] = kind;
             loads_on(&on, &sheet, &format!("refused {number} at {at}"));
         }
@@ -103,7 +103,8 @@ fn other_refusals() {
     let methods = |count: usize| format!("02 06 {POINT} {}", BODY.repeat(count));
     let leaves = |count: usize| format!("01 00000000 {} 06", "01 00000000 04".repeat(count - 1));
     let sheets = [
-        ("14".to_string(), "refused 2 at 0"),
+        ("15".to_string(), "refused 2 at 0"),
+        ("14".to_string(), "refused 3 at 0"),
         ("0F".to_string(), "refused 3 at 0"),
         ("01".to_string(), "refused 3 at 0"),
         ("02 0E".to_string(), "refused 4 at 1"),

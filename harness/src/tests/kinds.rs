@@ -4,7 +4,7 @@ use crate::answer::{Counts, Doors, Refusal};
 use crate::instrument::{self, Instrument, FORMER_KINDS};
 
 /// Each kind with the length of its body.
-const LENGTHS: [(u8, usize); 19] = [
+const LENGTHS: [(u8, usize); 20] = [
     (1, 4),
     (2, 0),
     (3, 0),
@@ -24,6 +24,7 @@ const LENGTHS: [(u8, usize); 19] = [
     (17, 8),
     (18, 0),
     (19, 2),
+    (20, 8),
 ];
 
 /// One more than the longest body.

@@ -32,6 +32,10 @@ fn timed_sheets_are_accepted() {
     let new = sheets::new_rules();
     assert_eq!((new.len(), sheets::pairs(&new)), (65_536, 8_064));
     assert_eq!(reference::load(&LARGE, &new), Verdict::Accepted(3_330));
+    let owned = sheets::owned_rules();
+    assert_eq!((owned.len(), sheets::pairs(&owned)), (65_536, 7_040));
+    assert_eq!(sheets::points(&owned), (512, 512));
+    assert_eq!(reference::load(&LARGE, &owned), Verdict::Accepted(2_818));
     let large = sheets::large_certificate();
     assert_eq!(sheets::pairs(&large), 10_371);
     assert_eq!(reference::load(&LARGE, &large), Verdict::Accepted(6));
@@ -39,6 +43,17 @@ fn timed_sheets_are_accepted() {
     assert_eq!(counts.certificates, 65_516);
     for (sheet, word) in [sheets::steady_word(), sheets::changing_word(), sheets::single_word()] {
         assert_eq!(reference::word_test(&LARGE, &sheet, 1, &word).to_string(), "yes");
+    }
+}
+
+#[test]
+fn timed_sheets_with_owners() {
+    let (plain, owned) = (sheets::small_honest(200), sheets::small_owned(200));
+    for (plain, owned) in plain.iter().zip(&owned) {
+        let (points, _) = sheets::points(plain);
+        assert_eq!(sheets::points(owned), (points, points));
+        assert_eq!(owned.len(), plain.len() + 2 * points);
+        assert_eq!(reference::load(&LARGE, owned), reference::load(&LARGE, plain));
     }
 }
 

@@ -46,12 +46,12 @@ fn body_lengths() {
 
 #[test]
 fn kinds() {
-    for kind in 20..=255u8 {
+    for kind in 21..=255u8 {
         refused(&format!("{kind:02X}"), "refused 2 at 0");
     }
     refused("00", "refused 2 at 0");
-    // Without request 2, 15 to 19 are no kinds.
-    for kind in 15..=19u8 {
+    // Without request 2, 15 to 20 are no kinds.
+    for kind in 15..=20u8 {
         for on in BOTH {
             for doors in LOADERS {
                 let refusal = (doors.read)(&on.former(14), &[kind; 40]);
@@ -237,9 +237,9 @@ fn tally() {
 /// Each way to be judged otherwise than before is seen.
 #[test]
 fn judged_as_before_can_be_false() {
-    let sheet = [2, 6, 15, 16, 17, 18, 19, 20, 14];
+    let sheet = [2, 6, 15, 16, 17, 18, 19, 20, 21, 14];
     let two = |at| Some(Refusal::at(2, at));
-    for (kinds, later) in [(14, 2..7), (17, 5..7)] {
+    for (kinds, later) in FORMER_KINDS.into_iter().zip([2..8, 5..8, 7..8]) {
         let way = |refusal, same| way(&sheet, kinds, refusal, same);
         for at in 0..11 {
             let other = later.contains(&at).then_some(Way::LaterKind);
@@ -252,11 +252,12 @@ fn judged_as_before_can_be_false() {
     }
 }
 
-/// Of sheets with kinds later than 14 or 17 and of those without, by every loader.
+/// Of sheets with kinds later than a former highest one and of those without, by every
+/// loader.
 #[test]
 fn judged_as_before() {
     let mut random = Random::new(31);
-    let mut seen = [[0; 2]; 2];
+    let mut seen = [[0; 2]; FORMER_KINDS.len()];
     for _ in 0..1_500 {
         let sheet = sheets::sheet(&mut random);
         for on in [LARGE, ENTRY, Instrument::of(sheet.len(), 5)] {

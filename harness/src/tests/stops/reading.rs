@@ -37,7 +37,7 @@ fn body_lengths() {
 
 #[test]
 fn kinds() {
-    for kinds in FORMER_KINDS {
+    for kinds in FORMER_KINDS.into_iter().filter(|&kinds| kinds < 18) {
         for (text, at) in
             [("12", 0), ("13 0000", 0), ("02 06 12", 2), ("02 12", 1), ("02 06 13", 2)]
         {

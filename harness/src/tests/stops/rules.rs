@@ -343,16 +343,18 @@ fn behind_65536_bytes() {
     let mut draft = Draft { new_edition: true, ..Draft::default() };
     draft.conditions = vec![starred(dead(31)); 256];
     draft.conditions[255] = starred(dead(30)).join(Tree::Leaf(u32::MAX));
-    draft.points = vec![[0; 3]; 1_126];
-    draft.points[1_125] = [0, 0, 255];
+    draft.points = vec![[0; 3]; 876];
+    draft.points[875] = [0, 0, 255];
+    // Those that no record names have owners.
+    let owners: Vec<Option<usize>> = (0..875).map(|point| (point > 0).then_some(63)).collect();
     draft.methods = vec![Method::new(&[0; 5], &[0; 3]); 64];
     draft.steps = vec![Step::Stop(0); 512];
     draft.steps[510] = Step::Failing(0, 0, 0, 63);
-    let on = Instrument::of(200_000, 1_126);
+    let on = Instrument::of(200_000, 876);
     let load = |draft: &Draft, line: &str| {
-        let mut sheet = draft.bytes();
-        let last_method = 1 + 256 * 221 + 1_126 * 7 + 63 * 17;
-        assert_eq!((last_method, sheet[last_method]), (65_530, 16));
+        let mut sheet = sheets::give_owners(&draft.bytes(), &owners);
+        let last_method = 1 + 256 * 221 + 874 * 9 + 2 * 7 + 63 * 17;
+        assert_eq!((last_method, sheet[last_method]), (65_528, 16));
         (0..64 * 5 + 10).for_each(|_| certificate(&mut sheet, &[(0, 1)]));
         for doors in BOTH {
             assert_eq!((doors.load)(&on, &sheet).to_string(), line, "{}", doors.name);
@@ -360,9 +362,9 @@ fn behind_65536_bytes() {
     };
     load(&draft, "accepted 908");
     let mut other = draft.clone();
-    other.steps[511] = Step::Stop(1_125);
+    other.steps[511] = Step::Stop(875);
     load(&other, "unproved rule 25 step 511 clause 5 pair 0 event 0 place 0");
-    other.methods[63].points[2] = 1_125;
+    other.methods[63].points[2] = 875;
     load(&other, "unproved rule 23 method 63 clause 3 pair 0 event 0 place 0");
 }
 
