@@ -9,9 +9,9 @@ use lib.ListN.{length, getD, getElem?}
 use lib.Dec.{T}
 use Rattle.sheet.specs.Each.{Each}
 use Rattle.sheet.specs.Model.{stepLimit}
-use Rattle.sheet.specs.Sheet.{Outcome, normal, failed, Point, Declared, Body, Method, Step, Sheet, conditionNamed, declaredFor, declaredIn, bodyIn, body, entryIn}
+use Rattle.sheet.specs.Sheet.{Outcome, normal, failed, Point, Declared, Body, Method, Step, Sheet, isSome, conditionNamed, declaredFor, declaredIn, bodyIn, body, entryIn}
 use Rattle.sheet_laws.specs.AtOffset.{methodAt, stepAt}
-use Rattle.sheet_laws.specs.Names.{PointNamed, BodyNamed, DeclaredNamed, MethodNamed, StepNamed, isSome, TargetsFit, EventBelow}
+use Rattle.sheet_laws.specs.Names.{PointNamed, BodyNamed, DeclaredNamed, MethodNamed, StepNamed, TargetsFit, EventBelow}
 use Rattle.sheet.proofs.Each.{each-get}
 use Rattle.runs.specs.Rules.{entryAsked}
 use Rattle.index.specs.Indexed.{Indexes, ConditionIn, PointIn, DeclaredIn, MethodIn, FailedIn, CalledIn}

@@ -8,8 +8,8 @@ use mathlib.Core.List.{List, [], _∷_}
 use lib.ListN.{length, getElem?}
 use Rattle.sheet.specs.Each.{Each, nil, cons}
 use Rattle.sheet.proofs.Each.{each-map, each-zip, each-get}
-use Rattle.sheet.specs.Sheet.{Outcome, normal, failed, Point, Body, Step, event-step, call-step, pass-step, stop-step, Sheet, ownerIn, owner, bodyIn, body, targetFor}
-use Rattle.sheet_laws.specs.Names.{NamedIfAny, BodyNamed, StepNamed, NamesExist, HasBody, isSome, SameIfAny, ownerIfAny, BodyOwned, StepOwned, OwnersFit}
+use Rattle.sheet.specs.Sheet.{Outcome, normal, failed, Point, Body, Step, event-step, call-step, pass-step, stop-step, Sheet, isSome, ownerIn, owner, bodyIn, body, targetFor}
+use Rattle.sheet_laws.specs.Names.{NamedIfAny, BodyNamed, StepNamed, NamesExist, HasBody, SameIfAny, ownerIfAny, BodyOwned, StepOwned, OwnersFit}
 use Rattle.runs.specs.Runs.{Call, State, entryOf, start, Move, fromOf, toOf, madeBy, targetOr, run}
 use Rattle.runs.specs.Owners.{AllOwned, OfActive, Belongs}
 use Rattle.runs.proofs.Moves.{Makes, event-made, pass-made, primitive-made, open-made, stop-made, return-made, run-keeps}

@@ -5,8 +5,7 @@ use mathlib.Core.Bool.{true}
 use mathlib.Core.Option.{Option, some}
 use mathlib.Core.List.{List, [], _∷_}
 use Rattle.sheet.specs.Each.{Each}
-use Rattle.sheet.specs.Sheet.{Point, Sheet, owner}
-use Rattle.sheet_laws.specs.Names.{isSome}
+use Rattle.sheet.specs.Sheet.{Point, Sheet, isSome, owner}
 use Rattle.runs.specs.Runs.{Call, State}
 
 -- "If all points have owners"

@@ -1,6 +1,6 @@
 -- What a sheet is: conditions, points, methods, steps and certificates, "each counted from 0", which name each other by number.
 use Prim.Native.Nat.{ℕ}
-use mathlib.Core.Bool.{Bool}
+use mathlib.Core.Bool.{Bool, true, false}
 use mathlib.Core.Option.{Option, none, some}
 use mathlib.Core.List.{List}
 use lib.ListN.{getD, getElem?}
@@ -93,6 +93,11 @@ own S p = conditionNamed S (λ (x : Point). x .own) (getElem? (S .points) p)
 
 abbrev pub due : Sheet → ℕ → Condition
 due S p = conditionNamed S (λ (x : Point). x .due) (getElem? (S .points) p)
+
+-- something is there
+abbrev pub isSome : {A : Type 0} → Option A → Bool
+isSome none = false
+isSome (some x) = true
 
 -- the owner of the point p, if it has one
 abbrev pub ownerIn : Option Point → Option ℕ

@@ -10,12 +10,12 @@ use lib.ListN.{getElem?}
 use lib.Dec.{T, eqb, ltb→lt}
 use borrow.Author.Tests.{eqb-true, not-false}
 use Rattle.sheet.specs.Model.{Model}
-use Rattle.sheet.specs.Sheet.{failed, Declared, Body, Method, Sheet, declaredIn}
+use Rattle.sheet.specs.Sheet.{failed, Declared, Body, Method, Sheet, isSome, declaredIn}
 use Rattle.sheet.specs.Kind.{methods, kindOf}
 use Rattle.sheet.specs.Record.{Record, byteAt, recordAt, nextAt, value}
 use Rattle.sheet.specs.Reading.{Counted, Reading, fresh, tally, isNew, isPrimitive, hasTwoOutcomes, allExist, recordNamed, twoOutcomesIn, wrongOutcomes, pastAt, whole, readSheet}
 use Rattle.sheet.specs.Decode.{methodOf, stepOf, sheetRead, sheetOf}
-use Rattle.sheet_laws.specs.Names.{isSome, ExitsFit, TargetsFit, OutcomesFit}
+use Rattle.sheet_laws.specs.Names.{ExitsFit, TargetsFit, OutcomesFit}
 use Rattle.sheet.proofs.Each.{each-all, each-mapped}
 use Rattle.sheet_laws.proofs.Take.{or-false, and-false, Took}
 use Rattle.sheet_laws.proofs.States.{Later, each-later, named-then}

@@ -3,11 +3,11 @@
 -- (proofs/Editions), and owners fit (proofs/Owners).
 use Prim.Native.Nat.{ℕ, _<_}
 use mathlib.Core.Path.{_≡_}
-use mathlib.Core.Bool.{Bool, true, false}
+use mathlib.Core.Bool.{Bool, true}
 use mathlib.Core.Option.{Option, none, some}
 use lib.ListN.{length, getElem?}
 use Rattle.sheet.specs.Each.{Each}
-use Rattle.sheet.specs.Sheet.{Outcome, failed, Point, Declared, Body, Method, Step, event-step, call-step, pass-step, stop-step, Sheet, owner, declaredFor, declaredIn, body}
+use Rattle.sheet.specs.Sheet.{Outcome, failed, Point, Declared, Body, Method, Step, event-step, call-step, pass-step, stop-step, Sheet, isSome, owner, declaredFor, declaredIn, body}
 
 -- the names of a point, of a body, of what a method declares, of a method and of a step are below the numbers of conditions, points and methods
 pub record PointNamed (conditions : ℕ) (x : Point) : Type 0 where
@@ -51,11 +51,6 @@ pub record NamesExist (S : Sheet) : Type 0 where
 abbrev pub HasBody : Option Body → Type 0
 HasBody none = ⊥
 HasBody (some b) = Unit {0}
-
--- something is there
-abbrev pub isSome : {A : Type 0} → Option A → Bool
-isSome none = false
-isSome (some x) = true
 
 -- a method with body has a failed exit exactly if it has two outcomes
 abbrev pub ExitsFit : Option Declared → Option Body → Type 0

@@ -10,11 +10,11 @@ use Rattle.condition.specs.Condition.{Word, empty, event, Holds}
 use Rattle.condition.specs.Places.{nullable, accepts}
 use Rattle.certificate.specs.Certificate.{Certificate, Exact}
 use Rattle.sheet.specs.Model.{Model, large, withKinds}
-use Rattle.sheet.specs.Sheet.{Outcome, failed, Point, Body, Method, CallStep, Step, event-step, call-step, stop-step, owner, declaredIn, body, trace, targetFor}
+use Rattle.sheet.specs.Sheet.{Outcome, failed, Point, Body, Method, CallStep, Step, event-step, call-step, stop-step, isSome, owner, declaredIn, body, trace, targetFor}
 use Rattle.sheet.specs.Each.{Each}
 use Rattle.sheet.specs.Record.{byteAt}
 use Rattle.sheet.specs.Reading.{Reading, whole, refusal, readSheet}
-use Rattle.sheet_laws.specs.Names.{NamedIfAny, HasBody, isSome, ExitsFit, TargetsFit, EventBelow, StopFits, SameIfAny, BodyOwned, StepOwned}
+use Rattle.sheet_laws.specs.Names.{NamedIfAny, HasBody, ExitsFit, TargetsFit, EventBelow, StopFits, SameIfAny, BodyOwned, StepOwned}
 use Rattle.sheet.specs.Decode.{sheetOf}
 use Rattle.sheet_laws.specs.AtOffset.{empty-symbol, symbolsAt, postfix}
 use Rattle.sheet.proofs.Each.{each-head, each-member}
