@@ -1,15 +1,12 @@
 -- The documents' numbers and values of each answer: "What the loader returns", "Seventeen rules", and document 02, Asks 2 and 4.
 use Prim.Native.Nat.{ℕ}
 use mathlib.Core.Bool.{true, false}
-use mathlib.Core.Option.{Option, none, some}
 use Rattle.verdict.specs.Verdict.{Report, accepted, refused, unproved}
 use Rattle.verdict.specs.WordTest.{Answer, tested, untested}
 use Rattle.format.specs.Refusal.{numberOf, placeOf}
 use Rattle.faults.specs.Fault.{faultOf}
 use Rattle.answers.specs.declared.Rule.{Rule}
 use Rattle.answers.specs.declared.Rule.the-variants.{FirstPre, FirstFuture, EntryPast, EntryOwn, ExitOwn, ExitDue, EventPast, EventOwn, EventDue, CallPre, CallPast, CallOwn, CallFuture, CallDue, PassPast, PassOwn, PassDue, FailedPast, FailedOwn, FailedFuture, FailedDue, FailedExitOwn, FailedExitDue, FirstFailedFuture, StopDue, CallEntry}
-use Rattle.answers.specs.declared.Place.{Place}
-use Rattle.answers.specs.declared.Place.the-variants.{At, Nowhere}
 use Rattle.answers.specs.declared.Verdict.{Verdict}
 use Rattle.answers.specs.declared.Verdict.the-variants.{Accepted, Refused as RefusedSheet, Unproved}
 use Rattle.answers.specs.declared.WordAnswer.{WordAnswer}
@@ -72,11 +69,6 @@ ruleSubject (FailedExitDue k) = k
 ruleSubject (FirstFailedFuture k) = k
 ruleSubject (StopDue k) = k
 ruleSubject (CallEntry k) = k
-
--- a place, if there is one
-abbrev pub placeIn : Place → Option ℕ
-placeIn (At k) = some k
-placeIn Nowhere = none
 
 -- the report, and the word test's answer, that a value of the code stands for
 abbrev pub reportOf : Verdict → Report

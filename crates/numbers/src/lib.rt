@@ -5,14 +5,14 @@ ghost use Rattle.verdict.specs.Verdict.{refused};
 ghost use Rattle.answers.specs.Answers.{reportOf, answerOf};
 ghost use Rattle.numbers.specs.Numbers.{reportNumbers, answerNumbers, unknownNumbers};
 ghost use Rattle.numbers.specs.Stores.{Stores};
-use answers::Place;
 use answers::RuleNumbers;
 use answers::Verdict;
 use answers::WordAnswer;
-use answers::refusal_number;
-use answers::refusal_place;
 use answers::rule_numbers;
 use format::Refusal;
+use refusal_rows::Place;
+use refusal_rows::refusal_number;
+use refusal_rows::refusal_place;
 
 // How many numbers a door writes; harness/include/sheet_loader.h has the same constants for C.
 pub const ROOM: usize = 8;

@@ -11,17 +11,11 @@ use Rattle.sheet.specs.Reading.{allAgree, ownersJoined, noMethod}
 use Rattle.sheet_laws.specs.AtOffset.{ownerAt}
 use Rattle.owners.specs.declared.Owner.{Owner}
 use Rattle.owners.specs.declared.Owner.the-variants.{Of, Nobody}
-use Rattle.owners.specs.declared.Stray.{Stray}
-use Rattle.owners.specs.declared.Stray.the-variants.{At, Nowhere}
 
--- the owner and the offset that the values of the code stand for
+-- the owner that a value of the code stands for
 abbrev pub ownerValue : Owner → Option ℕ
 ownerValue (Of m) = some m
 ownerValue Nobody = none
-
-abbrev pub strayValue : Stray → Option ℕ
-strayValue (At at) = some at
-strayValue Nowhere = none
 
 -- the owner of the point p of a table, if it has one; nobody past its end
 abbrev pub ownerListed : List ℕ → List ℕ → ℕ → Option ℕ

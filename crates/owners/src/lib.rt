@@ -8,7 +8,8 @@ ghost use Rattle.sheet.specs.Reading.{agree, noMethod};
 ghost use Rattle.sheet_laws.specs.AtOffset.{shortAt, ownerAt};
 ghost use Rattle.kinds.specs.Kinds.{bodyKind};
 ghost use Rattle.format.specs.Named.{Named};
-ghost use Rattle.owners.specs.Owners.{ownerValue, strayValue, ownerListed, ownersFit, strayIn};
+ghost use Rattle.refusal_rows.specs.Place.{placeIn};
+ghost use Rattle.owners.specs.Owners.{ownerValue, ownerListed, ownersFit, strayIn};
 use bits::both;
 use fields::byte_at;
 use fields::short_at;
@@ -20,17 +21,12 @@ use kinds::TWO_OUTCOME_BODY;
 use kinds::TWO_OUTCOME_CALL;
 use kinds::has_body;
 use kinds::section_of;
+use refusal_rows::Place;
 
 // The owner of a point, a method by its number, where it has one.
 pub enum Owner {
     Of(usize),
     Nobody,
-}
-
-// The offset of a point whose owner is no method, if there is one.
-pub enum Stray {
-    At(usize),
-    Nowhere,
 }
 
 // The owner of the point at an offset.
@@ -115,19 +111,19 @@ pub fn owners_fit(s: &[u8], at: usize, kind: u8, number: usize, points: &[u32]) 
     true
 }
 
-// The first of the points whose owner is none of so many methods: 25.
-pub fn first_stray_owner(s: &[u8], points: &[u32], count: usize, methods: usize) -> Stray
-    ensures { λ r. ⌜ strayValue r ≡ strayIn (now (s .entry)) methods (take count (now (points .entry))) ⌝ }
+// The place of 25: the offset of the first of the points whose owner is none of so many methods, if there is one.
+pub fn first_stray_owner(s: &[u8], points: &[u32], count: usize, methods: usize) -> Place
+    ensures { λ r. ⌜ placeIn r ≡ strayIn (now (s .entry)) methods (take count (now (points .entry))) ⌝ }
 {
     let mut i = 0;
     while both(i < count, i < points.len()) {
         let at = points[i] as usize;
         if no_method(owner_at(s, at), methods) {
-            return Stray::At(at);
+            return Place::At(at);
         }
         i += 1;
     }
-    Stray::Nowhere
+    Place::Nowhere
 }
 
 fn no_method(owner: Owner, methods: usize) -> bool

@@ -18,8 +18,8 @@ use kinds::counts;
 use kinds::section_of;
 use names::judge::Judged;
 use names::judge::judge;
-use owners::Stray;
 use owners::first_stray_owner;
+use refusal_rows::Place;
 use refusals::editions::stop_fits;
 use tally::Tally;
 use tally::past;
@@ -110,8 +110,8 @@ fn at_end(s: &[u8], inside: bool, contents: Contents, points: &[u32]) -> Read
     }
     let stray = first_stray_owner(s, points, contents.tally.points, contents.tally.methods);
     match stray {
-        Stray::At(at) => Read::Refused(Refusal::UnknownOwner(at)),
-        Stray::Nowhere => Read::Whole(contents),
+        Place::At(at) => Read::Refused(Refusal::UnknownOwner(at)),
+        Place::Nowhere => Read::Whole(contents),
     }
 }
 

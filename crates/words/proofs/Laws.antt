@@ -47,7 +47,7 @@ module _ {M : Model} {s : List ℕ} {c : Contents} (t : ReadWhole M s c) where
         word-tested below b e = ap tested e ∙ sym (taken-in M s k w (record { found = finds; short = short; none-stray = each-index _ 0 w below }))
 
 module _ (M : Model) (s : List ℕ) (k : ℕ) (w : List ℕ) where
-  -- 1 to 9
+  -- a refusal that is met while reading
   pub untested-by : {x : Refusal} → Refuses M s x → untested (numberOf x) (placeOf x) ≡ wordTest M s k w
   untested-by {x} h = ap (untested (numberOf x)) (h .placed) ∙ sym (refused-in M s k w (sheet-refused (h .result)))
 

@@ -2,7 +2,7 @@
 use mathlib.Core.Path.{sym, ap, _∙_}
 use borrow.Author.Needs.{needs}
 use Rattle.verdict.specs.Line.{ascii}
-use Rattle.answers.specs.Answers.{placeIn}
+use Rattle.refusal_rows.specs.Place.{placeIn}
 use Rattle.line.proofs.Lines.{refused-somewhere, refused-nowhere}
 use Rattle.line.proofs.put_refusal.Statement.{statement}
 use Rattle.line.proofs.put_refusal.Tie as tie

@@ -1,6 +1,6 @@
 -- `numbers::refusal_numbers` meets its contract, with a place and without.
 use mathlib.Core.Path.{sym, ap, _∙_}
-use Rattle.answers.specs.Answers.{placeIn}
+use Rattle.refusal_rows.specs.Place.{placeIn}
 use borrow.Author.Needs.{needs}
 use Rattle.numbers.proofs.refusal_numbers.Statement.{statement}
 use Rattle.numbers.proofs.refusal_numbers.Tie as tie

@@ -2,7 +2,7 @@
 use mathlib.Core.Path.{sym, ap, _∙_}
 use borrow.Author.Tests.{eq-eqb, ne-eqb}
 use borrow.Author.Needs.{needs}
-use Rattle.owners.specs.Owners.{strayValue}
+use Rattle.refusal_rows.specs.Place.{placeIn}
 use Rattle.sections.proofs.at_end.Statement.{statement}
 use Rattle.sections.proofs.at_end.Tie as tie
 
@@ -24,13 +24,13 @@ enum-told c = search needs
 returns-3 : tie.Need-returns-3
 returns-3 c =
     let tests = c .before .before .before .before in
-    let stray = sym (c .before .before .before .first-stray-owner .ensures) ∙ ap strayValue (c .before .stray .given .1) in
+    let stray = sym (c .before .before .before .first-stray-owner .ensures) ∙ ap placeIn (c .before .stray .given .1) in
     simp (tests .before .before .if1 .left, ne-eqb _ 0 (tests .if2 .left), stray)
 
 returns-4 : tie.Need-returns-4
 returns-4 c =
     let tests = c .before .before .before in
-    let stray = sym (c .before .before .first-stray-owner .ensures) ∙ ap strayValue (c .enum-told .given .1) in
+    let stray = sym (c .before .before .first-stray-owner .ensures) ∙ ap placeIn (c .enum-told .given .1) in
     simp (tests .before .before .if1 .left, ne-eqb _ 0 (tests .if2 .left), stray)
 
 pub at-end-spec : {M : Type 1} → statement M

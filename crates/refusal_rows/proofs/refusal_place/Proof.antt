@@ -1,9 +1,9 @@
--- `answers::refusal_place` meets its contract: in each arm the refusal is known, and so is its place.
+-- `refusal_rows::refusal_place` meets its contract: in each arm the refusal is known, and so is its place.
 use mathlib.Core.Path.{sym, ap}
 use borrow.Author.Needs.{needs}
 use Rattle.format.specs.Refusal.{placeOf}
-use Rattle.answers.proofs.refusal_place.Statement.{statement}
-use Rattle.answers.proofs.refusal_place.Tie as tie
+use Rattle.refusal_rows.proofs.refusal_place.Statement.{statement}
+use Rattle.refusal_rows.proofs.refusal_place.Tie as tie
 
 enum-known-x : tie.Need-enum-known-x
 enum-known-x c = search needs
