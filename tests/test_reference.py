@@ -823,7 +823,12 @@ class Documents(unittest.TestCase):
         self.assertEqual(len(editions), 3)
         for shown, line in editions:
             self.assertEqual(load_line(bytes.fromhex(shown)), line)
-        rows = [row for row in rows if row not in entry + editions]
+        owners = [row for row in rows if row[0].startswith("M with 14, six 00, 01 00")]
+        stray = bytes([0x14]) + bytes(6) + bytes([1, 0])
+        self.assertEqual([line for _, line in owners],
+                         [load_line(data) for data in
+                          (M[:2] + stray + M[9:], M[:9] + stray + M[9:])])
+        rows = [row for row in rows if row not in entry + editions + owners]
         self.assertEqual([line for _, line in rows],
                          [case.line for case in starred()])
         for (shown, line), case in zip(rows, starred()):
