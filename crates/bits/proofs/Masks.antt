@@ -1,12 +1,12 @@
--- Laws of sets as machine words: which numbers `&`, `|` and shifts leave, and when two words are the same set.
+-- Laws of sets as machine words: which numbers `&`, `|`, `^` and shifts leave, and when two words are the same set.
 use mathlib.Core.Path.{_≡_, refl, sym, ap, ap₂, _∙_}
-use mathlib.Core.Bool.{Bool, true, false, cond, not, _&&_, _||_, false≢true, true≢false}
+use mathlib.Core.Bool.{Bool, true, false, cond, not, xor, _&&_, _||_, false≢true, true≢false}
 use mathlib.Core.Logic.{_⊎_, inl, inr, ⊎-elim}
 use Prim.Native.Nat.{ℕ, zero, suc, _+_, _/_, _%_, _^_, _<_, min, max, zero-le, suc-le-suc}
 use native.Mathlib.Nat.{pow-suc, lt-of-lt-of-le}
 use native.Mathlib.Omega.{arith}
 use lib.Dec.{T, not-T, eqb, eqb→eq, lit<, eqb·zero-suc, eqb·suc-zero, eqb·suc-suc}
-use lib.Bits.{bitAnd, bitOr, and-step, or-step, and-mask}
+use lib.Bits.{bitAnd, bitOr, bitXor, and-step, or-step, and-mask, xor-shr, xor-mod}
 use lib.Pow.{pow-mono, pow-pos}
 use Rattle.bits.specs.Bits.{has, anyBelow, setOf}
 use Rattle.bits.proofs.Tests.{T-ext, any-in, any-out}
@@ -41,11 +41,15 @@ min-digit = digits (λ x y. eqb (min x y) 1 ≡ (eqb x 1 && eqb y 1)) refl refl 
 max-digit : (x y : ℕ) → x < 2 → y < 2 → eqb (max x y) 1 ≡ (eqb x 1 || eqb y 1)
 max-digit = digits (λ x y. eqb (max x y) 1 ≡ (eqb x 1 || eqb y 1)) refl refl refl refl
 
+xor-digit : (x y : ℕ) → x < 2 → y < 2 → eqb (bitXor x y) 1 ≡ xor (eqb x 1) (eqb y 1)
+unfolding xor
+xor-digit = digits (λ x y. eqb (bitXor x y) 1 ≡ xor (eqb x 1) (eqb y 1)) refl refl refl refl
+
 same-digit : (x y : ℕ) → x < 2 → y < 2 → eqb x 1 ≡ eqb y 1 → x ≡ y
 same-digit =
     digits (λ x y. eqb x 1 ≡ eqb y 1 → x ≡ y) (λ _. refl) (λ e. absurd (false≢true e)) (λ e. absurd (true≢false e)) (λ _. refl)
 
--- Meet and union --------------------------------------------------------------------------------------------------------
+-- Meet, union and symmetric difference ----------------------------------------------------------------------------------
 
 pub has-and : (a b k : ℕ) → has (bitAnd a b) k ≡ (has a k && has b k)
 has-and a b zero =
@@ -74,6 +78,13 @@ has-or a b (suc k) =
     ∙ ap (λ (x : ℕ). has x k) e
     ∙ has-or (a / 2) (b / 2) k
     ∙ sym (ap₂ (λ (x y : Bool). x || y) (has-suc a k) (has-suc b k))
+
+pub has-xor : (a b k : ℕ) → has (bitXor a b) k ≡ xor (has a k) (has b k)
+unfolding has
+has-xor a b k =
+    ap (λ (z : ℕ). eqb (z % 2) 1) (xor-shr a b k)
+    ∙ ap (λ (z : ℕ). eqb z 1) (xor-mod (a / 2 ^ k) (b / 2 ^ k) 1)
+    ∙ xor-digit (a / 2 ^ k % 2) (b / 2 ^ k % 2) (mod-two (a / 2 ^ k)) (mod-two (b / 2 ^ k))
 
 -- the set x where the test passes, and the empty set where it fails
 pub has-cond : (b : Bool) (x k : ℕ) → has (cond b x 0) k ≡ (b && has x k)

@@ -1,7 +1,8 @@
--- Certificates that are right, and the first fault of those that are not, by evaluation of the check over 32 events.
+-- Certificates that are right, and the first fault of those that are not, by evaluation of the check over 32 events, and over 64.
 use mathlib.Core.Path.{_≡_, refl}
 use mathlib.Core.List.{List, [], _∷_, map}
 use Rattle.condition.specs.Condition.{Condition, leaf, empty, join, either, star, any, event}
+use Rattle.condition.specs.Exchange.{exchange}
 use Rattle.certificate.specs.Certificate.{Certificate, pair, Finding, fine, found, fault, check}
 
 record Case : Type 0 where
@@ -75,6 +76,27 @@ moreCases =
 more-answered : map (λ (x : Case). check 32 (x .left) (x .right) (x .certificate)) moreCases ≡ map (λ (x : Case). x .answer) moreCases
 unfolding check
 more-answered = refl
+
+-- Over 64 events: document 02, Ask 11 -----------------------------------------------------------------------------------
+
+abbrev wideCases : List Case
+wideCases =
+    -- "events go to 63"
+    case (event 63) (any 64) (pair 0 1 ∷ pair 1 2 ∷ []) fine
+    ∷ case (event 63) (any 64) (pair 0 1 ∷ []) (fault 4 0 63 1)
+    -- "kind 1 leaves the upper bits 0": all of its events are not all of 64
+    ∷ case (any 32) (any 64) (pair 0 1 ∷ pair 1 2 ∷ []) fine
+    ∷ case (any 64) (any 32) (pair 0 1 ∷ pair 1 2 ∷ []) (fault 4 0 32 1)
+    -- a condition read with channel 3, on either side: event 2 is event 50, and "any" is "any"
+    ∷ case (exchange 3 (event 2)) (event 50) (pair 0 1 ∷ pair 1 2 ∷ []) fine
+    ∷ case (exchange 3 (event 2)) (event 2) (pair 0 1 ∷ pair 1 2 ∷ []) (fault 4 0 50 1)
+    ∷ case (event 50) (exchange 3 (event 2)) (pair 0 1 ∷ pair 1 2 ∷ []) fine
+    ∷ case (any 64) (exchange 3 (any 64)) (pair 0 1 ∷ pair 1 2 ∷ []) fine
+    ∷ []
+
+wide-answered : map (λ (x : Case). check 64 (x .left) (x .right) (x .certificate)) wideCases ≡ map (λ (x : Case). x .answer) wideCases
+unfolding check exchange
+wide-answered = refl
 
 -- "clause, pair, event, place"
 fault-is : fault 4 1 5 2 ≡ found (record { clause = 4; pair = 1; event = 5; place = 2 })

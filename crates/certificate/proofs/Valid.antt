@@ -31,7 +31,7 @@ module _ (events : ℕ) (left right : Condition) (c : Certificate) where
   abbrev test3 : Pair → Bool
   test3 p = ends left (p .place) ⇒ someEnds right (p .set)
 
-  abbrev test4 : Pair → ℕ → ℕ → Bool
+  abbrev pub test4 : Pair → ℕ → ℕ → Bool
   test4 p e q = (follows left (p .place) q && leafHolds left q e) ⇒ listed right c q (step right (p .set) e)
 
   -- and their findings for pair i

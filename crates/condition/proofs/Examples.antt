@@ -1,9 +1,12 @@
--- Words that document 01's conditions hold, and words that they do not, by evaluation of the word test over 32 events.
+-- Words that document 01's conditions hold, and words that they do not, by evaluation of the word test over 32 events; sets with two channels
+-- exchanged, and words of conditions so exchanged, over 64.
 use mathlib.Core.Path.{_≡_, refl}
 use mathlib.Core.Bool.{Bool, true, false}
 use mathlib.Core.List.{List, [], _∷_, map}
+use Prim.Native.Nat.{ℕ}
 use Rattle.condition.specs.Condition.{Condition, leaf, empty, join, either, star, Word, Holds, noWord, event, any, finally, globally, next}
 use Rattle.condition.specs.Places.{accepts}
+use Rattle.condition.specs.Exchange.{swap, exchange}
 use Rattle.condition.proofs.Words.{words}
 
 record Case : Type 0 where
@@ -60,3 +63,75 @@ finally-holds = words (finally 32 2) (0 ∷ 1 ∷ 31 ∷ []) .0 tt
 finally-lacks : Holds (finally 32 2) (0 ∷ 31 ∷ []) → ⊥
 unfolding accepts
 finally-lacks h = words (finally 32 2) (0 ∷ 31 ∷ []) .1 h
+
+-- Exchanged channels: document 02, Ask 11 -------------------------------------------------------------------------------
+
+record Exchanged : Type 0 where
+  channel : ℕ
+  before : ℕ
+  after : ℕ
+
+abbrev exchanged : ℕ → ℕ → ℕ → Exchanged
+exchanged c s t = record { channel = c; before = s; after = t }
+
+-- "channel c of 0 to 3 has the sixteen from 16 times c": first and last events of the two channels, and an event of a third
+abbrev swaps : List Exchanged
+swaps =
+    exchanged 0 5 5
+    ∷ exchanged 0 63 63
+    ∷ exchanged 1 0 16
+    ∷ exchanged 1 31 15
+    ∷ exchanged 1 32 32
+    ∷ exchanged 2 15 47
+    ∷ exchanged 2 32 0
+    ∷ exchanged 2 16 16
+    ∷ exchanged 3 0 48
+    ∷ exchanged 3 63 15
+    ∷ exchanged 3 47 47
+    ∷ []
+
+exchanged-events : map (λ (x : Exchanged). swap (x .channel) (x .before)) swaps ≡ map (λ (x : Exchanged). x .after) swaps
+unfolding exchange
+exchanged-events = refl
+
+abbrev exchanges : List Exchanged
+exchanges =
+    exchanged 0 0x1111222233334444 0x1111222233334444
+    ∷ exchanged 1 0x1111222233334444 0x1111222244443333
+    ∷ exchanged 2 0x1111222233334444 0x1111444433332222
+    ∷ exchanged 3 0x1111222233334444 0x4444222233331111
+    -- "so "any" remains "any""
+    ∷ exchanged 0 0xFFFFFFFFFFFFFFFF 0xFFFFFFFFFFFFFFFF
+    ∷ exchanged 1 0xFFFFFFFFFFFFFFFF 0xFFFFFFFFFFFFFFFF
+    ∷ exchanged 2 0xFFFFFFFFFFFFFFFF 0xFFFFFFFFFFFFFFFF
+    ∷ exchanged 3 0xFFFFFFFFFFFFFFFF 0xFFFFFFFFFFFFFFFF
+    -- "kind 1 leaves the upper bits 0": FF FF FF FF has the channels 0 and 1, and is not "any"
+    ∷ exchanged 0 0xFFFFFFFF 0xFFFFFFFF
+    ∷ exchanged 1 0xFFFFFFFF 0xFFFFFFFF
+    ∷ exchanged 2 0xFFFFFFFF 0xFFFFFFFF0000
+    ∷ exchanged 3 0xFFFFFFFF 0xFFFF0000FFFF0000
+    ∷ exchanged 3 0 0
+    ∷ []
+
+exchanged-sets : map (λ (x : Exchanged). exchange (x .channel) (leaf (x .before))) exchanges ≡ map (λ (x : Exchanged). leaf (x .after)) exchanges
+unfolding exchange
+exchanged-sets = refl
+
+-- event 2 and then any, which is event 34 and then any where it is read with channel 2; an event of a third channel; a star; FF FF FF FF of kind 1
+abbrev exchangedCases : List Case
+exchangedCases =
+    case (exchange 2 (join (event 2) (star (any 64)))) (34 ∷ []) true
+    ∷ case (exchange 2 (join (event 2) (star (any 64)))) (34 ∷ 2 ∷ 63 ∷ []) true
+    ∷ case (exchange 2 (join (event 2) (star (any 64)))) (2 ∷ []) false
+    ∷ case (exchange 2 (join (event 34) (star (any 64)))) (2 ∷ 34 ∷ []) true
+    ∷ case (exchange 2 (event 18)) (18 ∷ []) true
+    ∷ case (exchange 3 (star (leaf 0x8001))) (48 ∷ 63 ∷ 48 ∷ []) true
+    ∷ case (exchange 3 (star (leaf 0x8001))) (0 ∷ []) false
+    ∷ case (exchange 3 (either empty (leaf 0xFFFFFFFF))) (48 ∷ []) true
+    ∷ case (exchange 3 (either empty (leaf 0xFFFFFFFF))) (31 ∷ []) true
+    ∷ case (exchange 3 (either empty (leaf 0xFFFFFFFF))) (0 ∷ []) false
+    ∷ []
+
+exchanged-answered : map (λ (x : Case). accepts (x .condition) (x .word)) exchangedCases ≡ map (λ (x : Case). x .answer) exchangedCases
+unfolding accepts exchange
+exchanged-answered = refl

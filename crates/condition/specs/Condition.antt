@@ -10,7 +10,7 @@ use Rattle.bits.specs.Bits.{has}
 abbrev pub Word : Type 0
 Word = List ℕ
 
--- "a leaf, a 4-byte set (bit e for event e)", EMPTY, JOIN, EITHER, STAR
+-- "a leaf, a 4-byte set (bit e for event e)", in document 02, Ask 11 also "an 8-byte set"; EMPTY, JOIN, EITHER, STAR
 pub data Condition : Type 0 where
   leaf : ℕ → Condition
   empty : Condition
