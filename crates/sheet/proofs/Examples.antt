@@ -10,8 +10,8 @@ use native.Mathlib.Omega.{arith}
 use lib.ListN.{getD, replicate, set, take}
 use Rattle.condition.specs.Condition.{leaf, empty, join, either, star}
 use Rattle.certificate.specs.Certificate.{pair}
-use Rattle.sheet.specs.Model.{Model, large, entry, withKinds, NoLarger}
-use Rattle.sheet.specs.Sheet.{pointFrom, Declared, Body, Method, event-step, callFrom, failingCallFrom, pass-step, stop-step}
+use Rattle.sheet.specs.Model.{Model, large, entry, withKinds, as-many, NoLarger}
+use Rattle.sheet.specs.Sheet.{pointFrom, Declared, Body, Method, event-step, callFrom, failingCallFrom, channelCallFrom, pass-step, stop-step}
 use Rattle.sheet.specs.Kind.{kindOf, sectionOf, bodyLength}
 use Rattle.sheet.specs.Record.{Record, recordAt}
 use Rattle.sheet.specs.Reading.{nothing, Counted, Reading, startingFrom, startsOf, inCondition, ReadResult, whole, refusal, stateOf, readFrom, readSheet}
@@ -20,20 +20,20 @@ use Rattle.sheet.specs.Decode.{pointOf, methodOf, stepOf, sheetOf}
 -- Kinds -----------------------------------------------------------------------------------------------------------------
 
 abbrev allKinds : List ℕ
-allKinds = 1 ∷ 2 ∷ 3 ∷ 4 ∷ 5 ∷ 6 ∷ 7 ∷ 8 ∷ 9 ∷ 10 ∷ 11 ∷ 12 ∷ 13 ∷ 14 ∷ 15 ∷ 16 ∷ 17 ∷ 18 ∷ 19 ∷ 20 ∷ []
+allKinds = 1 ∷ 2 ∷ 3 ∷ 4 ∷ 5 ∷ 6 ∷ 7 ∷ 8 ∷ 9 ∷ 10 ∷ 11 ∷ 12 ∷ 13 ∷ 14 ∷ 15 ∷ 16 ∷ 17 ∷ 18 ∷ 19 ∷ 20 ∷ 21 ∷ 22 ∷ []
 
 -- "Body lengths by kind, 1 to 14: 4, 0, 0, 0, 0, 0, 6, 6, 10, 5, 6, 4, 5, 0"; of 15 to 17 five, eight and four fields, "all fields two bytes"; 18
--- "no body", 19 "body from (2 bytes)"; 20 four fields, "two bytes each"
-lengths-are : map bodyLength allKinds ≡ 4 ∷ 0 ∷ 0 ∷ 0 ∷ 0 ∷ 0 ∷ 6 ∷ 6 ∷ 10 ∷ 5 ∷ 6 ∷ 4 ∷ 5 ∷ 0 ∷ 10 ∷ 16 ∷ 8 ∷ 0 ∷ 2 ∷ 8 ∷ []
+-- "no body", 19 "body from (2 bytes)"; 20 four fields, "two bytes each"; 21 "an 8-byte set", 22 "from, to, method (2 bytes each), channel (1)"
+lengths-are : map bodyLength allKinds ≡ 4 ∷ 0 ∷ 0 ∷ 0 ∷ 0 ∷ 0 ∷ 6 ∷ 6 ∷ 10 ∷ 5 ∷ 6 ∷ 4 ∷ 5 ∷ 0 ∷ 10 ∷ 16 ∷ 8 ∷ 0 ∷ 2 ∷ 8 ∷ 8 ∷ 7 ∷ []
 lengths-are = refl
 
 -- "Sections in order: kinds 1-6, 7, 8-9, 10-12, 13-14"; 15 to 17 "in the sections of 8, 9 and 11"; 18 in "the first
--- section", 19 "among the steps", 20 "in the section of kind 7"
-sections-are : map sectionOf allKinds ≡ 1 ∷ 1 ∷ 1 ∷ 1 ∷ 1 ∷ 1 ∷ 2 ∷ 3 ∷ 3 ∷ 4 ∷ 4 ∷ 4 ∷ 5 ∷ 5 ∷ 3 ∷ 3 ∷ 4 ∷ 1 ∷ 4 ∷ 2 ∷ []
+-- section", 19 "among the steps", 20 "in the section of kind 7"; 21 is a leaf and 22 a call
+sections-are : map sectionOf allKinds ≡ 1 ∷ 1 ∷ 1 ∷ 1 ∷ 1 ∷ 1 ∷ 2 ∷ 3 ∷ 3 ∷ 4 ∷ 4 ∷ 4 ∷ 5 ∷ 5 ∷ 3 ∷ 3 ∷ 4 ∷ 1 ∷ 4 ∷ 2 ∷ 1 ∷ 4 ∷ []
 sections-are = refl
 
--- in an open condition stand "kinds 1-6": "a condition is open and the kind is above 6" is 4
-in-condition-are : map (λ (k : ℕ). inCondition (sectionOf k) (kindOf k .role)) allKinds ≡ replicate 6 true ++ replicate 14 false
+-- in an open condition stand "kinds 1-6": "a condition is open and the kind is above 6" is 4; 21 is "read as kind 1 is for 4 to 6"
+in-condition-are : map (λ (k : ℕ). inCondition (sectionOf k) (kindOf k .role)) allKinds ≡ replicate 6 true ++ (replicate 14 false ++ (true ∷ false ∷ []))
 in-condition-are = refl
 
 -- Fields ----------------------------------------------------------------------------------------------------------------
@@ -41,6 +41,9 @@ in-condition-are = refl
 -- each field has another value, and those of two bytes have both
 abbrev leafBytes : List ℕ
 leafBytes = 0x01 ∷ 0x01 ∷ 0x02 ∷ 0x03 ∷ 0x04 ∷ []
+
+abbrev longLeafBytes : List ℕ
+longLeafBytes = 0x15 ∷ 0x01 ∷ 0x02 ∷ 0x03 ∷ 0x04 ∷ 0x05 ∷ 0x06 ∷ 0x07 ∷ 0x08 ∷ []
 
 abbrev pointBytes : List ℕ
 pointBytes = 0x07 ∷ 0x01 ∷ 0x11 ∷ 0x02 ∷ 0x12 ∷ 0x03 ∷ 0x13 ∷ []
@@ -65,6 +68,7 @@ stepBytes =
     ∷ (0x0C ∷ 0x01 ∷ 0x11 ∷ 0x02 ∷ 0x12 ∷ [])
     ∷ (0x11 ∷ 0x01 ∷ 0x11 ∷ 0x02 ∷ 0x12 ∷ 0x03 ∷ 0x13 ∷ 0x04 ∷ 0x14 ∷ [])
     ∷ (0x13 ∷ 0x01 ∷ 0x11 ∷ [])
+    ∷ (0x16 ∷ 0x01 ∷ 0x11 ∷ 0x02 ∷ 0x12 ∷ 0x03 ∷ 0x13 ∷ 0x04 ∷ [])
     ∷ []
 
 abbrev pub pairBytes : List ℕ
@@ -73,8 +77,8 @@ pairBytes = 0x0D ∷ 0x05 ∷ 0x01 ∷ 0x02 ∷ 0x03 ∷ 0x04 ∷ []
 abbrev pub with : ℕ → List ℕ → Record
 with kind values = record { at = 0; kind = kind; values = values }
 
-fields-are-so : map (λ (s : List ℕ). recordAt s 0) (leafBytes ∷ (0x03 ∷ []) ∷ pointBytes ∷ methodBytes ∷ pairBytes ∷ [])
-    ≡ with 1 (0x04030201 ∷ []) ∷ with 3 [] ∷ with 7 (0x1101 ∷ 0x1202 ∷ 0x1303 ∷ []) ∷ with 9 (0x1101 ∷ 0x1202 ∷ 0x1303 ∷ 0x1404 ∷ 0x1505 ∷ [])
+fields-are-so : map (λ (s : List ℕ). recordAt s 0) (leafBytes ∷ longLeafBytes ∷ (0x03 ∷ []) ∷ pointBytes ∷ methodBytes ∷ pairBytes ∷ [])
+    ≡ with 1 (0x04030201 ∷ []) ∷ with 21 (0x0807060504030201 ∷ []) ∷ with 3 [] ∷ with 7 (0x1101 ∷ 0x1202 ∷ 0x1303 ∷ []) ∷ with 9 (0x1101 ∷ 0x1202 ∷ 0x1303 ∷ 0x1404 ∷ 0x1505 ∷ [])
     ∷ with 13 (0x05 ∷ 0x04030201 ∷ []) ∷ []
 unfolding recordAt
 fields-are-so = refl
@@ -107,7 +111,7 @@ methods-are-so = refl
 
 steps-are-so : map (λ (s : List ℕ). stepOf (recordAt s 0)) stepBytes
     ≡ event-step 0x1101 0x1202 0x03 ∷ callFrom 0x1101 0x1202 0x1303 ∷ pass-step 0x1101 0x1202 ∷ failingCallFrom 0x1101 0x1202 0x1303 0x1404 ∷ stop-step 0x1101
-    ∷ []
+    ∷ channelCallFrom 0x1101 0x1202 0x1303 0x04 ∷ []
 unfolding recordAt
 steps-are-so = refl
 
@@ -167,7 +171,7 @@ abbrev pub times : ℕ → List ℕ → List ℕ
 times zero s = []
 times (suc n) s = s ++ times n s
 
-abbrev leafOf0 : List ℕ
+abbrev pub leafOf0 : List ℕ
 leafOf0 = 0x01 ∷ 0x01 ∷ 0x00 ∷ 0x00 ∷ 0x00 ∷ []
 
 abbrev pub point0 : List ℕ
@@ -346,7 +350,7 @@ entry-rows-are-so = refl
 
 -- it is no larger than the large one
 pub entry-no-larger : NoLarger entry large
-entry-no-larger = record { bytes = omega arith; points = omega arith; events = refl; kinds = omega arith }
+entry-no-larger = record { bytes = omega arith; points = omega arith; events = as-many refl; kinds = omega arith }
 
 -- Two outcomes ----------------------------------------------------------------------------------------------------------
 
@@ -393,7 +397,7 @@ counts c p kinds k = getD ([] ∷ replicate c (of 0) ∷ replicate p (of 0) ∷ 
     of : ℕ → Counted
     of kind = record { last = with kind []; opened = nothing }
 
-abbrev behind : List ℕ → List ℕ → List ℕ → Row
+abbrev pub behind : List ℕ → List ℕ → List ℕ → Row
 behind kinds s refused = record { before = counts 1 1 kinds; bytes = s; refused = refused }
 
 abbrev call : ℕ → List ℕ
@@ -498,7 +502,7 @@ older-rows-are-so = refl
 
 -- it is no larger, and the large one is no such one beside it
 pub older-no-larger : NoLarger (withKinds 14 large) large
-older-no-larger = record { bytes = omega arith; points = omega arith; events = refl; kinds = omega arith }
+older-no-larger = record { bytes = omega arith; points = omega arith; events = as-many refl; kinds = omega arith }
 
 larger-than-older : NoLarger large (withKinds 14 large) → ⊥
 larger-than-older n = omega (arith, n .kinds)

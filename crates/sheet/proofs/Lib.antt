@@ -1,5 +1,6 @@
 pub mod Examples
 mod EditionExamples
 mod OwnerExamples
+mod ChannelExamples
 pub mod Each
 pub mod Kind

@@ -1,11 +1,11 @@
--- The sheet that was read: document 01, "Records", and document 02, Asks 2, 4 and 9.
+-- The sheet that was read: document 01, "Records", and document 02, Asks 2, 4, 9 and 11.
 use Prim.Native.Nat.{ℕ, _+_}
 use mathlib.Core.Bool.{Bool, false}
 use mathlib.Core.Option.{none, some}
 use mathlib.Core.List.{List, [], map}
 use lib.Dec.{eqb}
 use Rattle.sheet.specs.Model.{Model}
-use Rattle.sheet.specs.Sheet.{Declared, Point, Method, Step, event-step, callFrom, failingCallFrom, pass-step, stop-step, Sheet}
+use Rattle.sheet.specs.Sheet.{Declared, Point, Method, Step, event-step, callFrom, failingCallFrom, channelCallFrom, pass-step, stop-step, Sheet}
 use Rattle.sheet.specs.Kind.{conditions, points, methods, steps, certificates}
 use Rattle.sheet.specs.Record.{Record, value}
 use Rattle.sheet.specs.Reading.{Counted, _when_else_, isPrimitive, hasTwoOutcomes, ownerOf, isNew, item, ReadResult, whole, refusal, readSheet}
@@ -31,13 +31,14 @@ methodOf x =
           else some (record { entry = value x 3; exit = value x 4; failed-exit = some (value x 7) when hasTwoOutcomes x else none });
     }
 
--- kind 10: "from, to (2 each), event (1)"; kind 11: "from, to, method"; kind 17: "from, to, failed target, method"; kind 19: "from"; kind 12:
--- "from, to"
+-- kind 10: "from, to (2 each), event (1)"; kind 11: "from, to, method"; kind 17: "from, to, failed target, method"; kind 22: "from, to, method ..,
+-- channel"; kind 19: "from"; kind 12: "from, to"
 abbrev pub stepOf : Record → Step
 stepOf x =
     event-step (value x 0) (value x 1) (value x 2) when eqb (x .kind) 10
     else callFrom (value x 0) (value x 1) (value x 2) when eqb (x .kind) 11
     else failingCallFrom (value x 0) (value x 1) (value x 2) (value x 3) when eqb (x .kind) 17
+    else channelCallFrom (value x 0) (value x 1) (value x 2) (value x 3) when eqb (x .kind) 22
     else stop-step (value x 0) when eqb (x .kind) 19
     else pass-step (value x 0) (value x 1)
 

@@ -1,4 +1,4 @@
--- The kinds of records: document 01, "Records", and document 02, Asks 2, 4 and 9. One table says of each kind its section, what it is to what is open,
+-- The kinds of records: document 01, "Records", and document 02, Asks 2, 4, 9 and 11. One table says of each kind its section, what it is to what is open,
 -- and its fields.
 use Prim.Native.Nat.{ℕ, _+_}
 use mathlib.Core.List.{List, [], _∷_}
@@ -21,18 +21,20 @@ steps = 4
 abbrev pub certificates : ℕ
 certificates = 5
 
--- the fields of a body: "a 4-byte set"; "event (1)"; "left place (1)"; "an owner, its method's number", "the one name that may point forward"; the
--- number of a condition, a point or a method, by its section: "2 bytes each"
+-- the fields of a body: "a 4-byte set"; "an 8-byte set"; "event (1)"; "left place (1)"; "an owner, its method's number", "the one name that may point
+-- forward"; "channel (1)"; the number of a condition, a point or a method, by its section: "2 bytes each"
 pub data Field : Type 0 where
-  a-set an-event a-place an-owner : Field
+  a-set a-long-set an-event a-place an-owner a-channel : Field
   a-name : (of : ℕ) → Field
 
 -- how many bytes a field has
 abbrev pub width : Field → ℕ
 width a-set = 4
+width a-long-set = 8
 width an-event = 1
 width a-place = 1
 width an-owner = 2
+width a-channel = 1
 width (a-name of) = 2
 
 -- what a record is to what is open
@@ -88,13 +90,17 @@ kinds =
     ∷ a-kind steps counts (a-name points ∷ [])
     -- Ask 9. 20: "a point with past, own, due and an owner", which "stands in the section of kind 7"
     ∷ a-kind points counts (a-name conditions ∷ a-name conditions ∷ a-name conditions ∷ an-owner ∷ [])
+    -- Ask 11. 21: "a leaf with an 8-byte set, read as kind 1 is for 4 to 6"; 22: "a call with from, to, method (2 bytes each), channel (1)"
+    ∷ a-kind conditions (symbol 0 (λ set a b. leaf set)) (a-long-set ∷ [])
+    ∷ a-kind steps counts (a-name points ∷ a-name points ∷ a-name methods ∷ a-channel ∷ [])
     ∷ []
 
 -- the row of a kind; a kind that the table lacks has that of kind 0
 abbrev pub kindOf : ℕ → Kind
 kindOf k = getD kinds k (a-kind 0 counts [])
 
--- the section of a kind: "kinds 1-6, 7, 8-9, 10-12, 13-14", 15 to 17 in those of 8, 9 and 11, 18 in the first, 19 in that of the steps and 20 in that of 7
+-- the section of a kind: "kinds 1-6, 7, 8-9, 10-12, 13-14", 15 to 17 in those of 8, 9 and 11, 18 and 21 in the first, 19 and 22 in that of the steps and
+-- 20 in that of 7
 abbrev pub sectionOf : ℕ → ℕ
 sectionOf k = kindOf k .section
 
@@ -103,6 +109,6 @@ abbrev pub widths : List Field → ℕ
 widths [] = 0
 widths (f ∷ fs) = width f + widths fs
 
--- "Body lengths by kind, 1 to 14", and of 15 to 20
+-- "Body lengths by kind, 1 to 14", and of 15 to 22
 abbrev pub bodyLength : ℕ → ℕ
 bodyLength k = widths (kindOf k .fields)

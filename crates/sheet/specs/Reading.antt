@@ -1,4 +1,4 @@
--- Reading a sheet, record by record: document 01, "Records" and "What the loader returns", refusals 1 to 9, and document 02's 18 to 20, 24 and 25,
+-- Reading a sheet, record by record: document 01, "Records" and "What the loader returns", refusals 1 to 9, and document 02's 18 to 20 and 24 to 26,
 -- which are met while reading.
 use Prim.Native.Nat.{ℕ, zero, suc, _+_}
 use mathlib.Core.Bool.{Bool, true, false, not, cond, _&&_, _||_}
@@ -9,7 +9,7 @@ use lib.Dec.{eqb, ltb, leb}
 use Rattle.condition.specs.Condition.{Condition, noWord}
 use Rattle.certificate.specs.Certificate.{Certificate, pair}
 use Rattle.sheet.specs.Model.{Model, conditionLimit, symbolLimit, leafLimit, methodLimit, stepLimit}
-use Rattle.sheet.specs.Kind.{conditions, points, methods, Field, a-set, an-event, a-place, an-owner, a-name, Role, symbol, a-pair, counts, edition, Kind, kindOf}
+use Rattle.sheet.specs.Kind.{conditions, points, methods, Field, a-set, a-long-set, an-event, a-place, an-owner, a-channel, a-name, Role, symbol, a-pair, counts, edition, Kind, kindOf}
 use Rattle.sheet.specs.Record.{Record, byteAt, recordAt, nextAt, value}
 
 -- The state between two records ---------------------------------------------------------------------------------------
@@ -77,9 +77,9 @@ inCondition section edition = false
 abbrev pub isNew : List ℕ → Bool
 isNew s = eqb (byteAt s 0) 18
 
--- kind 1; kinds 8 and 15; kinds 15 and 16; kind 20
+-- kinds 1 and 21; kinds 8 and 15; kinds 15 and 16; kind 20
 abbrev pub isLeaf : Record → Bool
-isLeaf x = eqb (x .kind) 1
+isLeaf x = eqb (x .kind) 1 || eqb (x .kind) 21
 
 abbrev pub isPrimitive : Record → Bool
 isPrimitive x = eqb (x .kind) 8 || eqb (x .kind) 15
@@ -101,19 +101,21 @@ wrongItems section edition items = false
 abbrev pub full : Model → ℕ → ℕ → Bool
 full M section n = getD (false ∷ leb conditionLimit n ∷ leb (M .points) n ∷ leb methodLimit n ∷ leb stepLimit n ∷ []) section false
 
--- 6: "one more than a limit"; "96 records of kinds 1-5 and 31 leaves in a condition"
+-- 6: "one more than a limit"; "96 records of kinds 1-5 and 31 leaves in a condition", among which kind 21 counts as kind 1 does
 abbrev pub overLimit : Model → Reading → Record → ℕ → Role → Bool
 overLimit M r x section (symbol takes make) = leb symbolLimit (r .opened .symbols) || (isLeaf x && leb leafLimit (r .opened .leaves))
 overLimit M r x section a-pair = false
 overLimit M r x section counts = full M section (tally r section)
 overLimit M r x section edition = false
 
--- not 7, "a name that does not exist yet, or an event above 31": "Names point only backward"; of an owner "7 does not judge it"
+-- not 7, "a name that does not exist yet, or an event above 31": "Names point only backward"; of an owner "7 does not judge it", and a channel is 26's
 abbrev pub exists : ℕ → (ℕ → ℕ) → Field → ℕ → Bool
 exists events counted a-set v = true
+exists events counted a-long-set v = true
 exists events counted an-event v = ltb v events
 exists events counted a-place v = true
 exists events counted an-owner v = true
+exists events counted a-channel v = true
 exists events counted (a-name of) v = ltb v (counted of)
 
 -- of all fields of a record, in order
@@ -122,7 +124,7 @@ allExist events counted [] vs = true
 allExist events counted (f ∷ fs) [] = true
 allExist events counted (f ∷ fs) (v ∷ vs) = exists events counted f v && allExist events counted fs vs
 
--- the record of a section that a number names, if there is such a one; 7 comes before 18 and 24
+-- the record of a section that a number names, if there is such a one; 7 comes before 18, 24 and 26
 abbrev pub recordNamed : Reading → (section n : ℕ) → Option Record
 recordNamed r section n = getElem? (map (λ (c : Counted). c .last) (r .before section ++ r .own section)) n
 
@@ -163,9 +165,11 @@ allAgree (o ∷ os) = agreesWith o os && allAgree os
 -- the points that a record names: a method's entry, exit and failed exit, and the points that a step joins; "from" alone of a stop
 abbrev pub namesPoint : Field → Bool
 namesPoint a-set = false
+namesPoint a-long-set = false
 namesPoint an-event = false
 namesPoint a-place = false
 namesPoint an-owner = false
+namesPoint a-channel = false
 namesPoint (a-name of) = eqb of points
 
 abbrev pub pointsNamed : List Field → List ℕ → List ℕ
@@ -183,9 +187,21 @@ ownersJoined number owner k vs =
 abbrev pub wrongOwner : Reading → Kind → Record → Bool
 wrongOwner r k x = not (allAgree (ownersJoined (tally r methods) (pointOwner r) k (x .values)))
 
+-- a primitive of one outcome, which alone is called on a channel; and the last channel
+abbrev pub plainPrimitiveIn : Option Record → Bool
+plainPrimitiveIn none = false
+plainPrimitiveIn (some m) = isPrimitive m && not (hasTwoOutcomes m)
+
+abbrev pub lastChannel : ℕ
+lastChannel = 3
+
+-- 26: "when kind 22 names a method with body, a two-outcome method or a channel above 3"
+abbrev pub wrongChannel : Reading → Record → Bool
+wrongChannel r x = eqb (x .kind) 22 && (not (plainPrimitiveIn (recordNamed r methods (value x 2))) || ltb lastChannel (value x 3))
+
 -- "at one record the table's order holds"; 19, "when kind 18 is not first", comes "at its record after 4", 20, "when kind 19 stands in an old sheet", "at
--- its record after 19", 18 "at that record after 7", and 24 "at that record after 18": the number of the first refusal that applies to the record at an
--- offset, 0 if none does
+-- its record after 19", 18 "at that record after 7", 24 "at that record after 18", and 26 "at that record after 24": the number of the first refusal that
+-- applies to the record at an offset, 0 if none does
 abbrev pub refusalOf : Model → List ℕ → ℕ → Reading → ℕ
 refusalOf M s at r =
     let x = recordAt s at in
@@ -201,6 +217,7 @@ refusalOf M s at r =
     else 9 when isPrimitive x && eqb (length (r .own methods)) 0
     else 18 when wrongOutcomes r x
     else 24 when wrongOwner r k x
+    else 26 when wrongChannel r x
     else 0
 
 -- The state past a record that is not refused -------------------------------------------------------------------------

@@ -5,6 +5,7 @@ use mathlib.Core.Option.{Option, none, some}
 use mathlib.Core.List.{List}
 use lib.ListN.{getD, getElem?}
 use Rattle.condition.specs.Condition.{Condition, noWord}
+use Rattle.condition.specs.Exchange.{exchange}
 use Rattle.certificate.specs.Certificate.{Certificate}
 
 -- a point: "conditions past, own, due"; of kind 20 "an owner, its method's number", too
@@ -44,12 +45,13 @@ pub record Method : Type 0 where
   pub failing : Option Declared
   pub body : Option Body
 
--- a call step: "from, to, method"; of kind 17: "from, to, failed target, method"
+-- a call step: "from, to, method"; of kind 17: "from, to, failed target, method"; of kind 22: "from, to, method .., channel"
 pub record CallStep : Type 0 where
   pub from : ℕ
   pub to : ℕ
   pub failed-to : Option ℕ
   pub method : ℕ
+  pub channel : Option ℕ
 
 -- an event step: "from, to (2 each), event (1)"; a pass step: "from, to"; a stop step, kind 19: "from"
 pub data Step : Type 0 where
@@ -58,12 +60,15 @@ pub data Step : Type 0 where
   pass-step : (from to : ℕ) → Step
   stop-step : (from : ℕ) → Step
 
--- the steps of kinds 11 and 17
+-- the steps of kinds 11, 17 and 22
 abbrev pub callFrom : (from to method : ℕ) → Step
-callFrom p q m = call-step (record { from = p; to = q; failed-to = none; method = m })
+callFrom p q m = call-step (record { from = p; to = q; failed-to = none; method = m; channel = none })
 
 abbrev pub failingCallFrom : (from to failed-to method : ℕ) → Step
-failingCallFrom p q f m = call-step (record { from = p; to = q; failed-to = some f; method = m })
+failingCallFrom p q f m = call-step (record { from = p; to = q; failed-to = some f; method = m; channel = none })
+
+abbrev pub channelCallFrom : (from to method channel : ℕ) → Step
+channelCallFrom p q m c = call-step (record { from = p; to = q; failed-to = none; method = m; channel = some c })
 
 -- a sheet: what its records stand for, by section, and whether it is "a sheet of the new edition" (document 02, Ask 4)
 pub record Sheet : Type 0 where
@@ -125,6 +130,11 @@ trace S m o = conditionNamed S (λ (x : Declared). x .trace) (declaredIn o (getE
 
 abbrev pub future : Sheet → ℕ → Outcome → Condition
 future S m o = conditionNamed S (λ (x : Declared). x .future) (declaredIn o (getElem? (S .methods) m))
+
+-- a condition that a method declares, as a call reads it: by kind 22 "with the events of channel 0 and that channel exchanged"
+abbrev pub onChannel : Option ℕ → Condition → Condition
+onChannel none r = r
+onChannel (some c) r = exchange c r
 
 -- the body of the method m, if it is a method with body
 abbrev pub bodyIn : Option Method → Option Body

@@ -7,13 +7,13 @@ use native.Mathlib.Nat.{le-refl}
 use native.Mathlib.Omega.{arith}
 use lib.ListN.{length}
 use lib.Dec.{eqb·suc-zero, ltb, leb}
-use Rattle.sheet.specs.Model.{Model, NoLarger, withKinds}
+use Rattle.sheet.specs.Model.{Model, as-many, NoLarger, withKinds}
 use Rattle.sheet.specs.Record.{byteAt, nextAt}
 use Rattle.sheet.specs.Reading.{Reading, fresh, refusalOf, pastAt, ReadResult, refusal, atEnd, readOn, readSheet}
 use Rattle.sheet_laws.proofs.Take.{took}
 use Rattle.sheet_laws.proofs.ReadOn.{afterRecord}
-use Rattle.sheet_laws.proofs.Outcomes.{Reached, at-start, past}
-use Rattle.sheet_laws.proofs.Models.{Beside, two, six, same, numbers}
+use Rattle.sheet_laws.proofs.States.{Reached, at-start, past}
+use Rattle.sheet_laws.proofs.Models.{Beside, two, six, seven, same, numbers}
 
 -- no record that reading comes to is of a kind above k that the instrument M takes
 abbrev pub WithoutKindsAbove : ℕ → Model → List ℕ → Type 0
@@ -21,7 +21,7 @@ WithoutKindsAbove k M s = (at : ℕ) (r : Reading) → Reached M s at r → k < 
 
 -- an instrument that took the kinds up to k only is no larger
 pub fewer-kinds : (k : ℕ) (M : Model) → k ≤ M .kinds → NoLarger (withKinds k M) M
-fewer-kinds k M l = record { bytes = le-refl _; points = le-refl _; events = refl; kinds = l }
+fewer-kinds k M l = record { bytes = le-refl _; points = le-refl _; events = as-many refl; kinds = l }
 
 module _ (k : ℕ) (M : Model) (l : k ≤ M .kinds) (s : List ℕ) (without : WithoutKindsAbove k M s) where
   abbrev N : Model
@@ -31,6 +31,7 @@ module _ (k : ℕ) (M : Model) (l : k ≤ M .kinds) (s : List ℕ) (without : Wi
   same-number : (at : ℕ) (r : Reading) → Reached M s at r → {n n′ : ℕ} → Beside N M (fewer-kinds k M l) s at r n n′ → n ≡ n′
   same-number at r h (two above taken) = absurd (without at r h above taken)
   same-number at r h (six fewer) = absurd (omega (arith, fewer))
+  same-number at r h (seven step above below) = absurd (omega (arith, above, below))
   same-number at r h same = refl
 
   -- reading on from an offset finds the same
@@ -50,7 +51,7 @@ module _ (k : ℕ) (M : Model) (l : k ≤ M .kinds) (s : List ℕ) (without : Wi
       ap (λ (x : ReadResult). cond (leb (length s) at) (atEnd s r) x)
       (ap (afterRecord N s fuel at r) (same-number at r h (numbers N M (fewer-kinds k M l) s at r)) ∙ past-record fuel at r more (refusalOf M s at r) refl)
 
-  -- READ AS BEFORE
+  -- read as before
   pub reads-as-before : readSheet N s ≡ readSheet M s
   unfolding readSheet
   reads-as-before = ap (λ (x : ReadResult). cond (ltb (M .bytes) (length s)) (refusal 1 (M .bytes) fresh) x) (on (length s) 0 fresh at-start)

@@ -77,7 +77,7 @@ NoStop (stop-step p) = ⊥
 fits-now : (M : Model) (s : List ℕ) (at : ℕ) (r : Reading) → Took M s at r → StopFits (isNew s) (stepOf (recordAt s at))
 unfolding recordAt
 fits-now M s at r w =
-    step-cases (StopFits (isNew s)) (recordAt s at) tt (λ e. tt) (λ e. tt)
+    step-cases (StopFits (isNew s)) (recordAt s at) tt (λ e. tt) (λ e. tt) (λ e. tt)
     (λ e. not-false (isNew s) (and-false (eqb (byteAt s at) 19) (not (isNew s)) (w .stops-new) e)) tt
 
 module _ (M : Model) (s : List ℕ) (r : Reading) (h : readSheet M s ≡ whole r) where

@@ -1,14 +1,19 @@
 -- The fields of a record: what its bytes, shorts and sets are, and below which number; and the fields of each kind's body, one after the other.
 use mathlib.Core.Path.{_≡_, refl, ap, _∙_}
 use mathlib.Core.List.{List, [], _∷_}
-use Prim.Native.Nat.{ℕ, zero, suc, _+_, _*_, _^_, _<_}
+use Prim.Native.Nat.{ℕ, _+_, _*_, _^_, _<_}
 use native.Mathlib.Omega.{arith}
 use lib.ListN.{getD}
-use Rattle.sheet.specs.Kind.{Field, a-set, an-event, a-place, an-owner, a-name, width}
+use Rattle.sheet.specs.Kind.{Field, a-set, a-long-set, an-event, a-place, an-owner, a-channel, a-name, width}
 use Rattle.sheet.specs.Record.{Bytes, byteAt, numberAt, valuesAt}
-use Rattle.sheet_laws.specs.AtOffset.{shortAt, setAt}
+use Rattle.sheet_laws.specs.AtOffset.{shortAt, setAt, longSetAt}
 
 -- checked before the proofs
+
+-- how many bits the first field of a body has, if there is one
+abbrev pub firstBits : List Field → ℕ
+firstBits [] = 0
+firstBits (f ∷ fs) = 8 * width f
 
 module _ (s : List ℕ) where
   pub byte-is : (i : ℕ) → byteAt s i ≡ getD s i 0
@@ -22,6 +27,10 @@ module _ (s : List ℕ) where
   pub set-is : (i : ℕ) → setAt s i ≡ shortAt s i + 65536 * shortAt s (i + 2)
   unfolding setAt
   set-is i = refl
+
+  pub long-set-is : (i : ℕ) → longSetAt s i ≡ setAt s i + 4294967296 * setAt s (i + 4)
+  unfolding longSetAt
+  long-set-is i = refl
 
   -- the same as numbers of so many bytes
 
@@ -39,6 +48,15 @@ module _ (s : List ℕ) where
       let two : at + 1 + 1 ≡ at + 2 = omega arith in
       let three : at + 1 + 1 + 1 ≡ at + 2 + 1 = omega arith in
       omega (arith, set-is at, short-is at, short-is (at + 2), ap (byteAt s) two, ap (byteAt s) three)
+
+  -- a number of n bytes and four more behind them
+  pub long-set-value : (at : ℕ) → numberAt s 8 at ≡ longSetAt s at
+  unfolding numberAt
+  long-set-value at =
+      let here = set-value at in
+      let there = set-value (at + 4) in
+      let four : at + 1 + 1 + 1 + 1 ≡ at + 4 = omega arith in
+      omega (arith, long-set-is at, here, there, ap (λ (i : ℕ). numberAt s 4 i) four)
 
   -- Values --------------------------------------------------------------------------------------------------------------
 
@@ -67,6 +85,12 @@ module _ (s : List ℕ) where
 
   pub set-value-alone : (at : ℕ) → valuesAt s at (a-set ∷ []) ≡ setAt s at ∷ []
   set-value-alone at = field-first a-set [] at (at + 4) (setAt s at) refl (set-value at) (no-value (at + 4))
+
+  pub channel-value : (at : ℕ) → valuesAt s at (a-channel ∷ []) ≡ byteAt s at ∷ []
+  channel-value at = field-first a-channel [] at (at + 1) (byteAt s at) refl (byte-value at) (no-value (at + 1))
+
+  pub long-set-value-alone : (at : ℕ) → valuesAt s at (a-long-set ∷ []) ≡ longSetAt s at ∷ []
+  long-set-value-alone at = field-first a-long-set [] at (at + 8) (longSetAt s at) refl (long-set-value at) (no-value (at + 8))
 
   module _ (at : ℕ) where
     -- names in a row, the first at the offset at + j: the fields, where those behind them start, and the values
@@ -106,16 +130,20 @@ module _ (s : List ℕ) where
     pub set-lt : (i : ℕ) → setAt s i < 2 ^ 32
     set-lt i = omega (arith, set-is i, short-lt i, short-lt (i + 2))
 
-    -- no field has more than four bytes
-    number-lt : (f : Field) (at : ℕ) → numberAt s (width f) at < 2 ^ 32
+    pub long-set-lt : (i : ℕ) → longSetAt s i < 2 ^ 64
+    long-set-lt i = omega (arith, long-set-is i, set-lt i, set-lt (i + 4))
+
+    -- a field has eight bits a byte
+    number-lt : (f : Field) (at : ℕ) → numberAt s (width f) at < 2 ^ (8 * width f)
     number-lt a-set at = omega (arith, set-value at, set-lt at)
+    number-lt a-long-set at = omega (arith, long-set-value at, long-set-lt at)
     number-lt an-event at = omega (arith, byte-value at, byte-lt at)
     number-lt a-place at = omega (arith, byte-value at, byte-lt at)
     number-lt an-owner at = omega (arith, short-value at, short-lt at)
+    number-lt a-channel at = omega (arith, byte-value at, byte-lt at)
     number-lt (a-name k) at = omega (arith, short-value at, short-lt at)
 
-    pub value-lt : (fs : List Field) (at i : ℕ) → getD (valuesAt s at fs) i 0 < 2 ^ 32
+    pub first-lt : (fs : List Field) (at : ℕ) → getD (valuesAt s at fs) 0 0 < 2 ^ firstBits fs
     unfolding valuesAt
-    value-lt [] at i = omega arith
-    value-lt (f ∷ fs) at zero = number-lt f at
-    value-lt (f ∷ fs) at (suc i) = value-lt fs (at + width f) i
+    first-lt [] at = omega arith
+    first-lt (f ∷ fs) at = number-lt f at

@@ -9,14 +9,14 @@ use lib.ListN.{length, getD, drop}
 use lib.Dec.{eqb}
 use Rattle.condition.specs.Condition.{Condition, join, either, star, noWord}
 use Rattle.certificate.specs.Certificate.{pair}
-use Rattle.sheet.specs.Kind.{a-set, Role, symbol, a-pair, counts, edition, Kind, a-kind, kinds, kindOf, sectionOf}
+use Rattle.sheet.specs.Kind.{a-set, a-long-set, Role, symbol, a-pair, counts, edition, Kind, a-kind, kinds, kindOf, sectionOf}
 use Rattle.sheet.specs.Record.{Record, byteAt, valuesAt, recordAt, value}
-use Rattle.sheet.specs.Sheet.{Declared, Method, Step, event-step, callFrom, failingCallFrom, pass-step, stop-step}
+use Rattle.sheet.specs.Sheet.{Declared, Method, Step, event-step, callFrom, failingCallFrom, channelCallFrom, pass-step, stop-step}
 use Rattle.sheet.specs.Reading.{isLeaf, isPrimitive, hasTwoOutcomes}
 use Rattle.sheet.specs.Decode.{pointOf, declaredFrom, methodOf, stepOf}
 use Rattle.sheet.proofs.Kind.{_and_, numbered}
-use Rattle.sheet_laws.specs.AtOffset.{pointAs, pointAt, declaredAt, methodAs, methodAt, stepAs, stepAt, pairAt, Symbol, leaf-symbol, empty-symbol, join-symbol, either-symbol, star-symbol, shortAt, setAt, symbolsByKind, symbolAt, postfix}
-use Rattle.sheet_laws.proofs.Fields.{event-value, owner-value, set-value-alone, shortsThen, names-then, names-alone, pair-values}
+use Rattle.sheet_laws.specs.AtOffset.{pointAs, pointAt, declaredAt, methodAs, methodAt, stepAs, stepAt, pairAt, Symbol, leaf-symbol, empty-symbol, join-symbol, either-symbol, star-symbol, shortAt, setAt, longSetAt, symbolsByKind, symbolAt, postfix}
+use Rattle.sheet_laws.proofs.Fields.{event-value, owner-value, channel-value, set-value-alone, long-set-value-alone, shortsThen, names-then, names-alone, pair-values}
 use Rattle.sheet_laws.proofs.Symbols.{symbolsIn, leafCount}
 
 -- What a record stands for ------------------------------------------------------------------------------------------------
@@ -50,22 +50,26 @@ Fits s at x section edition = section ≡ 1
 pub step-cases : (P : Step → Type 0) (x : Record) → P (event-step (value x 0) (value x 1) (value x 2))
     → (eqb (x .kind) 11 ≡ true → P (callFrom (value x 0) (value x 1) (value x 2)))
     → (eqb (x .kind) 17 ≡ true → P (failingCallFrom (value x 0) (value x 1) (value x 2) (value x 3)))
+    → (eqb (x .kind) 22 ≡ true → P (channelCallFrom (value x 0) (value x 1) (value x 2) (value x 3)))
     → (eqb (x .kind) 19 ≡ true → P (stop-step (value x 0))) → P (pass-step (value x 0) (value x 1)) → P (stepOf x)
-step-cases P x event = go (eqb (x .kind) 10) (eqb (x .kind) 11) (eqb (x .kind) 17) (eqb (x .kind) 19)
+step-cases P x event = go (eqb (x .kind) 10) (eqb (x .kind) 11) (eqb (x .kind) 17) (eqb (x .kind) 22) (eqb (x .kind) 19)
   where
-    go : (b10 b11 b17 b19 : Bool) → (b11 ≡ true → P (callFrom (value x 0) (value x 1) (value x 2)))
-        → (b17 ≡ true → P (failingCallFrom (value x 0) (value x 1) (value x 2) (value x 3))) → (b19 ≡ true → P (stop-step (value x 0)))
+    go : (b10 b11 b17 b22 b19 : Bool) → (b11 ≡ true → P (callFrom (value x 0) (value x 1) (value x 2)))
+        → (b17 ≡ true → P (failingCallFrom (value x 0) (value x 1) (value x 2) (value x 3)))
+        → (b22 ≡ true → P (channelCallFrom (value x 0) (value x 1) (value x 2) (value x 3))) → (b19 ≡ true → P (stop-step (value x 0)))
         → P (pass-step (value x 0) (value x 1))
         → P
         (cond b10 (event-step (value x 0) (value x 1) (value x 2))
         (cond b11 (callFrom (value x 0) (value x 1) (value x 2))
         (cond b17 (failingCallFrom (value x 0) (value x 1) (value x 2) (value x 3))
-        (cond b19 (stop-step (value x 0)) (pass-step (value x 0) (value x 1))))))
-    go true b11 b17 b19 call failing stop pass = event
-    go false true b17 b19 call failing stop pass = call refl
-    go false false true b19 call failing stop pass = failing refl
-    go false false false true call failing stop pass = stop refl
-    go false false false false call failing stop pass = pass
+        (cond b22 (channelCallFrom (value x 0) (value x 1) (value x 2) (value x 3))
+        (cond b19 (stop-step (value x 0)) (pass-step (value x 0) (value x 1)))))))
+    go true b11 b17 b22 b19 call failing channel stop pass = event
+    go false true b17 b22 b19 call failing channel stop pass = call refl
+    go false false true b22 b19 call failing channel stop pass = failing refl
+    go false false false true b19 call failing channel stop pass = channel refl
+    go false false false false true call failing channel stop pass = stop refl
+    go false false false false false call failing channel stop pass = pass
 
 -- Row by row ----------------------------------------------------------------------------------------------------------------
 
@@ -93,9 +97,17 @@ module _ (s : List ℕ) (at : ℕ) where
   abbrev with : ℕ → List ℕ → Record
   with k vs = record { at = at; kind = k; values = vs }
 
-  pub symbol-is : (k : ℕ) → byteAt s at ≡ k → symbolAt s at ≡ getD (symbolsByKind s at) k none
+  -- a symbol by its kind, and a long leaf
+  abbrev symbolAs : ℕ → Option Symbol
+  symbolAs k = cond (eqb k 21) (some (leaf-symbol (longSetAt s (at + 1)))) (getD (symbolsByKind s at) k none)
+
+  pub symbol-is : (k : ℕ) → eqb k 21 ≡ false → byteAt s at ≡ k → symbolAt s at ≡ getD (symbolsByKind s at) k none
   unfolding symbolAt
-  symbol-is k e = ap (λ (k : ℕ). getD (symbolsByKind s at) k none) e
+  symbol-is k n e = ap symbolAs e ∙ rw n
+
+  pub long-leaf-is : byteAt s at ≡ 21 → symbolAt s at ≡ some (leaf-symbol (longSetAt s (at + 1)))
+  unfolding symbolAt
+  long-leaf-is e = ap symbolAs e
 
   -- eight shorts one after the other; a record that has fewer names does not read the others
   abbrev shorts : List ℕ
@@ -131,10 +143,14 @@ module _ (s : List ℕ) (at : ℕ) where
   unfolding stepAt
   event-is e = ap (λ (k : ℕ). stepAs k s at) e
 
-  -- of the kinds of steps whose fields are all names
-  step-is : (k : ℕ) → eqb k 10 ≡ false → byteAt s at ≡ k → stepAt s at ≡ stepOf (with k shorts)
+  channel-call-is : byteAt s at ≡ 22 → stepAt s at ≡ stepOf (with 22 (shortsThen s at 1 (2 ∷ 2 ∷ 3 ∷ []) (byteAt s (at + 7) ∷ [])))
   unfolding stepAt
-  step-is k n e = ap (λ (k : ℕ). stepAs k s at) e ∙ rw n
+  channel-call-is e = ap (λ (k : ℕ). stepAs k s at) e
+
+  -- of the kinds of steps whose fields are all names
+  step-is : (k : ℕ) → eqb k 10 ≡ false → eqb k 22 ≡ false → byteAt s at ≡ k → stepAt s at ≡ stepOf (with k shorts)
+  unfolding stepAt
+  step-is k n m e = ap (λ (k : ℕ). stepAs k s at) e ∙ rw (n, m)
 
   pair-is : pairAt s at ≡ pair (byteAt s (at + 1)) (setAt s (at + 2))
   unfolding pairAt
@@ -149,7 +165,19 @@ module _ (s : List ℕ) (at : ℕ) where
     refl,
     record {
       y = leaf-symbol (getD (valuesAt s (at + 1) (a-set ∷ [])) 0 0);
-      is = symbol-is 1 e ∙ ap (λ (vs : List ℕ). some (leaf-symbol (getD vs 0 0))) (sym (set-value-alone s (at + 1)));
+      is = symbol-is 1 refl e ∙ ap (λ (vs : List ℕ). some (leaf-symbol (getD vs 0 0))) (sym (set-value-alone s (at + 1)));
+      made = λ items h. refl;
+      leaf = refl;
+    },
+  )
+
+  long-leaf-row : Row 21 (kindOf 21)
+  unfolding symbolsIn postfix
+  long-leaf-row e = (
+    refl,
+    record {
+      y = leaf-symbol (getD (valuesAt s (at + 1) (a-long-set ∷ [])) 0 0);
+      is = long-leaf-is e ∙ ap (λ (vs : List ℕ). some (leaf-symbol (getD vs 0 0))) (sym (long-set-value-alone s (at + 1)));
       made = λ items h. refl;
       leaf = refl;
     },
@@ -157,7 +185,7 @@ module _ (s : List ℕ) (at : ℕ) where
 
   empty-row : Row 2 (kindOf 2)
   unfolding symbolsIn postfix
-  empty-row e = (refl, record { y = empty-symbol; is = symbol-is 2 e; made = λ items h. refl; leaf = refl })
+  empty-row e = (refl, record { y = empty-symbol; is = symbol-is 2 refl e; made = λ items h. refl; leaf = refl })
 
   fits-row : (k : ℕ) → Row k (kindOf k)
   fits-row =
@@ -165,24 +193,26 @@ module _ (s : List ℕ) (at : ℕ) where
       ((λ e. tt)
       and leaf-row
       and empty-row
-      and (λ e. (refl, record { y = join-symbol; is = symbol-is 3 e; made = join-made; leaf = refl }))
-      and (λ e. (refl, record { y = either-symbol; is = symbol-is 4 e; made = either-made; leaf = refl }))
-      and (λ e. (refl, record { y = star-symbol; is = symbol-is 5 e; made = star-made; leaf = refl }))
-      and symbol-is 6
+      and (λ e. (refl, record { y = join-symbol; is = symbol-is 3 refl e; made = join-made; leaf = refl }))
+      and (λ e. (refl, record { y = either-symbol; is = symbol-is 4 refl e; made = either-made; leaf = refl }))
+      and (λ e. (refl, record { y = star-symbol; is = symbol-is 5 refl e; made = star-made; leaf = refl }))
+      and symbol-is 6 refl
       and (λ e. point-is 7 e ∙ ap (λ (vs : List ℕ). pointOf (with 7 vs)) (sym (names-alone s at (1 ∷ 1 ∷ 1 ∷ []))))
       and (λ e. method-is 8 e ∙ ap (λ (vs : List ℕ). methodOf (with 8 vs)) (sym (names-alone s at (1 ∷ 1 ∷ 1 ∷ []))))
       and (λ e. method-is 9 e ∙ ap (λ (vs : List ℕ). methodOf (with 9 vs)) (sym (names-alone s at (1 ∷ 1 ∷ 1 ∷ 2 ∷ 2 ∷ []))))
       and (λ e. event-is e ∙ ap (λ (vs : List ℕ). stepOf (with 10 vs)) (sym (names-then s at 1 (2 ∷ 2 ∷ []) _ (event-value s (at + 5)))))
-      and (λ e. step-is 11 refl e ∙ ap (λ (vs : List ℕ). stepOf (with 11 vs)) (sym (names-alone s at (2 ∷ 2 ∷ 3 ∷ []))))
-      and (λ e. step-is 12 refl e ∙ ap (λ (vs : List ℕ). stepOf (with 12 vs)) (sym (names-alone s at (2 ∷ 2 ∷ []))))
+      and (λ e. step-is 11 refl refl e ∙ ap (λ (vs : List ℕ). stepOf (with 11 vs)) (sym (names-alone s at (2 ∷ 2 ∷ 3 ∷ []))))
+      and (λ e. step-is 12 refl refl e ∙ ap (λ (vs : List ℕ). stepOf (with 12 vs)) (sym (names-alone s at (2 ∷ 2 ∷ []))))
       and (λ e. (refl, e, ap (λ (vs : List ℕ). pair (getD vs 0 0) (getD vs 1 0)) (pair-values s at) ∙ sym pair-is))
       and (λ e. e)
       and (λ e. method-is 15 e ∙ ap (λ (vs : List ℕ). methodOf (with 15 vs)) (sym (names-alone s at (1 ∷ 1 ∷ 1 ∷ 1 ∷ 1 ∷ []))))
       and (λ e. method-is 16 e ∙ ap (λ (vs : List ℕ). methodOf (with 16 vs)) (sym (names-alone s at (1 ∷ 1 ∷ 1 ∷ 2 ∷ 2 ∷ 1 ∷ 1 ∷ 2 ∷ []))))
-      and (λ e. step-is 17 refl e ∙ ap (λ (vs : List ℕ). stepOf (with 17 vs)) (sym (names-alone s at (2 ∷ 2 ∷ 2 ∷ 3 ∷ []))))
+      and (λ e. step-is 17 refl refl e ∙ ap (λ (vs : List ℕ). stepOf (with 17 vs)) (sym (names-alone s at (2 ∷ 2 ∷ 2 ∷ 3 ∷ []))))
       and (λ e. refl)
-      and (λ e. step-is 19 refl e ∙ ap (λ (vs : List ℕ). stepOf (with 19 vs)) (sym (names-alone s at (2 ∷ []))))
+      and (λ e. step-is 19 refl refl e ∙ ap (λ (vs : List ℕ). stepOf (with 19 vs)) (sym (names-alone s at (2 ∷ []))))
       and (λ e. point-is 20 e ∙ ap (λ (vs : List ℕ). pointOf (with 20 vs)) (sym (names-then s at 1 (1 ∷ 1 ∷ 1 ∷ []) _ (owner-value s (at + 7)))))
+      and long-leaf-row
+      and (λ e. channel-call-is e ∙ ap (λ (vs : List ℕ). stepOf (with 22 vs)) (sym (names-then s at 1 (2 ∷ 2 ∷ 3 ∷ []) _ (channel-value s (at + 7)))))
       and (λ i e. tt))
 
   -- the record at an offset fits there

@@ -12,7 +12,7 @@ use borrow.Author.Tests.{leb-false, lt-ltb}
 use Rattle.bits.proofs.Tests.{and-out}
 use Rattle.sheet.specs.Model.{Model, conditionLimit, methodLimit, stepLimit}
 use Rattle.sheet.specs.Each.{Each, nil, cons}
-use Rattle.sheet.specs.Kind.{Field, a-set, an-event, a-place, an-owner, a-name, Role, counts, kindOf, sectionOf}
+use Rattle.sheet.specs.Kind.{Field, a-set, a-long-set, an-event, a-place, an-owner, a-channel, a-name, Role, counts, kindOf, sectionOf}
 use Rattle.sheet.specs.Record.{byteAt, recordAt, nextAt}
 use Rattle.sheet.specs.Reading.{Counted, Reading, fresh, tally, full, overLimit, exists, allExist, pastAt, whole, readSheet}
 use Rattle.sheet.proofs.Each.{each-map, each-append}
@@ -58,10 +58,12 @@ grows s at r k =
 module _ (M : Model) (r t : Reading) (more : (k : ℕ) → tally r k ≤ tally t k) where
   exists-still : (f : Field) (v : ℕ) → T (exists (M .events) (tally r) f v) → T (exists (M .events) (tally t) f v)
   exists-still a-set v e = e
+  exists-still a-long-set v e = e
   exists-still (a-name k) v e = subst T (sym (lt-ltb v (tally t k) (lt-of-lt-of-le (ltb→lt v (tally r k) e) (more k)))) tt
   exists-still an-event v e = e
   exists-still a-place v e = e
   exists-still an-owner v e = e
+  exists-still a-channel v e = e
 
   names-still : (fs : List Field) (vs : List ℕ) → T (allExist (M .events) (tally r) fs vs) → T (allExist (M .events) (tally t) fs vs)
   names-still [] vs e = e

@@ -14,6 +14,7 @@ pub mod Certified
 pub mod SheetOf
 pub mod Named
 pub mod First
+pub mod Channels
 pub mod Outcomes
 pub mod Owners
 pub mod Editions

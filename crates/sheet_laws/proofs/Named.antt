@@ -1,14 +1,14 @@
 -- In a sheet that is read whole every name exists, owners too, and the event of each step is one of the model's.
 use mathlib.Core.Path.{_≡_, sym, subst}
-use mathlib.Core.Bool.{false}
+use mathlib.Core.Bool.{true, false}
 use mathlib.Core.Option.{Option, none, some}
 use mathlib.Core.List.{List, [], _∷_}
 use Prim.Native.Nat.{ℕ, zero, suc, _+_, _<_}
 use native.Mathlib.Nat.{not-suc-le-zero, le-of-suc-le-suc}
 use native.Mathlib.Omega.{arith}
 use lib.ListN.{length, getD, length-map}
-use lib.Dec.{T, ltb→lt}
-use borrow.Author.Tests.{leb-false}
+use lib.Dec.{T, eqb, ltb→lt}
+use borrow.Author.Tests.{leb-false, eqb-true}
 use Rattle.bits.proofs.Tests.{and-out}
 use Rattle.sheet.specs.Model.{Model}
 use Rattle.sheet.specs.Each.{Each}
@@ -20,6 +20,7 @@ use Rattle.sheet.specs.Decode.{pointOf, methodOf, stepOf, sheetRead, sheetOf}
 use Rattle.sheet_laws.specs.Names.{PointNamed, NamedIfAny, DeclaredNamed, MethodNamed, StepNamed, NamesExist, EventBelow}
 use Rattle.sheet.proofs.Each.{each-map, each-zip, each-mapped}
 use Rattle.sheet.proofs.Kind.{_and_, numbered}
+use Rattle.sheet_laws.proofs.Take.{Took}
 use Rattle.sheet_laws.proofs.ReadOn.{OwnerExists, read-keeps}
 use Rattle.sheet_laws.proofs.Laws.{Recorded, all-recorded, Named, all-named, own-tally}
 use Rattle.sheet_laws.proofs.SheetOf.{sheet-is}
@@ -84,6 +85,8 @@ module _ (events : ℕ) (counted : ℕ → ℕ) where
       and (λ at vs n. tt)
       and stop-row
       and point-row 20 (an-owner ∷ [])
+      and (λ at vs n. tt)
+      and channel-call-row
       and (λ i at vs n. tt))
     where
       -- of kinds 7 and 20, which has a field more
@@ -146,8 +149,19 @@ module _ (events : ℕ) (counted : ℕ → ℕ) where
         tt,
       )
 
+      channel-call-row : Row 22 (kindOf 22)
+      channel-call-row at vs n = ((ltb→lt _ _ (n 0 (omega arith)), ltb→lt _ _ (n 1 (omega arith)), tt, ltb→lt _ _ (n 2 (omega arith))), tt)
+
       stop-row : Row 19 (kindOf 19)
       stop-row at vs n = (ltb→lt _ _ (n 0 (omega arith)), tt)
+
+-- the fields of a record of the kind k that is taken exist: what 7 leaves
+pub taken-exists : (M : Model) (s : List ℕ) (at : ℕ) (r : Reading) → Took M s at r → (k : ℕ) → eqb (byteAt s at) k ≡ true
+    → FieldsExist (M .events) (tally r) (kindOf k .fields) (recordAt s at)
+unfolding recordAt
+taken-exists M s at r w k e =
+    subst (λ (k : ℕ). FieldsExist (M .events) (tally r) (kindOf k .fields) (recordAt s at)) (eqb-true (byteAt s at) k e)
+    (at-exists (M .events) (tally r) s at (w .names))
 
 -- Of the sheet --------------------------------------------------------------------------------------------------------------
 

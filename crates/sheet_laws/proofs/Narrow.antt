@@ -1,13 +1,18 @@
--- The conditions that bytes stand for have only events of the model: a leaf's set has 4 bytes.
+-- The conditions that bytes stand for have only events of the model, which has as many as a leaf's set can hold: the set has 4 bytes, and of kind 21 it has
+-- 8.
 use mathlib.Core.Path.{_≡_, refl, sym, subst}
+use mathlib.Core.Bool.{Bool, true, false, cond}
 use mathlib.Core.List.{List, [], _∷_}
 use Prim.Native.Nat.{ℕ, zero, suc, _+_, _^_, _≤_, _<_}
-use native.Mathlib.Nat.{lt-of-lt-of-le}
+use native.Mathlib.Nat.{le-trans, lt-of-lt-of-le}
+use native.Mathlib.Omega.{arith}
 use lib.ListN.{getD, drop}
+use lib.Dec.{eqb, ltb, lit≤}
 use lib.Pow.{pow-pos, pow-mono}
+use borrow.Author.Tests.{ltb-true, ltb-false}
 use Rattle.condition.specs.Condition.{Condition, noWord}
 use Rattle.condition.proofs.Narrow.{EventsBelow}
-use Rattle.sheet.specs.Model.{Model}
+use Rattle.sheet.specs.Model.{Model, setEvents}
 use Rattle.sheet.specs.Each.{Each, nil, cons}
 use Rattle.sheet.specs.Sheet.{Sheet, condition}
 use Rattle.sheet.specs.Kind.{Role, symbol, a-pair, counts, edition, Kind, a-kind, kinds, kindOf, sectionOf}
@@ -15,9 +20,9 @@ use Rattle.sheet.specs.Record.{Bytes, Record, byteAt, recordAt, value}
 use Rattle.sheet.specs.Reading.{Opened, Counted, Reading, item, openedPast, pastAt, ReadResult, whole, refusal, readSheet}
 use Rattle.sheet.specs.Decode.{sheetIn, sheetOf}
 use Rattle.sheet.proofs.Each.{each-tail, each-mapped, each-getD}
-use Rattle.sheet_laws.proofs.Fields.{value-lt}
+use Rattle.sheet_laws.proofs.Fields.{firstBits, first-lt}
 use Rattle.sheet.proofs.Kind.{_and_, numbered}
-use Rattle.sheet_laws.proofs.Take.{Took}
+use Rattle.sheet_laws.proofs.Take.{or-false, Took}
 use Rattle.sheet_laws.proofs.Own.{each-own}
 use Rattle.sheet_laws.proofs.SheetOf.{of-is}
 
@@ -41,7 +46,9 @@ module _ (n : ℕ) where
       and (λ set a b h ha hb. (ha, hb))
       and (λ set a b h ha hb. (ha, hb))
       and (λ set a b h ha hb. hb)
-      and tt and tt and tt and tt and tt and tt and tt and tt and tt and tt and tt and tt and tt and tt and tt and (λ i. tt))
+      and tt and tt and tt and tt and tt and tt and tt and tt and tt and tt and tt and tt and tt and tt and tt
+      and (λ set a b h ha hb. h)
+      and tt and (λ i. tt))
 
   item-below : (items : List Condition) → AllBelow items → (i : ℕ) → EventsBelow n (getD items i noWord)
   item-below items h i = each-getD (λ c. EventsBelow n c) h noWord (pow-pos n) i
@@ -59,12 +66,41 @@ module _ (n : ℕ) where
   past-below o x section counts makes few h = nil
   past-below o x section edition makes few h = nil
 
-module _ (M : Model) (s : List ℕ) (wide : 32 ≤ M .events) (bytes : Bytes s) where
+-- the first field of a kind has at most so many bits
+abbrev bitsOf : ℕ → ℕ
+bitsOf k = cond (ltb k 21) 32 64
+
+few-bits : (k : ℕ) → firstBits (kindOf k .fields) ≤ bitsOf k
+few-bits =
+    numbered (λ (k : ℕ) (row : Kind). firstBits (row .fields) ≤ bitsOf k) kinds (a-kind 0 counts [])
+    (lit≤ tt
+    and lit≤ tt and lit≤ tt and lit≤ tt and lit≤ tt and lit≤ tt and lit≤ tt and lit≤ tt and lit≤ tt and lit≤ tt and lit≤ tt and lit≤ tt
+    and lit≤ tt and lit≤ tt and lit≤ tt and lit≤ tt and lit≤ tt and lit≤ tt and lit≤ tt and lit≤ tt and lit≤ tt and lit≤ tt and lit≤ tt
+    and (λ i. omega arith))
+
+-- .. which is no more than a leaf's set can hold where the kind is taken
+bits-taken : (M : Model) (k : ℕ) → k ≤ M .kinds → bitsOf k ≤ setEvents M
+bits-taken M k l = go (ltb k 21) refl (ltb (M .kinds) 21) refl
+  where
+    go : (b : Bool) → ltb k 21 ≡ b → (c : Bool) → ltb (M .kinds) 21 ≡ c → cond b 32 64 ≤ cond c 32 64
+    go true e true f = lit≤ tt
+    go true e false f = lit≤ tt
+    go false e true f = absurd (omega (arith, l, ltb-false k 21 e, ltb-true (M .kinds) 21 f))
+    go false e false f = lit≤ tt
+
+module _ (M : Model) (s : List ℕ) (wide : setEvents M ≤ M .events) (bytes : Bytes s) where
+  -- a kind that is taken
+  taken : (at : ℕ) (r : Reading) → Took M s at r → byteAt s at ≤ M .kinds
+  taken at r w = ltb-false (M .kinds) (byteAt s at) (or-false (eqb (byteAt s at) 0) (ltb (M .kinds) (byteAt s at)) (w .known) .1)
+
+  narrow : (at : ℕ) (r : Reading) → Took M s at r → firstBits (kindOf (byteAt s at) .fields) ≤ M .events
+  narrow at r w = le-trans (few-bits (byteAt s at)) (le-trans (bits-taken M (byteAt s at) (taken at r w)) wide)
+
   kept : (at : ℕ) (r : Reading) → Took M s at r → AllBelow (M .events) (r .opened .items) → AllBelow (M .events) (pastAt s at r .opened .items)
   unfolding recordAt
   kept at r w h =
       past-below (M .events) (r .opened) (recordAt s at) (sectionOf (byteAt s at)) (kindOf (byteAt s at) .role) (makes-below (M .events) (byteAt s at))
-      (lt-of-lt-of-le (value-lt s bytes (kindOf (byteAt s at) .fields) (at + 1) 0) (pow-mono wide)) h
+      (lt-of-lt-of-le (first-lt s bytes (kindOf (byteAt s at) .fields) (at + 1)) (pow-mono (narrow at r w))) h
 
   in-result : (x : ReadResult) → readSheet M s ≡ x → (c : ℕ) → EventsBelow (M .events) (condition (sheetIn s x) c)
   in-result (whole r) h c =
@@ -73,6 +109,6 @@ module _ (M : Model) (s : List ℕ) (wide : 32 ≤ M .events) (bytes : Bytes s) 
       each-getD (λ c. EventsBelow (M .events) c) (each-mapped (λ c. EventsBelow (M .events) c) (λ (c : Counted). item (c .opened) 0) each) noWord (pow-pos (M .events)) c
   in-result (refusal m at r) h c = pow-pos (M .events)
 
-pub conditions-below : (M : Model) (s : List ℕ) → 32 ≤ M .events → Bytes s → (c : ℕ) → EventsBelow (M .events) (condition (sheetOf M s) c)
+pub conditions-below : (M : Model) (s : List ℕ) → setEvents M ≤ M .events → Bytes s → (c : ℕ) → EventsBelow (M .events) (condition (sheetOf M s) c)
 conditions-below M s wide bytes c =
     subst (λ (S : Sheet). EventsBelow (M .events) (condition S c)) (sym (of-is M s)) (in-result M s wide bytes (readSheet M s) refl c)

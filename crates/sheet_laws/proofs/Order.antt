@@ -1,14 +1,49 @@
--- "at one record the table's order holds": the refusal of a record, by the first test that it does not pass.
-use mathlib.Core.Path.{_≡_}
-use mathlib.Core.Bool.{Bool, true, false, not, _&&_, _||_}
-use mathlib.Core.List.{List}
-use Prim.Native.Nat.{ℕ}
+-- "at one record the table's order holds": the refusal of a record, by the first test that it does not pass; and the test, by the refusal.
+use mathlib.Core.Path.{_≡_, refl}
+use mathlib.Core.Bool.{Bool, true, false, not, cond, _&&_, _||_}
+use mathlib.Core.List.{List, [], _∷_}
+use Prim.Native.Nat.{ℕ, suc}
 use lib.ListN.{length}
 use lib.Dec.{eqb, ltb}
+use native.Mathlib.Omega.{arith}
+use borrow.Author.Tests.{eq-eqb}
 use Rattle.sheet.specs.Model.{Model}
 use Rattle.sheet.specs.Kind.{Kind, kindOf}
 use Rattle.sheet.specs.Record.{Record, byteAt, recordAt, nextAt}
-use Rattle.sheet.specs.Reading.{Reading, tally, inCondition, isNew, wrongItems, overLimit, allExist, isPrimitive, wrongOutcomes, wrongOwner, refusalOf}
+use Rattle.sheet.specs.Reading.{Reading, tally, inCondition, isNew, wrongItems, overLimit, allExist, isPrimitive, wrongOutcomes, wrongOwner, wrongChannel, _when_else_, refusalOf}
+
+-- tests with their numbers: the number of the first that holds, 0 if none does; and whether one of a number holds
+record Test : Type 0 where
+  number : ℕ
+  holds : Bool
+
+abbrev firstOf : List Test → ℕ
+firstOf [] = 0
+firstOf (x ∷ xs) = x .number when x .holds else firstOf xs
+
+abbrev holdsOf : ℕ → List Test → Bool
+holdsOf n [] = false
+holdsOf n (x ∷ xs) = cond (eqb (x .number) n) (holdsOf n xs || x .holds) (holdsOf n xs)
+
+first-holds : (n : ℕ) (xs : List Test) → firstOf xs ≡ suc n → holdsOf (suc n) xs ≡ true
+first-holds n [] e = absurd (omega (arith, e))
+first-holds n (x ∷ xs) e = go (x .holds) e (first-holds n xs)
+  where
+    rest : Bool
+    rest = holdsOf (suc n) xs
+
+    or-true : (b : Bool) → (b || true) ≡ true
+    or-true true = refl
+    or-true false = refl
+
+    later : (c : Bool) → rest ≡ true → cond c (rest || false) rest ≡ true
+    later true e = simp e
+    later false e = e
+
+    go : (b : Bool) → (x .number when b else firstOf xs) ≡ suc n → (firstOf xs ≡ suc n → rest ≡ true)
+        → cond (eqb (x .number) (suc n)) (rest || b) rest ≡ true
+    go true e more = simp (eq-eqb (x .number) (suc n) e, or-true rest)
+    go false e more = later (eqb (x .number) (suc n)) (more e)
 
 module _ (M : Model) (s : List ℕ) (at : ℕ) (r : Reading) where
   abbrev x : Record
@@ -50,6 +85,29 @@ module _ (M : Model) (s : List ℕ) (at : ℕ) (r : Reading) where
 
   abbrev pub is-24 : Bool
   is-24 = wrongOwner r k x
+
+  abbrev pub is-26 : Bool
+  is-26 = wrongChannel r x
+
+  abbrev tests : List Test
+  tests =
+      record { number = 2; holds = is-2 }
+      ∷ record { number = 3; holds = is-3 }
+      ∷ record { number = 4; holds = is-4 }
+      ∷ record { number = 19; holds = is-19 }
+      ∷ record { number = 20; holds = is-20 }
+      ∷ record { number = 5; holds = is-5 }
+      ∷ record { number = 6; holds = is-6 }
+      ∷ record { number = 7; holds = not all-named }
+      ∷ record { number = 9; holds = is-9 }
+      ∷ record { number = 18; holds = is-18 }
+      ∷ record { number = 24; holds = is-24 }
+      ∷ record { number = 26; holds = is-26 }
+      ∷ []
+
+  -- a record that is refused does not pass the test of that number
+  pub test-holds : (n : ℕ) → refusalOf M s at r ≡ suc n → holdsOf (suc n) tests ≡ true
+  test-holds n e = first-holds n tests e
 
   pub two : is-2 ≡ true → refusalOf M s at r ≡ 2
   two e2 = rw e2
@@ -94,5 +152,9 @@ module _ (M : Model) (s : List ℕ) (at : ℕ) (r : Reading) where
                       pub twenty-four : is-24 ≡ true → refusalOf M s at r ≡ 24
                       twenty-four e24 = rw (e2, e3, e4, e19, e20, e5, e6, e7, e9, e18, e24)
 
-                      pub takes : is-24 ≡ false → refusalOf M s at r ≡ 0
-                      takes e24 = rw (e2, e3, e4, e19, e20, e5, e6, e7, e9, e18, e24)
+                      module _ (e24 : is-24 ≡ false) where
+                        pub twenty-six : is-26 ≡ true → refusalOf M s at r ≡ 26
+                        twenty-six e26 = rw (e2, e3, e4, e19, e20, e5, e6, e7, e9, e18, e24, e26)
+
+                        pub takes : is-26 ≡ false → refusalOf M s at r ≡ 0
+                        takes e26 = rw (e2, e3, e4, e19, e20, e5, e6, e7, e9, e18, e24, e26)

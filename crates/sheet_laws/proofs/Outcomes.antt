@@ -1,19 +1,19 @@
 -- Outcomes fit in a sheet that is read whole: a method with body has a failed exit exactly if it has two outcomes, and a call has a failed target exactly
 -- if the method that it names has two outcomes, which is what 18 leaves.
-use mathlib.Core.Path.{_≡_, refl, sym, _∙_, subst}
+use mathlib.Core.Path.{_≡_, refl, sym, ap, _∙_, subst}
 use mathlib.Core.Bool.{Bool, true, false, cond, _&&_}
 use mathlib.Core.Option.{Option, none, some}
 use mathlib.Core.List.{List}
 use Prim.Native.Nat.{ℕ, _<_}
 use native.Mathlib.Omega.{arith}
 use lib.ListN.{getElem?}
-use lib.Dec.{T, eqb, ltb→lt}
-use borrow.Author.Tests.{eqb-true, not-false}
+use lib.Dec.{eqb, ltb→lt}
+use borrow.Author.Tests.{not-false}
 use Rattle.sheet.specs.Model.{Model}
 use Rattle.sheet.specs.Sheet.{failed, Declared, Body, Method, Sheet, isSome, declaredIn}
-use Rattle.sheet.specs.Kind.{methods, kindOf}
-use Rattle.sheet.specs.Record.{Record, byteAt, recordAt, nextAt, value}
-use Rattle.sheet.specs.Reading.{Counted, Reading, fresh, tally, isNew, isPrimitive, hasTwoOutcomes, allExist, recordNamed, twoOutcomesIn, wrongOutcomes, pastAt, whole, readSheet}
+use Rattle.sheet.specs.Kind.{methods}
+use Rattle.sheet.specs.Record.{Record, byteAt, recordAt, value}
+use Rattle.sheet.specs.Reading.{Counted, Reading, tally, isNew, isPrimitive, hasTwoOutcomes, recordNamed, twoOutcomesIn, wrongOutcomes, whole, readSheet}
 use Rattle.sheet.specs.Decode.{methodOf, stepOf, sheetRead, sheetOf}
 use Rattle.sheet_laws.specs.Names.{ExitsFit, TargetsFit, OutcomesFit}
 use Rattle.sheet.proofs.Each.{each-all, each-mapped}
@@ -21,16 +21,10 @@ use Rattle.sheet_laws.proofs.Take.{or-false, and-false, Took}
 use Rattle.sheet_laws.proofs.States.{Later, each-later, named-then}
 use Rattle.sheet_laws.proofs.Kind.{step-cases}
 use Rattle.sheet_laws.proofs.SheetOf.{sheet-is}
-use Rattle.sheet_laws.proofs.Named.{FieldsExist, at-exists}
+use Rattle.sheet_laws.proofs.Named.{taken-exists}
+use Rattle.sheet_laws.proofs.Channels.{named-plain}
 
 -- The method that a call names --------------------------------------------------------------------------------------------
-
--- the fields of a record of the kind k exist: what 7 leaves
-fields-exist : (events : ℕ) (s : List ℕ) (at : ℕ) (r : Reading) (k : ℕ) → byteAt s at ≡ k
-    → T (allExist events (tally r) (kindOf (byteAt s at) .fields) (recordAt s at .values)) → FieldsExist events (tally r) (kindOf k .fields) (recordAt s at)
-unfolding recordAt
-fields-exist events s at r k e names =
-    subst (λ (k : ℕ). FieldsExist events (tally r) (kindOf k .fields) (recordAt s at)) e (at-exists events (tally r) s at names)
 
 module _ (M : Model) (s : List ℕ) (r : Reading) (h : readSheet M s ≡ whole r) where
   abbrev S : Sheet
@@ -46,18 +40,16 @@ module _ (M : Model) (s : List ℕ) (r : Reading) (h : readSheet M s ≡ whole r
       failing true d = refl
       failing false d = refl
 
-  -- a call of kind 11 names a method with one outcome, one of kind 17 a method with two: not 18, and not 7
+  -- a call of kinds 11 and 22 names a method with one outcome, one of kind 17 a method with two: not 18, not 26, and not 7
   target-fits : (at : ℕ) (u : Reading) → Took M s at u → Later u r → TargetsFit S (stepOf (recordAt s at))
   unfolding recordAt
   target-fits at u w later =
       let (no-11, no-17) = or-false (eqb (byteAt s at) 11 && twoOutcomesIn (recordNamed u methods (value (recordAt s at) 2))) _ (w .outcomes) in
       step-cases (TargetsFit S) (recordAt s at) tt
-      (λ e. sym (and-false (eqb (byteAt s at) 11) _ no-11 e) ∙ fails-as later _ (ltb→lt _ _ (exist 11 e 2 (omega arith))))
-      (λ e. sym (not-false _ (and-false (eqb (byteAt s at) 17) _ no-17 e)) ∙ fails-as later _ (ltb→lt _ _ (exist 17 e 3 (omega arith))))
+      (λ e. sym (and-false (eqb (byteAt s at) 11) _ no-11 e) ∙ fails-as later _ (ltb→lt _ _ (taken-exists M s at u w 11 e 2 (omega arith))))
+      (λ e. sym (not-false _ (and-false (eqb (byteAt s at) 17) _ no-17 e)) ∙ fails-as later _ (ltb→lt _ _ (taken-exists M s at u w 17 e 3 (omega arith))))
+      (λ e. ap isSome (sym (named-plain M s r h at u w later e .1)))
       (λ e. tt) tt
-    where
-      exist : (k : ℕ) → eqb (byteAt s at) k ≡ true → FieldsExist (M .events) (tally u) (kindOf k .fields) (recordAt s at)
-      exist k e = fields-exist (M .events) s at u k (eqb-true (byteAt s at) k e) (w .names)
 
 exit-fits : (x : Record) → ExitsFit (methodOf x .failing) (methodOf x .body)
 exit-fits x = go (isPrimitive x) (hasTwoOutcomes x) _
@@ -86,8 +78,3 @@ outcomes-fit M s r h =
 pub never-wrong : (s : List ℕ) (at : ℕ) (r : Reading) → eqb (byteAt s at) 11 ≡ false → eqb (byteAt s at) 17 ≡ false → wrongOutcomes r (recordAt s at) ≡ false
 unfolding recordAt
 never-wrong s at r e f = rw (e, f)
-
--- reading of a sheet that stands alone comes to an offset in a state: at the start, and past each record that is taken
-pub data Reached (M : Model) (s : List ℕ) : ℕ → Reading → Type 0 where
-  at-start : Reached M s 0 fresh
-  past : {at : ℕ} {r : Reading} → Reached M s at r → Took M s at r → Reached M s (nextAt s at) (pastAt s at r)

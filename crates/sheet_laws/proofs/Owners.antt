@@ -1,30 +1,30 @@
 -- Owners fit in a sheet that is read whole: a method's entry, exit and failed exit belong to it, and the points that a step joins to one method, where
 -- they have owners, which is what 24 leaves. On an instrument that takes no kind above 19 no point has an owner, and no sheet is refused for one.
-use mathlib.Core.Path.{_≡_, refl, sym, ap, ap₂, subst}
-use mathlib.Core.Bool.{Bool, true, false, not, cond, _||_}
+use mathlib.Core.Path.{_≡_, refl, sym, ap₂, _∙_, subst}
+use mathlib.Core.Bool.{Bool, true, false, not}
 use mathlib.Core.Option.{Option, none, some}
 use mathlib.Core.List.{List, [], _∷_, _++_, map, append-assoc}
 use Prim.Native.Nat.{ℕ, zero, suc, _+_, _<_}
 use native.Mathlib.Nat.{le-of-suc-le-suc, not-suc-le-zero}
 use native.Mathlib.Omega.{arith}
-use lib.ListN.{length, getD, getElem?}
+use lib.ListN.{getD, getElem?}
 use lib.Dec.{T, eqb, eqb→eq, ltb, ltb→lt}
-use borrow.Author.Tests.{ltb-false, eqb-true, eqb-false, ne-eqb, not-false}
+use borrow.Author.Tests.{ltb-false, eqb-true, ne-eqb, not-false}
 use Rattle.bits.proofs.Tests.{and-out}
 use Rattle.sheet.specs.Model.{Model}
 use Rattle.sheet.specs.Each.{Each, nil, cons}
 use Rattle.sheet.specs.Sheet.{Point, Sheet, bodyIn}
 use Rattle.sheet.specs.Sheet as sheet
-use Rattle.sheet.specs.Kind.{points, methods, Field, a-set, an-event, a-place, an-owner, a-name, Kind, a-kind, counts, kinds, kindOf, sectionOf}
+use Rattle.sheet.specs.Kind.{points, methods, Field, a-set, a-long-set, an-event, a-place, an-owner, a-channel, a-name, Kind, a-kind, counts, kinds, kindOf, sectionOf}
 use Rattle.sheet.specs.Record.{Record, byteAt, valuesAt, recordAt, nextAt}
-use Rattle.sheet.specs.Reading.{Counted, Reading, tally, isNew, isOwned, exists, allExist, ownerOf, ownerIn, pointOwner, agree, agreesWith, allAgree, namesPoint, pointsNamed, ownersJoined, wrongOwner, _when_else_, refusalOf, pastAt, ReadResult, whole, refusal, ownersFrom, atEnd, readSheet}
+use Rattle.sheet.specs.Reading.{Counted, Reading, tally, isNew, isOwned, exists, allExist, ownerOf, ownerIn, pointOwner, agree, agreesWith, allAgree, namesPoint, pointsNamed, ownersJoined, wrongOwner, _when_else_, refusalOf, pastAt, ReadResult, whole, refusal, ownersFrom, readSheet}
 use Rattle.sheet.specs.Decode.{pointOf, methodOf, stepOf, sheetRead, sheetOf}
 use Rattle.sheet_laws.specs.Names.{SameIfAny, BodyOwned, StepOwned, OwnersFit}
 use Rattle.sheet.proofs.Each.{each-append, each-right, each-mapped, each-listed}
 use Rattle.sheet.proofs.Kind.{_and_, numbered}
 use Rattle.sheet_laws.proofs.Take.{or-false, Took}
-use Rattle.sheet_laws.proofs.Order.{is-2, is-3, is-4, is-19, is-20, is-5, is-6, all-named, is-9, is-18}
-use Rattle.sheet_laws.proofs.ReadOn.{Ends, too-long, at-record, at-the-end, read-ends, read-keeps}
+use Rattle.sheet_laws.proofs.Order.{test-holds}
+use Rattle.sheet_laws.proofs.ReadOn.{Ends, too-long, at-record, at-the-end, read-ends, numberOf, end-number, read-keeps}
 use Rattle.sheet_laws.proofs.Own.{counted, own-cases}
 use Rattle.sheet_laws.proofs.States.{Later, each-numbered, named-then}
 use Rattle.sheet_laws.proofs.SheetOf.{sheet-is}
@@ -100,6 +100,10 @@ module _ (S : Sheet) (s : List ℕ) where
     unfolding valuesAt
     failing-call-row same = (same 0 1 (omega arith), same 0 2 (omega arith), same 1 2 (omega arith))
 
+    channel-call-row : Row 22 (kindOf 22)
+    unfolding valuesAt
+    channel-call-row same = (same 0 1 (omega arith), same 0 2 (omega arith), same 1 2 (omega arith))
+
     owned-row : (k : ℕ) → Row k (kindOf k)
     owned-row =
         numbered Row kinds (a-kind 0 counts [])
@@ -124,6 +128,8 @@ module _ (S : Sheet) (s : List ℕ) where
         and (λ h. tt)
         and (λ h. tt)
         and (λ h. tt)
+        and (λ h. tt)
+        and channel-call-row
         and (λ i h. tt))
 
 -- Of the points that a record names -----------------------------------------------------------------------------------------
@@ -151,9 +157,11 @@ module _ (events : ℕ) (u : Reading) (owner : ℕ → Option ℕ) (are : (p : �
       by-field : (f : Field) → T (exists events (tally u) f v) → Same (pointsNamed fs vs)
           → Same ((v ∷ pointsNamed fs vs) when namesPoint f else pointsNamed fs vs)
       by-field a-set l same = same
+      by-field a-long-set l same = same
       by-field an-event l same = same
       by-field a-place l same = same
       by-field an-owner l same = same
+      by-field a-channel l same = same
       by-field (a-name of) l same = by-name of (eqb of points) refl l same
 
 -- Of the sheet --------------------------------------------------------------------------------------------------------------
@@ -201,19 +209,9 @@ module _ (M : Model) (s : List ℕ) (r : Reading) (h : readSheet M s ≡ whole r
 
 -- Without kind 20 -----------------------------------------------------------------------------------------------------------
 
--- whether a number is that of a refusal for an owner
-abbrev forOwner : ℕ → Bool
-forOwner n = eqb n 24 || eqb n 25
-
--- the number of the refusal that a reading ends with, 0 if it is whole
-abbrev refusedWith : ReadResult → ℕ
-refusedWith (whole r) = 0
-refusedWith (refusal n at r) = n
-
--- neither this refusal nor the ones that follow are for an owner
-for-another : (m n : ℕ) (b : Bool) → forOwner m ≡ false → forOwner n ≡ false → forOwner (m when b else n) ≡ false
-for-another m n true e f = e
-for-another m n false e f = f
+-- not the number of a refusal for an owner
+abbrev NotForOwner : ℕ → Type 0
+NotForOwner n = (n ≡ 24 → ⊥) × (n ≡ 25 → ⊥)
 
 -- no point has an owner
 abbrev NoOwner : Counted → Type 0
@@ -277,37 +275,20 @@ module _ (M : Model) (s : List ℕ) (before-20 : M .kinds < 20) where
       (each-mapped (λ (x : Point). x .owner ≡ none) (λ (c : Counted). pointOf (c .last))
       (each-right (r .before 2) (read-keeps M s NoneOwned still-none r h nil .holds)))
 
-  -- the refusal of a record, and that of the end, is neither 24 nor 25
-  record-other : (at : ℕ) (r : Reading) → NoneOwned at r → forOwner (refusalOf M s at r) ≡ false
-  record-other at r all =
-      for-another 2 _ (is-2 M s at r) refl
-      (for-another 3 _ (is-3 M s at r) refl
-      (for-another 4 _ (is-4 M s at r) refl
-      (for-another 19 _ (is-19 M s at r) refl
-      (for-another 20 _ (is-20 M s at r) refl
-      (for-another 5 _ (is-5 M s at r) refl
-      (for-another 6 _ (is-6 M s at r) refl
-      (for-another 7 _ (not (all-named M s at r)) refl
-      (for-another 9 _ (is-9 M s at r) refl
-      (for-another 18 _ (is-18 M s at r) refl
-      (rw (none-wrong r (kindOf (byteAt s at)) (recordAt s at) (nobody-in all))))))))))))
-
-  end-other : (at : ℕ) (r : Reading) → NoneOwned at r → forOwner (refusedWith (atEnd s r)) ≡ false
-  end-other at r all = go (ltb 0 (r .opened .section)) (eqb (length (r .own 3)) 0)
-    where
-      go : (b c : Bool) → forOwner (refusedWith (cond b (refusal 8 (length s) r) (cond c (refusal 9 (length s) r) (ownersFrom r (r .own 2))))) ≡ false
-      go true c = refl
-      go false true = refl
-      go false false = ap (λ (o : ReadResult). forOwner (refusedWith o)) (none-stray r (each-right (r .before 2) all))
+  -- the refusal of a record is neither 24 nor 25
+  record-other : (at : ℕ) (r : Reading) → NoneOwned at r → NotForOwner (refusalOf M s at r)
+  record-other at r all = (
+    λ e. subst T (sym (test-holds M s at r 23 e) ∙ none-wrong r (kindOf (byteAt s at)) (recordAt s at) (nobody-in all)) tt,
+    λ e. subst T (sym (test-holds M s at r 24 e)) tt,
+  )
 
   -- no sheet is refused for an owner
   pub no-owner-refused : (n at : ℕ) (r : Reading) → readSheet M s ≡ refusal n at r → (n ≡ 24 → ⊥) × (n ≡ 25 → ⊥)
-  no-owner-refused n at r h =
-      let other = subst (λ (o : ReadResult). forOwner (refusedWith o) ≡ false) h (go (read-ends M s NoneOwned still-none nil)) in
-      let (not-24, not-25) = or-false (eqb n 24) (eqb n 25) other in
-      (eqb-false n 24 not-24, eqb-false n 25 not-25)
+  no-owner-refused n at r h = subst (λ (o : ReadResult). NotForOwner (numberOf o)) h (go (read-ends M s NoneOwned still-none nil))
     where
-      go : {o : ReadResult} → Ends M s NoneOwned o → forOwner (refusedWith o) ≡ false
-      go too-long = refl
+      go : {o : ReadResult} → Ends M s NoneOwned o → NotForOwner (numberOf o)
+      go too-long = (λ e. omega (arith, e), λ e. omega (arith, e))
       go (at-record {at} {r} all) = record-other at r all
-      go (at-the-end {at} {r} all) = end-other at r all
+      go (at-the-end {at} {r} all) =
+          end-number s r NotForOwner (λ e. omega (arith, e), λ e. omega (arith, e)) (λ e. omega (arith, e), λ e. omega (arith, e))
+          (subst (λ (o : ReadResult). NotForOwner (numberOf o)) (sym (none-stray r (each-right (r .before points) all))) (λ e. omega (arith, e), λ e. omega (arith, e)))

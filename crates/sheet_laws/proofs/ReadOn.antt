@@ -9,6 +9,7 @@ use lib.Dec.{T, eqb, eqb·suc-zero, ltb, leb}
 use borrow.Author.Tests.{lt-leb, le-leb}
 use Rattle.sheet.specs.Model.{Model}
 use Rattle.sheet.specs.Each.{Each, nil, cons}
+use Rattle.sheet.specs.Kind.{points, methods}
 use Rattle.sheet.specs.Record.{nextAt}
 use Rattle.sheet.specs.Reading.{Counted, Reading, fresh, tally, ownerOf, refusalOf, pastAt, ReadResult, whole, refusal, stateOf, noMethod, ownersFrom, atEnd, readOn, readFrom, readSheet}
 use Rattle.sheet_laws.proofs.Take.{Took, took}
@@ -71,6 +72,28 @@ module _ (M : Model) (s : List ℕ) (P : ℕ → Reading → Type 0) where
         go : (b : Bool) → Ends (cond b (refusal 1 (M .bytes) fresh) (readOn M s (length s) 0 fresh))
         go true = too-long
         go false = on-ends (length s) 0 fresh p
+
+-- the number of the refusal that reading ends with, 0 if it is whole
+abbrev pub numberOf : ReadResult → ℕ
+numberOf (whole r) = 0
+numberOf (refusal n at r) = n
+
+-- at the end it is 8, 9, or that of the owners, which is 25
+pub end-number : (s : List ℕ) (r : Reading) (P : ℕ → Type 0) → P 8 → P 9 → P (numberOf (ownersFrom r (r .own points))) → P (numberOf (atEnd s r))
+end-number s r P p8 p9 owners = go (ltb 0 (r .opened .section)) (eqb (length (r .own methods)) 0)
+  where
+    go : (b c : Bool) → P (numberOf (cond b (refusal 8 (length s) r) (cond c (refusal 9 (length s) r) (ownersFrom r (r .own points)))))
+    go true c = p8
+    go false true = p9
+    go false false = owners
+
+pub owners-number : (r : Reading) (P : ℕ → Type 0) → P 0 → P 25 → (ps : List Counted) → P (numberOf (ownersFrom r ps))
+owners-number r P p0 p25 [] = p0
+owners-number r P p0 p25 (p ∷ ps) = go (noMethod (tally r methods) (ownerOf (p .last))) (owners-number r P p0 p25 ps)
+  where
+    go : (b : Bool) → P (numberOf (ownersFrom r ps)) → P (numberOf (cond b (refusal 25 (p .last .at) r) (ownersFrom r ps)))
+    go true more = p25
+    go false more = more
 
 -- The end of a whole reading ------------------------------------------------------------------------------------------
 

@@ -1,4 +1,4 @@
--- What was counted stays: the records that a record named when it was read are those that it names at the end.
+-- The states that reading comes to. What was counted stays: the records that a record named when it was read are those that it names at the end.
 use mathlib.Core.Path.{_≡_, refl, sym, ap, _∙_, subst}
 use mathlib.Core.Logic.{_⊎_, inl, inr}
 use mathlib.Core.Option.{Option, none, some}
@@ -6,8 +6,10 @@ use mathlib.Core.List.{List, [], _∷_, _++_, map, append-assoc}
 use Prim.Native.Nat.{ℕ, zero, suc, _≤_, _<_}
 use native.Mathlib.Nat.{le-trans, lt-of-lt-of-le, le-of-suc-le-suc, not-suc-le-zero}
 use lib.ListN.{length, getElem?}
+use lib.Dec.{T}
 use Rattle.sheet.specs.Model.{Model}
 use Rattle.sheet.specs.Each.{Each}
+use Rattle.sheet.specs.Sheet.{isSome}
 use Rattle.sheet.specs.Kind.{sectionOf}
 use Rattle.sheet.specs.Record.{Record, byteAt, recordAt, nextAt}
 use Rattle.sheet.specs.Reading.{Counted, Reading, fresh, tally, recordNamed, pastAt, whole, readSheet}
@@ -16,6 +18,11 @@ use Rattle.sheet_laws.proofs.Take.{Took}
 use Rattle.sheet_laws.proofs.ReadOn.{read-keeps}
 use Rattle.sheet_laws.proofs.Own.{counted, own-cases}
 use Rattle.sheet_laws.proofs.Laws.{none-before, grows}
+
+-- reading of a sheet that stands alone comes to an offset in a state: at the start, and past each record that is taken
+pub data Reached (M : Model) (s : List ℕ) : ℕ → Reading → Type 0 where
+  at-start : Reached M s 0 fresh
+  past : {at : ℕ} {r : Reading} → Reached M s at r → Took M s at r → Reached M s (nextAt s at) (pastAt s at r)
 
 -- Elements by number ------------------------------------------------------------------------------------------------------
 
@@ -26,18 +33,14 @@ get-front [] ds n l = absurd (not-suc-le-zero l)
 get-front (c ∷ cs) ds zero l = refl
 get-front (c ∷ cs) ds (suc n) l = get-front cs ds n (le-of-suc-le-suc l)
 
--- with one more: it is one of the first, or that one
-abbrev IsSome : {A : Type 0} → Option A → Type 0
-IsSome none = ⊥
-IsSome (some x) = Unit {0}
-
 abbrev orElse : {A : Type 0} → A → Option A → A
 orElse y none = y
 orElse y (some x) = x
 
+-- with one more: it is one of the first, or that one
 get-more : {A : Type 0} (xs : List A) (x y : A) (i : ℕ) → getElem? (xs ++ (x ∷ [])) i ≡ some y → (getElem? xs i ≡ some y) ⊎ ((i ≡ length xs) × (x ≡ y))
 get-more [] x y zero g = inr (refl, ap (orElse x) g)
-get-more [] x y (suc i) g = absurd (subst IsSome (sym g) tt)
+get-more [] x y (suc i) g = absurd (subst (λ (x : Option _). T (isSome x)) (sym g) tt)
 get-more (z ∷ xs) x y zero g = inl g
 get-more (z ∷ xs) x y (suc i) g = next (get-more xs x y i g)
   where
@@ -129,7 +132,7 @@ module _ (M : Model) (s : List ℕ) where
       → ((at : ℕ) (u : Reading) → Took M s at u → Later u r → P (sectionOf (byteAt s at)) (tally u (sectionOf (byteAt s at))) (recordAt s at))
       → (k i : ℕ) (c : Counted) → getElem? (r .own k) i ≡ some c → P k i (c .last)
   each-numbered r h P holds k i c g =
-      let x = read-keeps M s Inv inv-past r h (refl, λ k i c g. absurd (subst IsSome (sym g) tt)) .holds .1 k i c g in
+      let x = read-keeps M s Inv inv-past r h (refl, λ k i c g. absurd (subst (λ (x : Option _). T (isSome x)) (sym g) tt)) .holds .1 k i c g in
       subst (λ (c : Counted). P k i (c .last)) (x .is)
       (subst (λ (i : ℕ). P k i (recordAt s (x .at))) (x .number)
       (subst (λ (k : ℕ). P k (tally (x .state) k) (recordAt s (x .at))) (x .section) (holds (x .at) (x .state) (x .taken) (x .later))))
@@ -138,7 +141,7 @@ module _ (M : Model) (s : List ℕ) where
       → ((at : ℕ) (u : Reading) → Took M s at u → Later u r → P (recordAt s at)) → (k : ℕ) → Each (λ (c : Counted). P (c .last)) (r .own k)
   each-later r h P holds k = each-listed (λ (c : Counted). P (c .last)) (r .own k) (each-numbered r h (λ k i x. P x) holds k)
 
-  -- WHAT A RECORD NAMED: what the record that had a number in an earlier state tells, what it stands for in the sheet tells
+  -- what a record named: what the record that had a number in an earlier state tells, what it stands for in the sheet tells
   pub named-then : (r : Reading) → readSheet M s ≡ whole r → {A B : Type 0} (of-record : Option Record → B) (of : Option A → B) (to : Record → A)
       → of-record none ≡ of none → ((x : Record) → of-record (some x) ≡ of (some (to x))) → {u : Reading} → Later u r
       → (k n : ℕ) → n < tally u k → of-record (recordNamed u k n) ≡ of (getElem? (map (λ (c : Counted). to (c .last)) (r .own k)) n)

@@ -1,4 +1,4 @@
--- A record that is taken: none of the refusals 2 to 7, 9, 18 to 20 and 24 applies to it.
+-- A record that is taken: none of the refusals 2 to 7, 9, 18 to 20, 24 and 26 applies to it.
 use mathlib.Core.Path.{_≡_, refl, sym, subst}
 use mathlib.Core.Bool.{Bool, true, false, not, _&&_, _||_}
 use mathlib.Core.List.{List}
@@ -10,7 +10,7 @@ use borrow.Author.Tests.{ltb-false, not-false}
 use Rattle.sheet.specs.Model.{Model}
 use Rattle.sheet.specs.Kind.{bodyLength, kindOf, sectionOf}
 use Rattle.sheet.specs.Record.{byteAt, valuesAt, recordAt, nextAt}
-use Rattle.sheet.specs.Reading.{Reading, tally, inCondition, isNew, wrongItems, overLimit, isPrimitive, allExist, wrongOutcomes, wrongOwner, _when_else_, refusalOf}
+use Rattle.sheet.specs.Reading.{Reading, tally, inCondition, isNew, wrongItems, overLimit, isPrimitive, allExist, wrongOutcomes, wrongOwner, wrongChannel, _when_else_, refusalOf}
 
 -- checked before the proofs
 
@@ -68,6 +68,8 @@ pub record Took (M : Model) (s : List ℕ) (at : ℕ) (r : Reading) : Type 0 whe
   pub outcomes : wrongOutcomes r (recordAt s at) ≡ false
   -- not 24
   pub owners : wrongOwner r (kindOf (byteAt s at)) (recordAt s at) ≡ false
+  -- not 26
+  pub channels : wrongChannel r (recordAt s at) ≡ false
 
 pub took : (M : Model) (s : List ℕ) (at : ℕ) (r : Reading) → refusalOf M s at r ≡ 0 → Took M s at r
 took M s at r e =
@@ -83,6 +85,7 @@ took M s at r e =
     let (nine, e) = when-zero 8 (isPrimitive (recordAt s at) && eqb (length (r .own 3)) 0) _ e in
     let (eighteen, e) = when-zero 17 (wrongOutcomes r (recordAt s at)) _ e in
     let (twenty-four, e) = when-zero 23 (wrongOwner r (kindOf b) (recordAt s at)) _ e in
+    let (twenty-six, e) = when-zero 25 (wrongChannel r (recordAt s at)) _ e in
     let (order, condition) = or-false (ltb (sectionOf b) (r .section)) (eqb (r .opened .section) 1 && not (inCondition (sectionOf b) (kindOf b .role))) four in
     record {
       known = two;
@@ -97,4 +100,5 @@ took M s at r e =
       first = nine;
       outcomes = eighteen;
       owners = twenty-four;
+      channels = twenty-six;
     }

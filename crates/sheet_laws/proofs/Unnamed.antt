@@ -1,6 +1,6 @@
 -- Sheets in which a name does not exist: `NamesExist` does not hold of them. Each differs in one name from a sheet of which it holds. And a step with
--- an event that the instrument has not, a primitive, outcomes that do not fit, a stop in an old sheet, and owners that do not fit.
-use mathlib.Core.Path.{_≡_, refl}
+-- an event that the instrument has not, a primitive, outcomes that do not fit, a stop in an old sheet, and owners and channels that do not fit.
+use mathlib.Core.Path.{_≡_, refl, ap}
 use mathlib.Core.Bool.{true, false}
 use mathlib.Core.Option.{Option, none, some}
 use mathlib.Core.List.{[], _∷_}
@@ -8,8 +8,8 @@ use Prim.Native.Nat.{ℕ, zero, suc}
 use native.Mathlib.Omega.{arith}
 use Rattle.condition.specs.Condition.{empty}
 use Rattle.sheet.specs.Each.{nil, cons}
-use Rattle.sheet.specs.Sheet.{Outcome, normal, failed, Point, pointFrom, ownedPointFrom, Declared, Body, Method, Step, event-step, callFrom, failingCallFrom, pass-step, stop-step, Sheet, declaredFor, body}
-use Rattle.sheet_laws.specs.Names.{PointNamed, NamedIfAny, BodyNamed, DeclaredNamed, MethodNamed, StepNamed, NamesExist, HasBody, ExitsFit, TargetsFit, OutcomesFit, EventBelow, StopFits, BodyOwned, StepOwned, OwnersFit}
+use Rattle.sheet.specs.Sheet.{Outcome, normal, failed, Point, pointFrom, ownedPointFrom, Declared, Body, Method, Step, event-step, callFrom, failingCallFrom, channelCallFrom, pass-step, stop-step, Sheet, isSome, declaredFor, body}
+use Rattle.sheet_laws.specs.Names.{PointNamed, NamedIfAny, BodyNamed, DeclaredNamed, MethodNamed, StepNamed, NamesExist, HasBody, ExitsFit, TargetsFit, OutcomesFit, EventBelow, StopFits, BodyOwned, StepOwned, OwnersFit, StepOnChannel, ChannelsFit, NoChannel}
 use Rattle.sheet.proofs.Each.{each-head}
 
 -- one condition, and the point, the method and the step that are given; so each name that exists is 0
@@ -63,6 +63,7 @@ all-exist : NamesExist (sheet (point 0 0 0) (method 0 0 0 0 0) (event-step 0 0 3
     × NamesExist (sheet (point 0 0 0) (failingPrimitive 0 0) (failingCallFrom 0 0 0 0))
     × NamesExist (sheet (point 0 0 0) (method 0 0 0 0 0) (stop-step 0))
     × NamesExist (sheet (ownedPointFrom 0 0 0 0) (method 0 0 0 0 0) (pass-step 0 0))
+    × NamesExist (sheet (point 0 0 0) (primitive 0 0 0) (channelCallFrom 0 0 0 3))
 all-exist = (
   all-named (point 0 0 0) (method 0 0 0 0 0) (event-step 0 0 31) (omega arith) tt (one-outcome _ (omega arith)) (omega arith),
   all-named (point 0 0 0) (primitive 0 0 0) (callFrom 0 0 0) (omega arith) tt (one-outcome none tt) (omega arith),
@@ -71,6 +72,7 @@ all-exist = (
   all-named (point 0 0 0) (failingPrimitive 0 0) (failingCallFrom 0 0 0 0) (omega arith) tt (two-outcomes none tt) (omega arith),
   all-named (point 0 0 0) (method 0 0 0 0 0) (stop-step 0) (omega arith) tt (one-outcome _ (omega arith)) (omega arith),
   all-named (ownedPointFrom 0 0 0 0) (method 0 0 0 0 0) (pass-step 0 0) (omega arith) (omega arith) (one-outcome _ (omega arith)) (omega arith),
+  all-named (point 0 0 0) (primitive 0 0 0) (channelCallFrom 0 0 0 3) (omega arith) tt (one-outcome none tt) (omega arith),
 )
 
 -- one name does not
@@ -134,6 +136,12 @@ no-failed-target n = omega (arith, each-head (n .steps-named))
 
 no-failing-call-method : NamesExist (sheet (point 0 0 0) (failingMethod 0 0 0) (failingCallFrom 0 0 0 1)) → ⊥
 no-failing-call-method n = omega (arith, each-head (n .steps-named))
+
+no-channel-call-to : NamesExist (sheet (point 0 0 0) (primitive 0 0 0) (channelCallFrom 0 1 0 0)) → ⊥
+no-channel-call-to n = omega (arith, each-head (n .steps-named))
+
+no-channel-call-method : NamesExist (sheet (point 0 0 0) (primitive 0 0 0) (channelCallFrom 0 0 1 0)) → ⊥
+no-channel-call-method n = omega (arith, each-head (n .steps-named))
 
 no-pass-from : NamesExist (sheet (point 0 0 0) (method 0 0 0 0 0) (pass-step 1 0)) → ⊥
 no-pass-from n = omega (arith, each-head (n .steps-named))
@@ -242,6 +250,7 @@ all-agree : OwnersFit (owned (between 0 0 0) (event-step 1 1 0))
     × OwnersFit (owned (between 0 0 2) (failingCallFrom 2 0 2 1))
     × OwnersFit (owned (method 0 0 0 0 2) (callFrom 1 1 0))
     × OwnersFit (owned (between 2 0 0) (stop-step 1))
+    × OwnersFit (owned (between 0 0 0) (channelCallFrom 0 2 1 3))
 all-agree = (
   owners-agree (between 0 0 0) (event-step 1 1 0) (search) (search),
   owners-agree (between 2 2 2) (pass-step 1 2) (search) (search),
@@ -249,6 +258,7 @@ all-agree = (
   owners-agree (between 0 0 2) (failingCallFrom 2 0 2 1) (search) (search),
   owners-agree (method 0 0 0 0 2) (callFrom 1 1 0) (search) (search),
   owners-agree (between 2 0 0) (stop-step 1) (search) (search),
+  owners-agree (between 0 0 0) (channelCallFrom 0 2 1 3) (search) (search),
 )
 
 -- what 24 is for
@@ -270,6 +280,9 @@ pass-elsewhere f = omega (arith, each-head (f .steps-owned))
 call-elsewhere : OwnersFit (owned (between 0 0 0) (callFrom 0 1 0)) → ⊥
 call-elsewhere f = omega (arith, each-head (f .steps-owned) .0)
 
+channel-call-elsewhere : OwnersFit (owned (between 0 0 0) (channelCallFrom 0 1 1 3)) → ⊥
+channel-call-elsewhere f = omega (arith, each-head (f .steps-owned) .0)
+
 failing-call-elsewhere : OwnersFit (owned (between 0 0 0) (failingCallFrom 0 1 2 0)) → ⊥
 failing-call-elsewhere f = omega (arith, each-head (f .steps-owned) .0)
 
@@ -278,3 +291,38 @@ failed-target-elsewhere f = omega (arith, each-head (f .steps-owned) .1)
 
 targets-apart : OwnersFit (owned (between 0 0 0) (failingCallFrom 2 0 1 0)) → ⊥
 targets-apart f = omega (arith, each-head (f .steps-owned) .2)
+
+-- Channels ----------------------------------------------------------------------------------------------------------------
+
+-- of the one step
+channel-fits : (m : Method) (t : Step) → StepOnChannel (sheet (point 0 0 0) m t) t → ChannelsFit (sheet (point 0 0 0) m t)
+channel-fits m t f = cons f nil
+
+-- a primitive of one outcome is called on each of the channels 0 to 3; of a call on none nothing is said
+channels-fit : ChannelsFit (sheet (point 0 0 0) (primitive 0 0 0) (channelCallFrom 0 0 0 0))
+    × ChannelsFit (sheet (point 0 0 0) (primitive 0 0 0) (channelCallFrom 0 0 0 3))
+    × ChannelsFit (sheet (point 0 0 0) (method 0 0 0 0 0) (callFrom 0 0 0))
+    × ChannelsFit (sheet (point 0 0 0) (failingPrimitive 0 0) (failingCallFrom 0 0 0 0))
+channels-fit = (
+  channel-fits (primitive 0 0 0) (channelCallFrom 0 0 0 0) (refl, refl, omega arith),
+  channel-fits (primitive 0 0 0) (channelCallFrom 0 0 0 3) (refl, refl, omega arith),
+  channel-fits (method 0 0 0 0 0) (callFrom 0 0 0) tt,
+  channel-fits (failingPrimitive 0 0) (failingCallFrom 0 0 0 0) tt,
+)
+
+-- what 26 is for
+channel-above : ChannelsFit (sheet (point 0 0 0) (primitive 0 0 0) (channelCallFrom 0 0 0 4)) → ⊥
+channel-above f = omega (arith, each-head f .2)
+
+body-on-channel : ChannelsFit (sheet (point 0 0 0) (method 0 0 0 0 0) (channelCallFrom 0 0 0 0)) → true ≡ false
+body-on-channel f = ap isSome (each-head f .0)
+
+failing-on-channel : ChannelsFit (sheet (point 0 0 0) (failingPrimitive 0 0) (channelCallFrom 0 0 0 0)) → true ≡ false
+failing-on-channel f = ap isSome (each-head f .1)
+
+-- a call by kind 22 names a channel, also the channel 0; one by kind 11 or 17 names none
+names-channel : NoChannel (channelCallFrom 0 0 0 0) → true ≡ false
+names-channel e = ap isSome e
+
+names-none : NoChannel (callFrom 0 0 0) × NoChannel (failingCallFrom 0 0 0 0)
+names-none = (refl, refl)

@@ -9,13 +9,13 @@ use lib.ListN.{length, getD}
 use lib.Dec.{eqb, ltb}
 use Rattle.condition.specs.Condition.{Condition, leaf, empty, join, either, star}
 use Rattle.certificate.specs.Certificate.{Pair, pair, Certificate}
-use Rattle.sheet.specs.Sheet.{Declared, Point, Method, Step, event-step, callFrom, failingCallFrom, pass-step, stop-step}
+use Rattle.sheet.specs.Sheet.{Declared, Point, Method, Step, event-step, callFrom, failingCallFrom, channelCallFrom, pass-step, stop-step}
 use Rattle.sheet.specs.Record.{byteAt, nextAt}
 use Rattle.sheet.specs.Reading.{Counted, startOf, item}
 
 -- Fields --------------------------------------------------------------------------------------------------------------
 
--- the numbers in two bytes and in four
+-- the numbers in two bytes, in four and in eight
 unfoldable pub shortAt : List ℕ → ℕ → ℕ
 unfolding byteAt
 shortAt s i = byteAt s i + 256 * byteAt s (i + 1)
@@ -24,7 +24,11 @@ unfoldable pub setAt : List ℕ → ℕ → ℕ
 unfolding shortAt
 setAt s i = shortAt s i + 65536 * shortAt s (i + 2)
 
--- what a record of kinds 7 and 20, of kinds 8, 9, 15 and 16, of kinds 10 to 12, 17 and 19, and of kind 13 stands for
+unfoldable pub longSetAt : List ℕ → ℕ → ℕ
+unfolding setAt
+longSetAt s i = setAt s i + 4294967296 * setAt s (i + 4)
+
+-- what a record of kinds 7 and 20, of kinds 8, 9, 15 and 16, of kinds 10 to 12, 17, 19 and 22, and of kind 13 stands for
 unfoldable pub ownerAs : ℕ → List ℕ → ℕ → Option ℕ
 unfolding shortAt
 ownerAs kind s at = cond (eqb kind 20) (some (shortAt s (at + 7))) none
@@ -71,8 +75,9 @@ stepAs kind s at =
     cond (eqb kind 10) (event-step (shortAt s (at + 1)) (shortAt s (at + 3)) (byteAt s (at + 5)))
     (cond (eqb kind 11) (callFrom (shortAt s (at + 1)) (shortAt s (at + 3)) (shortAt s (at + 5)))
     (cond (eqb kind 17) (failingCallFrom (shortAt s (at + 1)) (shortAt s (at + 3)) (shortAt s (at + 5)) (shortAt s (at + 7)))
+    (cond (eqb kind 22) (channelCallFrom (shortAt s (at + 1)) (shortAt s (at + 3)) (shortAt s (at + 5)) (byteAt s (at + 7)))
     (cond (eqb kind 19) (stop-step (shortAt s (at + 1)))
-    (pass-step (shortAt s (at + 1)) (shortAt s (at + 3))))))
+    (pass-step (shortAt s (at + 1)) (shortAt s (at + 3)))))))
 
 unfoldable pub stepAt : List ℕ → ℕ → Step
 unfolding stepAs
@@ -84,7 +89,7 @@ pairAt s at = pair (byteAt s (at + 1)) (setAt s (at + 2))
 
 -- Conditions ----------------------------------------------------------------------------------------------------------
 
--- kinds 1 to 5, the symbols of a condition's postfix form: "leaf" and "EMPTY, JOIN, EITHER, STAR"
+-- kinds 1 to 5 and 21, the symbols of a condition's postfix form: "leaf" and "EMPTY, JOIN, EITHER, STAR"
 pub data Symbol : Type 0 where
   leaf-symbol : (set : ℕ) → Symbol
   empty-symbol join-symbol either-symbol star-symbol : Symbol
@@ -95,8 +100,8 @@ symbolsByKind s at =
     none ∷ some (leaf-symbol (setAt s (at + 1))) ∷ some empty-symbol ∷ some join-symbol ∷ some either-symbol ∷ some star-symbol ∷ []
 
 unfoldable pub symbolAt : List ℕ → ℕ → Option Symbol
-unfolding setAt
-symbolAt s at = getD (symbolsByKind s at) (byteAt s at) none
+unfolding longSetAt
+symbolAt s at = cond (eqb (byteAt s at) 21) (some (leaf-symbol (longSetAt s (at + 1)))) (getD (symbolsByKind s at) (byteAt s at) none)
 
 abbrev pub inFront : {A : Type 0} → Option A → List A → List A
 inFront none xs = []

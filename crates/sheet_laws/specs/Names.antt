@@ -1,12 +1,13 @@
 -- What holds of each sheet that is read whole: every name exists (document 01, "Names point only backward"; proofs/Named), the event of each step is
 -- one of the instrument's (proofs/Named), the first method has a body (proofs/First), outcomes fit (proofs/Outcomes), stops stand in new sheets alone
--- (proofs/Editions), and owners fit (proofs/Owners).
-use Prim.Native.Nat.{ℕ, _<_}
+-- (proofs/Editions), owners fit (proofs/Owners), and so do channels (proofs/Channels).
+use Prim.Native.Nat.{ℕ, _≤_, _<_}
 use mathlib.Core.Path.{_≡_}
 use mathlib.Core.Bool.{Bool, true}
 use mathlib.Core.Option.{Option, none, some}
 use lib.ListN.{length, getElem?}
 use Rattle.sheet.specs.Each.{Each}
+use Rattle.sheet.specs.Reading.{lastChannel}
 use Rattle.sheet.specs.Sheet.{Outcome, failed, Point, Declared, Body, Method, Step, event-step, call-step, pass-step, stop-step, Sheet, isSome, owner, declaredFor, declaredIn, body}
 
 -- the names of a point, of a body, of what a method declares, of a method and of a step are below the numbers of conditions, points and methods
@@ -112,3 +113,24 @@ StepOwned S (stop-step p) = Unit {0}
 pub record OwnersFit (S : Sheet) : Type 0 where
   pub bodies-owned : (m : ℕ) → BodyOwned S m (body S m)
   pub steps-owned : Each (StepOwned S) (S .steps)
+
+-- a call on a channel is one of a primitive of one outcome, and the channel is one of 0 to 3: what 26 leaves
+abbrev pub ChannelFits : Sheet → (method : ℕ) → Option ℕ → Type 0
+ChannelFits S m none = Unit {0}
+ChannelFits S m (some c) = (body S m ≡ none) × (declaredIn failed (getElem? (S .methods) m) ≡ none) × (c ≤ lastChannel)
+
+abbrev pub StepOnChannel : Sheet → Step → Type 0
+StepOnChannel S (event-step p q a) = Unit {0}
+StepOnChannel S (call-step t) = ChannelFits S (t .method) (t .channel)
+StepOnChannel S (pass-step p q) = Unit {0}
+StepOnChannel S (stop-step p) = Unit {0}
+
+abbrev pub ChannelsFit : Sheet → Type 0
+ChannelsFit S = Each (StepOnChannel S) (S .steps)
+
+-- a step names no channel
+abbrev pub NoChannel : Step → Type 0
+NoChannel (event-step p q a) = Unit {0}
+NoChannel (call-step t) = t .channel ≡ none
+NoChannel (pass-step p q) = Unit {0}
+NoChannel (stop-step p) = Unit {0}
