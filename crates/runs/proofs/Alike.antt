@@ -67,11 +67,11 @@ not-owed-in-second m = ⊎-elim (λ e. omega arith) (λ k. ⊎-elim (λ e. omega
 -- The calls themselves --------------------------------------------------------------------------------------------------
 
 abbrev outermost : Call
-outermost = record { method = 0; step = none; began = []; activation = record { number = 0; callers = [] } }
+outermost = record { method = 0; channel = none; step = none; began = []; activation = record { number = 0; callers = [] } }
 
 -- the first and the second, but for their numbers
 abbrev visit : ℕ → Call
-visit n = record { method = 0; step = some 1; began = []; activation = record { number = n; callers = 0 ∷ [] } }
+visit n = record { method = 0; channel = none; step = some 1; began = []; activation = record { number = n; callers = 0 ∷ [] } }
 
 pub open-calls-are :
     (run visits 0 to-first .open-calls ≡ visit 2 ∷ outermost ∷ [])
@@ -84,7 +84,7 @@ open-calls-are = (refl, refl, refl)
 abbrev probed : Returned
 probed =
     record {
-      call = record { method = 1; step = some 0; began = []; activation = record { number = 3; callers = 2 ∷ 0 ∷ [] } };
+      call = record { method = 1; channel = none; step = some 0; began = []; activation = record { number = 3; callers = 2 ∷ 0 ∷ [] } };
       outcome = normal;
       at = [];
     }

@@ -32,13 +32,13 @@ sheet = record {
 
 -- its calls
 abbrev pub of-0 : Call
-of-0 = record { method = 0; step = none; began = []; activation = record { number = 0; callers = [] } }
+of-0 = record { method = 0; channel = none; step = none; began = []; activation = record { number = 0; callers = [] } }
 
 abbrev of-1 : Call
-of-1 = record { method = 1; step = some 1; began = 2 ∷ []; activation = record { number = 1; callers = 0 ∷ [] } }
+of-1 = record { method = 1; channel = none; step = some 1; began = 2 ∷ []; activation = record { number = 1; callers = 0 ∷ [] } }
 
 abbrev of-2 : Call
-of-2 = record { method = 2; step = some 3; began = 2 ∷ []; activation = record { number = 2; callers = 1 ∷ 0 ∷ [] } }
+of-2 = record { method = 2; channel = none; step = some 3; began = 2 ∷ []; activation = record { number = 2; callers = 1 ∷ 0 ∷ [] } }
 
 infix 30 _returned-at_
 abbrev pub _returned-at_ : Call → Word → Returned
@@ -160,7 +160,7 @@ unfolding run
 words-unread = refl
 
 -- a run that starts at method 1
-starts-at-1 : run sheet 1 [] ≡ midway [] 4 (record { method = 1; step = none; began = []; activation = record { number = 0; callers = [] } } ∷ []) []
+starts-at-1 : run sheet 1 [] ≡ midway [] 4 (record { method = 1; channel = none; step = none; began = []; activation = record { number = 0; callers = [] } } ∷ []) []
 unfolding run
 starts-at-1 = refl
 
@@ -176,7 +176,7 @@ rules-of-starts = refl
 rules-of-exit : exitRules told 20 0 normal 1 ≡ (20 of 0 says event 4 isIn event 7) ∷ (21 of 0 says event 8 isIn event 5) ∷ []
 rules-of-exit = refl
 
-rules-of-return : returnRules told 20 3 (record { from = 0; to = 0; failed-to = none; method = 1 }) normal 1
+rules-of-return : returnRules told 20 3 (record { from = 0; to = 0; failed-to = none; method = 1; channel = none }) normal 1
     ≡ (20 of 3 says join (event 0) (event 10) isIn event 3)
     ∷ (21 of 3 says join (event 1) (event 10) isIn event 4)
     ∷ (22 of 3 says event 5 isIn event 11)

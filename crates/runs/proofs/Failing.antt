@@ -4,16 +4,17 @@ use mathlib.Core.Path.{_≡_, refl, sym, ap, _∙_, subst}
 use mathlib.Core.Logic.{inl, inr}
 use Prim.Native.Nat.{ℕ}
 use mathlib.Core.Bool.{true, false}
-use mathlib.Core.Option.{none, some, Option·none-ne-some}
+use mathlib.Core.Option.{Option, none, some, Option·none-ne-some}
 use mathlib.Core.List.{List, [], _∷_, map, List·Memᴰ·head}
 use lib.ListN.{getElem?}
 use lib.Dec.{T}
 use Rattle.bits.proofs.Sets.{has-none}
 use Rattle.condition.specs.Condition.{Word, Condition, empty, join, either, star, event, any, Holds, _⊆_}
 use Rattle.condition.proofs.Words.{words}
+use Rattle.condition.proofs.Exchange.{swapWord, exchange-holds}
 use Rattle.sheet.specs.Each.{Each, nil, cons}
 use Rattle.sheet.proofs.Each.{each-head, each-tail}
-use Rattle.sheet.specs.Sheet.{Outcome, normal, failed, pointFrom, Declared, event-step, callFrom, failingCallFrom, pass-step, Sheet, conditionNamed, declaredIn, trace, body, exitIn}
+use Rattle.sheet.specs.Sheet.{Outcome, normal, failed, pointFrom, Declared, event-step, callFrom, failingCallFrom, pass-step, Sheet, conditionNamed, declaredIn, trace, onChannel, body, exitIn}
 use Rattle.runs.specs.Rules.{_isIn_, holdsEmpty, _of_says_, rulesFrom, rules, AllMet, count}
 use Rattle.runs.specs.Runs.{Call, Returned, State, start, Move, return, by-step, run, Safe}
 use Rattle.runs.proofs.Methods.{primitive, withBody, failingPrimitive, failingWithBody}
@@ -33,10 +34,10 @@ ended-with h p rs = record { history = h; open-calls = []; returned-calls = rs; 
 
 -- the call of method 1 by step i, and the call of a primitive in it, at the start of a run
 abbrev of-1 : ℕ → Call
-of-1 i = record { method = 1; step = some i; began = []; activation = record { number = 1; callers = 0 ∷ [] } }
+of-1 i = record { method = 1; channel = none; step = some i; began = []; activation = record { number = 1; callers = 0 ∷ [] } }
 
 abbrev of-2 : Call
-of-2 = record { method = 2; step = some 1; began = []; activation = record { number = 2; callers = 1 ∷ 0 ∷ [] } }
+of-2 = record { method = 2; channel = none; step = some 1; began = []; activation = record { number = 2; callers = 1 ∷ 0 ∷ [] } }
 
 -- Method 0 goes from point 0 to 1, and fails at 2: it calls method 1, which leads to 1, or to 2 where it fails. Method 1 goes from point 3 to 4, and
 -- fails at 5: it calls the primitive 2, which raises 7, or 9 where it fails. Step 2 leads out of the failed exit of method 0.
@@ -127,7 +128,7 @@ unfolding run
 move-decides-of-body = (refl, refl)
 
 abbrev called : Call
-called = record { method = 2; step = some 1; began = []; activation = record { number = 1; callers = 0 ∷ [] } }
+called = record { method = 2; channel = none; step = some 1; began = []; activation = record { number = 1; callers = 0 ∷ [] } }
 
 pub move-decides-of-primitive :
     (run undecided 0 (by-step 1 normal (7 ∷ []) ∷ []) ≡ decided normal (7 ∷ []) 1 called)
@@ -169,7 +170,7 @@ unfolding run
 without-target-stays = refl
 
 abbrev one-outcome : Call
-one-outcome = record { method = 2; step = some 1; began = []; activation = record { number = 1; callers = 0 ∷ [] } }
+one-outcome = record { method = 2; channel = none; step = some 1; began = []; activation = record { number = 1; callers = 0 ∷ [] } }
 
 abbrev without-exit : List Row
 without-exit =
@@ -183,6 +184,11 @@ pub without-exit-stays : states unfit [] without-exit ≡ map (λ x. x .leaves) 
 unfolding run
 without-exit-stays = refl
 
+-- a condition that holds a word on a channel holds one
+held-by-it : (c : Option ℕ) (r : Condition) (w : Word) → Holds (onChannel c r) w → (v : Word) × Holds r v
+held-by-it none r w h = (w, h)
+held-by-it (some c) r w h = (swapWord c w, exchange-holds c r w .0 h)
+
 -- In the runs of every sheet a method with neither a failed trace and future nor a failed exit does not fail.
 module _ (S : Sheet) (m : ℕ) (undeclared : declaredIn failed (getElem? (S .methods) m) ≡ none) (no-exit : exitIn failed (body S m) ≡ none) where
   abbrev Normal : Returned → Type 0
@@ -193,9 +199,9 @@ module _ (S : Sheet) (m : ℕ) (undeclared : declaredIn failed (getElem? (S .met
       let (x, in-none, e) = subst (λ d. Holds (conditionNamed S (λ (x : Declared). x .trace) d) w) undeclared h in
       subst T (has-none x) in-none
 
-  by-word : (k : ℕ) (o : Outcome) (w : Word) → Holds (trace S k o) w → k ≡ m → o ≡ normal
-  by-word k normal w h e = refl
-  by-word k failed w h e = absurd (no-word w (subst (λ n. Holds (trace S n failed) w) e h))
+  by-word : (k : ℕ) (c : Option ℕ) (o : Outcome) (w : Word) → Holds (onChannel c (trace S k o)) w → k ≡ m → o ≡ normal
+  by-word k c normal w h e = refl
+  by-word k c failed w h e = let (v, x) = held-by-it c (trace S k failed) w h in absurd (no-word v (subst (λ n. Holds (trace S n failed) v) e x))
 
   by-exit : (k : ℕ) (o : Outcome) {p : ℕ} → exitIn o (body S k) ≡ some p → k ≡ m → o ≡ normal
   by-exit k normal at e = refl
@@ -204,7 +210,7 @@ module _ (S : Sheet) (m : ℕ) (undeclared : declaredIn failed (getElem? (S .met
   made-normal : (s t : State) → s .ended ≡ false → Makes S s t → Each Normal (s .returned-calls) → Each Normal (t .returned-calls)
   made-normal s t z (event-made i found) g = g
   made-normal s t z (pass-made i found) g = g
-  made-normal s t z (primitive-made {t = x} i o w found at is to h) g = cons (by-word (x .method) o w h) g
+  made-normal s t z (primitive-made {t = x} i o w found at is to h) g = cons (by-word (x .method) (x .channel) o w h) g
   made-normal s t z (open-made i found at is) g = g
   made-normal s t z (stop-made i found marked) g = g
   made-normal s t z (return-made {c = c} o opened is at to) g = cons (by-exit (c .method) o (ap (exitIn o) is ∙ at)) g
@@ -336,7 +342,7 @@ gate-rules =
 
 -- so every run of it is safe, and one that fails to open the gate ends without a close
 pub gate-runs : (ms : List Move) → Safe gate (run gate 0 ms)
-gate-runs ms = runs-are-safe gate (0 ∷ []) gate-rules 0 (List·Memᴰ·head refl) tt ms
+gate-runs ms = runs-are-safe gate (cons tt (cons tt nil)) (0 ∷ []) gate-rules 0 (List·Memᴰ·head refl) tt ms
 
 abbrev not-opening : List Move
 not-opening = by-step 0 failed [] ∷ return normal ∷ []

@@ -23,6 +23,8 @@ module _ (S : Sheet) where
     pub in-pre : Begun c
     pub in-past : Holds (past S p) h
     pub in-own : Adds (c .began) h (Holds (own S p))
+    -- its method has a body, and the rules of that read the method's conditions as they are
+    pub no-channel : c .channel ≡ none
 
   -- where the step that made a call starts
   abbrev pub source : Option Step → ℕ

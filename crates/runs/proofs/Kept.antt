@@ -2,16 +2,16 @@
 use mathlib.Core.Path.{_≡_, refl, sym, ap, _∙_, subst}
 use Prim.Native.Nat.{ℕ}
 use mathlib.Core.Bool.{true, false, false≢true}
-use mathlib.Core.Option.{Option, none, some}
+use mathlib.Core.Option.{Option, none, some, Option·none-ne-some}
 use mathlib.Core.List.{List, [], _∷_, _++_, append-assoc, append-nil}
 use lib.ListN.{getElem?}
 use Rattle.condition.specs.Condition.{Word, Condition, Holds}
 use Rattle.sheet.specs.Each.{Each, nil, cons}
-use Rattle.sheet.proofs.Each.{each-map, each-zip, each-all}
-use Rattle.sheet.specs.Sheet.{Outcome, Body, CallStep, call-step, Sheet, past, due, body, exitIn, targetFor}
+use Rattle.sheet.proofs.Each.{each-map, each-zip, each-all, each-get}
+use Rattle.sheet.specs.Sheet.{Outcome, Body, CallStep, Step, call-step, Sheet, past, due, pre, trace, future, onChannel, body, exitIn, targetFor}
 use Rattle.runs.specs.Runs.{Call, Returned, State, preOf, traceOf, futureOf, entryOf, start, Move, raise, newCall, openCall, returnedNow, stop, madeBy, targetOr, noneOpen, close, run}
 use Rattle.runs.specs.Owing.{IsCaller, InCaller}
-use Rattle.sheet_laws.specs.Names.{HasBody}
+use Rattle.sheet_laws.specs.Names.{HasBody, ChannelFits, StepOnChannel, ChannelsFit}
 use Rattle.runs.proofs.Rules.{ExitRules, BodyRules, Leads, ReturnRules, CallRules, MethodRules, StepRules, SheetRules}
 use Rattle.runs.proofs.Adds.{Adds, adds-more, adds-weaker, adds-nothing}
 use Rattle.runs.proofs.Moves.{Makes, event-made, pass-made, primitive-made, open-made, stop-made, return-made, run-keeps}
@@ -23,7 +23,13 @@ module _ (S : Sheet) where
 
   module _ {p q : ℕ} {w : Word} (l : Leads S p w q) where
     advance-stands : {h : Word} {c : Call} → Stands S p h c → Stands S q (h ++ w) c
-    advance-stands {h} x = record { in-pre = x .in-pre; in-past = l .past-on h (x .in-past); in-own = adds-more (x .in-own) w (l .own-on) }
+    advance-stands {h} x =
+        record {
+          in-pre = x .in-pre;
+          in-past = l .past-on h (x .in-past);
+          in-own = adds-more (x .in-own) w (l .own-on);
+          no-channel = x .no-channel;
+        }
 
     advance-due : {b h : Word} (c : Condition) → Adds b h (WithDue S c p) → Adds b (h ++ w) (WithDue S c q)
     advance-due c d = adds-more d w (λ u f v x. rw append-assoc (f (w ++ v) (l .due-back v x)))
@@ -67,15 +73,15 @@ module _ (S : Sheet) where
           well = cons (record { began = begun; raised = record { word = w; is = refl; inside = h } }) (g .well);
         }
 
-    open-good : {b : Body} → getElem? (S .steps) i ≡ some (call-step t) → body S (t .method) ≡ some b
+    open-good : {b : Body} → getElem? (S .steps) i ≡ some (call-step t) → body S (t .method) ≡ some b → t .channel ≡ none
         → BodyRules S (preOf S (newCall s i t)) (traceOf S (newCall s i t)) (futureOf S (newCall s i t)) b
         → Each (λ r. IsCaller (newCall s i t) (r .call) → ⊥) (s .returned-calls) → Good S (openCall (newCall s i t) (b .entry) s)
-    open-good {b} found is rules apart =
+    open-good {b} found is unexchanged rules apart =
         running going
         record {
           frames =
               inner
-              (record { in-pre = begun; in-past = rules .rule-3 _ begun; in-own = adds-nothing (rules .rule-4) })
+              (record { in-pre = begun; in-past = rules .rule-3 _ begun; in-own = adds-nothing (rules .rule-4); no-channel = unexchanged })
               (subst (ReturnsWell S (newCall s i t)) (sym found) (λ here. k .returns))
               (λ marked. from (λ p. Adds (s .history) (s .history) (WithDue S (due S p) (b .entry))) (adds-nothing (k .rule-26 marked is)))
               (from (λ p. Frames S p (s .history) (s .open-calls)) (g .frames));
@@ -116,6 +122,11 @@ module _ (S : Sheet) where
             owed = cons (owed-here _ back-frames (adds-nothing (k .rule-13-20))) (each-map back-owed (g .owed));
             well = cons well-now (g .well);
           }
+
+  -- the innermost open call has no channel
+  frames-channel : {p : ℕ} {h : Word} {c : Call} {cs : List Call} → Frames S p h (c ∷ cs) → c .channel ≡ none
+  frames-channel (outermost x f) = x .no-channel
+  frames-channel (inner x k d f) = x .no-channel
 
   some-open : {p : ℕ} {h : Word} {cs : List Call} → Frames S p h cs → noneOpen cs ≡ false
   some-open (outermost x f) = refl
@@ -171,9 +182,28 @@ module _ (S : Sheet) where
       → Running S p (s .history) (s .open-calls) (s .returned-calls)
   stands-at s at = subst (λ p. Running S p (s .history) (s .open-calls) (s .returned-calls)) at
 
-  module _ {m₀ : ℕ} (R : SheetRules S m₀) where
-    rules-of : (c : Call) {b : Body} → body S (c .method) ≡ some b → BodyRules S (preOf S c) (traceOf S c) (futureOf S c) b
-    rules-of c is = subst (MethodRules S (c .method)) is (R .methods (c .method))
+  -- a call of a method with body has no channel
+  without-channel : (m : ℕ) (c : Option ℕ) {b : Body} → body S m ≡ some b → ChannelFits S m c → c ≡ none
+  without-channel m none is fits = refl
+  without-channel m (some c) is fits = absurd (Option·none-ne-some _ (sym (fits .0) ∙ is))
+
+  module _ (fit : ChannelsFit S) {m₀ : ℕ} (R : SheetRules S m₀) where
+    -- where the step i calls a method with body
+    step-without-channel : (i : ℕ) {t : CallStep} {b : Body} → getElem? (S .steps) i ≡ some (call-step t) → body S (t .method) ≡ some b
+        → t .channel ≡ none
+    step-without-channel i {t} found is = without-channel (t .method) (t .channel) is (subst Fits found (each-get Fits tt fit i))
+      where
+        Fits : Option Step → Type 0
+        Fits none = Unit {0}
+        Fits (some t) = StepOnChannel S t
+
+    -- the rules of a body, of a call of its method without a channel
+    rules-of : (c : Call) {b : Body} → c .channel ≡ none → body S (c .method) ≡ some b → BodyRules S (preOf S c) (traceOf S c) (futureOf S c) b
+    rules-of c {b} unexchanged is =
+        let m = c .method in
+        subst
+        (λ (x : Option ℕ). BodyRules S (onChannel x (pre S m)) (λ o. onChannel x (trace S m o)) (λ o. onChannel x (future S m o)) b)
+        (sym unexchanged) (subst (MethodRules S m) is (R .methods m))
 
     made-good : (s t : State) → s .ended ≡ false → Makes S s t → NumbersAt s → Good S s → Good S t
     made-good s t z made n (over e g) = absurd (false≢true (sym z ∙ e))
@@ -182,11 +212,13 @@ module _ (S : Sheet) where
     made-good s t z (primitive-made i o w found at is to h) n (running e g) =
         primitive-good s z i (subst (StepRules S) found (R .steps i)) (stands-at s at g) o w to h
     made-good s t z (open-made {t = x} i found at is) n (running e g) =
-        open-good s z i (subst (StepRules S) found (R .steps i)) (stands-at s at g) found is (rules-of (newCall s i x) is) (next-is-new s i x n)
+        let unexchanged = step-without-channel i found is in
+        open-good s z i (subst (StepRules S) found (R .steps i)) (stands-at s at g) found is unexchanged
+        (rules-of (newCall s i x) unexchanged is) (next-is-new s i x n)
     made-good s t z (stop-made i found marked) n (running e g) = stop-good s marked g (subst (StepRules S) found (R .steps i))
     made-good s t z (return-made {c = c} o opened is at to) n (running e g) =
         let k = subst (λ cs. Running S (s .point) (s .history) cs (s .returned-calls)) opened g in
-        return-good s (rules-of c is .exits o (s .point) at) (ap (exitIn o) is ∙ at) to (k .frames) k
+        return-good s (rules-of c (frames-channel (k .frames)) is .exits o (s .point) at) (ap (exitIn o) is ∙ at) to (k .frames) k
 
     start-good : HasBody (body S m₀) → Good S (start S m₀)
     unfolding start
@@ -198,7 +230,7 @@ module _ (S : Sheet) where
             record {
               frames =
                   outermost
-                  (record { in-pre = R .first .rule-1; in-past = b .rule-3 [] (R .first .rule-1); in-own = adds-nothing (b .rule-4) })
+                  (record { in-pre = R .first .rule-1; in-past = b .rule-3 [] (R .first .rule-1); in-own = adds-nothing (b .rule-4); no-channel = refl })
                   (R .first .rule-2-24);
               owed = nil;
               well = nil;

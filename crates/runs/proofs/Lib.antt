@@ -21,6 +21,7 @@ mod OwnersExamples
 pub mod Failing
 pub mod Stopping
 pub mod Loop
+mod ChannelExamples
 mod Nouns
 mod Refuted
 mod Told

@@ -14,8 +14,9 @@ use Rattle.condition.specs.Condition.{Word, Condition, empty, join, either, sta
 use Rattle.condition.specs.Places.{accepts}
 use Rattle.certificate.specs.Certificate.{Certificate}
 use Rattle.sheet.specs.Sheet.{normal, Point, CallStep, event-step, call-step, pass-step, Sheet, body}
+use Rattle.sheet.specs.Each.{nil, cons}
 use Rattle.sheet.proofs.Each.{each-member}
-use Rattle.sheet_laws.specs.Names.{HasBody}
+use Rattle.sheet_laws.specs.Names.{HasBody, ChannelsFit}
 use Rattle.runs.specs.Rules.{rulesFrom, AllMet}
 use Rattle.runs.specs.Runs.{Returned, State, traceOf, futureOf, since, Move, return, by-step, raise, newCall, returnedNow, move, runOn, run}
 use Rattle.runs.proofs.Moves.{Makes, event-made, pass-made, primitive-made, open-made, stop-made, return-made, run-on-append, run-append, run-on-keeps, step-made, by-trace}
@@ -137,9 +138,9 @@ module _ (S : Sheet) (m : ℕ) (close : CallStep) (t : TwiceRound S m close) whe
       ∙ drop-append-seam (closed .at) (0 ∷ closed-then-0 .added)
 
   -- where no word of close's future starts with 0, the rules are not all true
-  pub not-all-met : HasBody (body S m) → ((v : Word) → Holds (futureOf S (closed .call) normal) (0 ∷ v) → ⊥) → AllMet (rulesFrom (m ∷ []) S) → ⊥
-  not-all-met b no-0 h =
-      let ended = runs-are-safe S (m ∷ []) h m (List·Memᴰ·head refl) b all-moves .ended-well (t .ends) in
+  pub not-all-met : ChannelsFit S → HasBody (body S m) → ((v : Word) → Holds (futureOf S (closed .call) normal) (0 ∷ v) → ⊥) → AllMet (rulesFrom (m ∷ []) S) → ⊥
+  not-all-met fit b no-0 h =
+      let ended = runs-are-safe S fit (m ∷ []) h m (List·Memᴰ·head refl) b all-moves .ended-well (t .ends) in
       no-0 (closed-then-0 .added)
       (subst (Holds (futureOf S (closed .call) normal)) since-close
       (each-member (λ r. Holds (futureOf S (r .call) (r .outcome)) (since (r .at) (run S m all-moves .history))) ended (closed-then-0 .returned)))
@@ -167,7 +168,7 @@ no-0 v (inr h) =
 module _ (conditions : List Condition) (points : List Point) (pre trace future close-pre : ℕ) (certificates : List Certificate) (new : Bool) where
   -- the call of "close"
   abbrev closing : CallStep
-  closing = record { from = 1; to = 2; failed-to = none; method = 1 }
+  closing = record { from = 1; to = 2; failed-to = none; method = 1; channel = none }
 
   abbrev loop : Sheet
   loop = record {
@@ -210,4 +211,4 @@ module _ (conditions : List Condition) (points : List Point) (pre trace future c
 
   -- "no point conditions or certificates get the sheet accepted"
   loop-not-met : AllMet (rulesFrom (0 ∷ []) loop) → ⊥
-  loop-not-met = not-all-met loop 0 closing twice-round tt no-0
+  loop-not-met = not-all-met loop 0 closing twice-round (cons tt (cons tt (cons tt (cons tt nil)))) tt no-0

@@ -17,7 +17,7 @@ use Rattle.runs.proofs.Methods.{failingPrimitive}
 -- Histories ---------------------------------------------------------------------------------------------------------------
 
 abbrev began-after : Word → Call
-began-after w = record { method = 0; step = none; began = w; activation = record { number = 0; callers = [] } }
+began-after w = record { method = 0; channel = none; step = none; began = w; activation = record { number = 0; callers = [] } }
 
 abbrev state : Word → List Call → List Returned → State
 state h cs rs = record { history = h; open-calls = cs; returned-calls = rs; point = 0; ended = false }
@@ -36,7 +36,7 @@ not-since-return g = let e = ap (λ (w : Word). getD w 0 0) (each-head (g .since
 
 -- step 0 calls the primitive 0, whose trace and failed trace are the one word 7, and has no failed target; step 1 raises 3
 abbrev called : CallStep
-called = record { from = 0; to = 0; failed-to = none; method = 0 }
+called = record { from = 0; to = 0; failed-to = none; method = 0; channel = none }
 
 abbrev sheet : Sheet
 sheet = record {

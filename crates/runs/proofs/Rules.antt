@@ -14,7 +14,7 @@ use Rattle.bits.proofs.Tests.{T-true}
 use Rattle.condition.specs.Condition.{Word, Condition, join, Holds, _⊆_, event}
 use Rattle.sheet.specs.Each.{Each, nil, cons}
 use Rattle.sheet.proofs.Each.{each-head, each-tail, each-left, each-right, each-get}
-use Rattle.sheet.specs.Sheet.{Outcome, normal, failed, Body, Method, CallStep, Step, event-step, call-step, pass-step, stop-step, Sheet, past, own, due, pre, trace, future, bodyIn, body, entryIn, exitFor, exitIn, targetFor}
+use Rattle.sheet.specs.Sheet.{Outcome, normal, failed, Body, Method, CallStep, Step, event-step, call-step, pass-step, stop-step, Sheet, past, own, due, pre, trace, future, onChannel, bodyIn, body, entryIn, exitFor, exitIn, targetFor}
 use Rattle.runs.specs.Rules.{Rule, isAmong, ifAny, firstRules, exitRules, failedExitRules, methodRules, returnRules, entryAsked, entryRules, stepRules, firstsRules, methodsRules, stepsRules, rulesFrom, AllMet}
 
 one-event : (a : ℕ) → Holds (event a) (a ∷ [])
@@ -60,12 +60,14 @@ module _ (S : Sheet) where
     pub leads : (w : Word) → Holds T w → Leads p w q
     pub rule-13-20 : due S q ⊆ F
 
-  -- of a return by the step t to q with the outcome o
+  -- of a return by the step t to q with the outcome o; what the method declares is read on the step's channel
   abbrev pub ReturnsBy : CallStep → Outcome → ℕ → Type 0
-  ReturnsBy t o q = ReturnRules (t .from) q (trace S (t .method) o) (future S (t .method) o)
+  ReturnsBy t o q =
+      let read = onChannel (t .channel) in
+      ReturnRules (t .from) q (read (trace S (t .method) o)) (read (future S (t .method) o))
 
   pub record CallRules (t : CallStep) : Type 0 where
-    pub rule-10 : past S (t .from) ⊆ pre S (t .method)
+    pub rule-10 : past S (t .from) ⊆ onChannel (t .channel) (pre S (t .method))
     pub returns : (o : Outcome) (q : ℕ) → targetFor o t ≡ some q → ReturnsBy t o q
     pub rule-26 : S .new ≡ true → {b : Body} → body S (t .method) ≡ some b → due S (b .entry) ⊆ due S (t .from)
 
@@ -133,7 +135,7 @@ module _ (S : Sheet) where
   of-return n i t o q h =
       let rest = each-tail (each-tail h) in
       record {
-        leads = joined (trace S (t .method) o) (each-head h) (each-head (each-tail h)) (each-head (each-tail rest));
+        leads = joined (onChannel (t .channel) (trace S (t .method) o)) (each-head h) (each-head (each-tail h)) (each-head (each-tail rest));
         rule-13-20 = each-head rest;
       }
 

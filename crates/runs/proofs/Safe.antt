@@ -9,7 +9,7 @@ use Rattle.sheet.proofs.Each.{each-map, each-append, each-mapped}
 use Rattle.sheet.specs.Sheet.{Sheet, body}
 use Rattle.runs.specs.Rules.{rulesFrom, AllMet}
 use Rattle.runs.specs.Runs.{Returned, State, traceOf, raised, Move, run, Safe}
-use Rattle.sheet_laws.specs.Names.{HasBody}
+use Rattle.sheet_laws.specs.Names.{HasBody, ChannelsFit}
 use Rattle.runs.proofs.Rules.{by-number}
 use Rattle.runs.proofs.Adds.{adds-since}
 use Rattle.runs.proofs.Invariant.{Begun, Well, Good, running, over}
@@ -37,6 +37,6 @@ module _ (S : Sheet) where
       }
 
 -- demand 3, of every list of moves from any of the starts
-pub runs-are-safe : (S : Sheet) (starts : List ℕ) → AllMet (rulesFrom starts S) → (m : ℕ) → List·Memᴰ m starts → HasBody (body S m)
+pub runs-are-safe : (S : Sheet) → ChannelsFit S → (starts : List ℕ) → AllMet (rulesFrom starts S) → (m : ℕ) → List·Memᴰ m starts → HasBody (body S m)
     → (ms : List Move) → Safe S (run S m ms)
-runs-are-safe S starts h m is b ms = good-is-safe S (runs-are-good S (by-number S starts is h) b ms)
+runs-are-safe S fit starts h m is b ms = good-is-safe S (runs-are-good S fit (by-number S starts is h) b ms)

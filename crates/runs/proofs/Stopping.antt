@@ -2,7 +2,7 @@
 use mathlib.Core.Path.{_≡_, refl, sym, _∙_}
 use mathlib.Core.Logic.{inl, inr}
 use mathlib.Core.Bool.{Bool, true, false, false≢true}
-use mathlib.Core.Option.{some}
+use mathlib.Core.Option.{none, some}
 use mathlib.Core.List.{List, [], _∷_, _++_, map, List·Memᴰ·head}
 use Prim.Native.Nat.{ℕ}
 use Rattle.condition.specs.Condition.{Condition, empty, join, either, star, event, any, _⊆_}
@@ -34,11 +34,11 @@ stopping new = record {
 }
 
 abbrev of-1 : Call
-of-1 = record { method = 1; step = some 1; began = 7 ∷ []; activation = record { number = 2; callers = 0 ∷ [] } }
+of-1 = record { method = 1; channel = none; step = some 1; began = 7 ∷ []; activation = record { number = 2; callers = 0 ∷ [] } }
 
 -- the call of the primitive
 abbrev of-2 : Returned
-of-2 = record { method = 2; step = some 0; began = []; activation = record { number = 1; callers = 0 ∷ [] } } returned-at (7 ∷ [])
+of-2 = record { method = 2; channel = none; step = some 0; began = []; activation = record { number = 1; callers = 0 ∷ [] } } returned-at (7 ∷ [])
 
 -- in both editions
 abbrev to-stop : List Row
@@ -228,7 +228,7 @@ module _ (last at : ℕ) (P : Rule → Type 0) (met : (x : Rule) → Met (x .cla
       (cons rule-25 nil)))))))))))))))))))))))))))
 
 -- All rules but those with the number n are true.
-abbrev MetBut : ℕ → List Rule → Type 0
+abbrev pub MetBut : ℕ → List Rule → Type 0
 MetBut n = Each (λ x. (x .number ≡ n → ⊥) → Met (x .claim))
 
 -- Where the last event is the close, and the stop is behind it, all rules are true: every run is safe, also one that stops in method 1.
@@ -240,7 +240,7 @@ pub closed-rules : AllMet (rulesFrom (0 ∷ []) (gate 1 5))
 closed-rules = gate-rules 1 5 (λ x. Met (x .claim)) (λ x h. h) close-in-due refl
 
 pub closed-runs : (ms : List Move) → Safe (gate 1 5) (run (gate 1 5) 0 ms)
-closed-runs ms = runs-are-safe (gate 1 5) (0 ∷ []) closed-rules 0 (List·Memᴰ·head refl) tt ms
+closed-runs ms = runs-are-safe (gate 1 5) (cons tt (cons tt (cons tt (cons tt (cons tt nil))))) (0 ∷ []) closed-rules 0 (List·Memᴰ·head refl) tt ms
 
 -- the primitive opens the gate, method 0 calls method 1, that raises the last event, and the run stops
 abbrev to-gate-stop : List Move

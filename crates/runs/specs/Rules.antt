@@ -1,4 +1,4 @@
--- The rules of a sheet: document 01, "Seventeen rules", and 18 to 26 of document 02, Asks 2 and 4. Each rule is a claim about the languages of the sheet's
+-- The rules of a sheet: document 01, "Seventeen rules", and 18 to 26 of document 02, Asks 2 and 4; Ask 11 gives a call its channel. Each rule is a claim about the languages of the sheet's
 -- conditions; the list has them in the order of testing, and `Met` says what a claim says.
 use Prim.Native.Nat.{ℕ, suc, _+_, _*_}
 use mathlib.Core.Bool.{Bool, false, cond, _||_}
@@ -8,7 +8,7 @@ use lib.Dec.{eqb}
 use lib.ListN.{length}
 use Rattle.condition.specs.Condition.{Condition, join, Holds, _⊆_, event}
 use Rattle.sheet.specs.Each.{Each}
-use Rattle.sheet.specs.Sheet.{Outcome, normal, failed, Body, Method, CallStep, Step, event-step, call-step, pass-step, stop-step, Sheet, past, own, due, pre, trace, future, body, entryIn}
+use Rattle.sheet.specs.Sheet.{Outcome, normal, failed, Body, Method, CallStep, Step, event-step, call-step, pass-step, stop-step, Sheet, past, own, due, pre, trace, future, onChannel, body, entryIn}
 
 -- ""A in B" says that every word of A is in B"; or A holds the empty word
 infix 30 _isIn_
@@ -72,17 +72,18 @@ module _ (S : Sheet) where
       ∷ (4 of m says holdsEmpty (own S (b .entry)))
       ∷ (exitRules 5 m normal (b .exit) ++ ifAny (b .failed-exit) (failedExitRules starts m))
 
-  -- "p and q are a step's from and to, T the called method's trace, a the event"; "AB is A joined with B"
+  -- "p and q are a step's from and to, T the called method's trace, a the event"; "AB is A joined with B". What the method declares is read as the call
+  -- reads it, on its channel.
 
   -- "11 past(p)T in past(q); 12 own(p)T in own(q); 13 due(q) in future; 14 T due(q) in due(p)"; "Rules 18 to 21 are 11 to 14 for the failed side": of
   -- an outcome that leads to q, numbered from n on
   abbrev pub returnRules : (n i : ℕ) → CallStep → Outcome → (q : ℕ) → List Rule
   returnRules n i t o q =
       let p = t .from in
-      let T = trace S (t .method) o in
+      let T = onChannel (t .channel) (trace S (t .method) o) in
       (n of i says join (past S p) T isIn past S q)
       ∷ (n + 1 of i says join (own S p) T isIn own S q)
-      ∷ (n + 2 of i says due S q isIn future S (t .method) o)
+      ∷ (n + 2 of i says due S q isIn onChannel (t .channel) (future S (t .method) o))
       ∷ (n + 3 of i says join T (due S q) isIn due S p)
       ∷ []
 
@@ -103,7 +104,7 @@ module _ (S : Sheet) where
       ∷ []
   -- "Call: 10 past(p) in pre", then those of its returns, and 26 "after a call's other rules"
   stepRules i (call-step t) =
-      (10 of i says past S (t .from) isIn pre S (t .method))
+      (10 of i says past S (t .from) isIn onChannel (t .channel) (pre S (t .method)))
       ∷ (returnRules 11 i t normal (t .to)
       ++ (ifAny (t .failed-to) (returnRules 18 i t failed) ++ ifAny (entryAsked (t .method)) (entryRules i t)))
   -- "Pass: 15 past(p) in past(q); 16 own(p) in own(q); 17 due(q) in due(p)."

@@ -1,5 +1,5 @@
--- Runs of a sheet, and what demand 3 asks of them: document 01, "Runs", and document 02: Ask 2, by which a call may fail, and Ask 4,
--- by which a run may stop.
+-- Runs of a sheet, and what demand 3 asks of them: document 01, "Runs", and document 02: Ask 2, by which a call may fail, Ask 4, by
+-- which a run may stop, and Ask 11, by which a call may be made on a channel.
 use mathlib.Core.Path.{_≡_}
 use Prim.Native.Nat.{ℕ, _+_}
 use mathlib.Core.Bool.{Bool, true, false, cond}
@@ -8,9 +8,10 @@ use mathlib.Core.List.{List, [], _∷_, _++_, map}
 use lib.ListN.{length, getElem?, drop}
 use lib.Dec.{eqb}
 use Rattle.condition.specs.Condition.{Word, Condition, Holds}
+use Rattle.condition.specs.Exchange.{exchange}
 use Rattle.condition.specs.Places.{accepts}
 use Rattle.sheet.specs.Each.{Each}
-use Rattle.sheet.specs.Sheet.{Outcome, Body, CallStep, Step, event-step, call-step, pass-step, stop-step, Sheet, pre, trace, future, body, exitIn, targetFor}
+use Rattle.sheet.specs.Sheet.{Outcome, Body, CallStep, Step, event-step, call-step, pass-step, stop-step, Sheet, pre, trace, future, onChannel, body, exitIn, targetFor}
 
 -- The state of a run ----------------------------------------------------------------------------------------------------
 
@@ -21,9 +22,10 @@ pub record Activation : Type 0 where
   -- the numbers of the activation that made it, of the one that made that, and so on
   pub callers : List ℕ
 
--- "A call has its method, its step (the outermost has none), the history at its beginning"
+-- "A call has its method, its step (the outermost has none), the history at its beginning", and its channel, if its step names one
 pub record Call : Type 0 where
   pub method : ℕ
+  pub channel : Option ℕ
   pub step : Option ℕ
   pub began : Word
   pub activation : Activation
@@ -49,15 +51,16 @@ pub record State : Type 0 where
 abbrev pub calls : State → List Call
 calls s = s .open-calls ++ map (λ r. r .call) (s .returned-calls)
 
--- a call's pre: what its method declares; "a call's trace and future are those of its outcome"
+-- a call's pre: what its method declares, read on the call's channel; "a call's trace and future are those of its outcome". "The mission's properties hold
+-- with the exchanged conditions."
 abbrev pub preOf : Sheet → Call → Condition
-preOf S c = pre S (c .method)
+preOf S c = onChannel (c .channel) (pre S (c .method))
 
 abbrev pub traceOf : Sheet → Call → Outcome → Condition
-traceOf S c o = trace S (c .method) o
+traceOf S c o = onChannel (c .channel) (trace S (c .method) o)
 
 abbrev pub futureOf : Sheet → Call → Outcome → Condition
-futureOf S c o = future S (c .method) o
+futureOf S c o = onChannel (c .channel) (future S (c .method) o)
 
 -- What a history adds to an earlier one, which it begins with: `Grown` says so of each that is asked of a state.
 abbrev pub since : Word → Word → Word
@@ -87,7 +90,7 @@ unfoldable pub start : Sheet → ℕ → State
 start S m =
     record {
       history = [];
-      open-calls = record { method = m; step = none; began = []; activation = record { number = 0; callers = [] } } ∷ [];
+      open-calls = record { method = m; channel = none; step = none; began = []; activation = record { number = 0; callers = [] } } ∷ [];
       returned-calls = [];
       point = entryOf (body S m);
       ended = false;
@@ -116,6 +119,7 @@ abbrev pub newCall : State → ℕ → CallStep → Call
 newCall s i t =
     record {
       method = t .method;
+      channel = t .channel;
       step = some i;
       began = s .history;
       activation =
@@ -245,7 +249,7 @@ runOn S s (m ∷ ms) = runOn S (move S s m) ms
 
 -- the run of a list of moves, from a fresh start of the method m
 unfoldable pub run : Sheet → ℕ → List Move → State
-unfolding start move runOn accepts
+unfolding start move runOn accepts exchange
 run S m ms = runOn S (start S m) ms
 
 -- Demand 3 --------------------------------------------------------------------------------------------------------------
