@@ -5,7 +5,7 @@ use mathlib.Core.Option.{some}
 use mathlib.Core.List.{List, [], _∷_, _++_, map}
 use Prim.Native.Nat.{ℕ, zero, suc}
 use lib.ListN.{take}
-use Rattle.sheet.specs.Model.{large, entry}
+use Rattle.sheet.specs.Model.{Model, large, entry}
 use Rattle.verdict.specs.Verdict.{verdictOf}
 use Rattle.verdict.specs.WordTest.{untested, wordTest}
 use Rattle.verdict.specs.Reply.{replyOf}
@@ -46,21 +46,21 @@ lacking zero i = []
 lacking (suc n) zero = 0x0E ∷ ones n
 lacking (suc n) (suc i) = one ++ lacking n i
 
--- the rule and the subject that then fail, in a sheet up to its certificates, for so many i from k on
-abbrev pub failing : List ℕ → ℕ → ℕ → ℕ → List (List ℕ)
-failing sheet n k zero = []
-failing sheet n k (suc m) = take 2 (replyOf (verdictOf large (sheet ++ lacking n k)) .values) ∷ failing sheet n (suc k) m
+-- the rule and the subject that then fail on an instrument, in a sheet up to its certificates, for so many i from k on
+abbrev pub failing : Model → List ℕ → ℕ → ℕ → ℕ → List (List ℕ)
+failing I sheet n k zero = []
+failing I sheet n k (suc m) = take 2 (replyOf (verdictOf I (sheet ++ lacking n k)) .values) ∷ failing I sheet n (suc k) m
 
 -- rules of one subject
 abbrev pub rulesOf : ℕ → List ℕ → List (List ℕ)
 rulesOf subject ns = map (λ (n : ℕ). n ∷ subject ∷ []) ns
 
 -- "They and their certificates follow the ordinary ones of their subject in order of number"
-of-primitive : failing (allEmpty withPrimitive []) 12 0 12 ≡ rulesOf 0 (3 ∷ 5 ∷ 6 ∷ []) ++ rulesOf 0 (10 ∷ 11 ∷ 12 ∷ 13 ∷ 14 ∷ 18 ∷ 19 ∷ 20 ∷ 21 ∷ [])
+of-primitive : failing large (allEmpty withPrimitive []) 12 0 12 ≡ rulesOf 0 (3 ∷ 5 ∷ 6 ∷ []) ++ rulesOf 0 (10 ∷ 11 ∷ 12 ∷ 13 ∷ 14 ∷ 18 ∷ 19 ∷ 20 ∷ 21 ∷ [])
 unfolding verdictOf
 of-primitive = refl
 
-of-methods : failing (allEmpty withMethods []) 19 0 19
+of-methods : failing large (allEmpty withMethods []) 19 0 19
     ≡ rulesOf 0 (3 ∷ 5 ∷ 6 ∷ 22 ∷ 23 ∷ []) ++ (rulesOf 1 (3 ∷ 5 ∷ 6 ∷ 22 ∷ 23 ∷ []) ++ rulesOf 0 (10 ∷ 11 ∷ 12 ∷ 13 ∷ 14 ∷ 18 ∷ 19 ∷ 20 ∷ 21 ∷ []))
 unfolding verdictOf
 of-methods = refl

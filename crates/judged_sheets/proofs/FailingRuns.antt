@@ -99,7 +99,7 @@ nothing-after = each-head (each-tail (is-safe fails .ended-well refl))
 pub joined-in : join empty empty ⊆ empty
 joined-in w (u, v, e, h, k) = e ∙ (ap (λ (x : Word). x ++ v) h ∙ k)
 
-pub joined-is-exact : Exact 32 (join empty empty) empty (pair 0 1 ∷ [])
+pub joined-is-exact : {n : ℕ} → Exact n (join empty empty) empty (pair 0 1 ∷ [])
 unfolding leaves
 joined-is-exact = start-is-exact (join empty empty) empty refl
 

@@ -3,3 +3,5 @@ pub mod Failing
 pub mod FailingRuns
 pub mod Stopping
 mod StoppingRuns
+pub mod Channels
+mod ChannelRuns

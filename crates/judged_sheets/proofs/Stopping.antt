@@ -62,12 +62,12 @@ counts-print = refl
 -- Whose certificate is which ----------------------------------------------------------------------------------------------
 
 -- "after a call's other rules", and before those of the next step: of two calls
-of-calls : failing (new (allEmpty (method0 0 ++ (call 0 ++ call 0)) [])) 15 3 7 ≡ rulesOf 0 (10 ∷ 11 ∷ 12 ∷ 13 ∷ 14 ∷ 26 ∷ []) ++ rulesOf 1 (10 ∷ [])
+of-calls : failing large (new (allEmpty (method0 0 ++ (call 0 ++ call 0)) [])) 15 3 7 ≡ rulesOf 0 (10 ∷ 11 ∷ 12 ∷ 13 ∷ 14 ∷ 26 ∷ []) ++ rulesOf 1 (10 ∷ [])
 unfolding verdictOf
 of-calls = refl
 
 -- and of a call that may fail
-of-failing-call : failing (new (allEmpty withMethods [])) 20 14 6 ≡ rulesOf 0 (14 ∷ 18 ∷ 19 ∷ 20 ∷ 21 ∷ 26 ∷ [])
+of-failing-call : failing large (new (allEmpty withMethods [])) 20 14 6 ≡ rulesOf 0 (14 ∷ 18 ∷ 19 ∷ 20 ∷ 21 ∷ 26 ∷ [])
 unfolding verdictOf
 of-failing-call = refl
 

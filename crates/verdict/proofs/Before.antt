@@ -1,20 +1,21 @@
--- "judged as before": document 01's kinds, 1 to 14, those of Ask 2, 15 to 17, those of Ask 4, 18 and 19, and that of Ask 9, 20. Sheets and words by
--- evaluation, with each of the two cases; sheets without the kinds of a request; what the promise alone says of a sheet; and answers that break it.
+-- "judged as before": document 01's kinds, 1 to 14, those of Ask 2, 15 to 17, those of Ask 4, 18 and 19, that of Ask 9, 20, and those of Ask 11, 21
+-- and 22. Sheets and words by evaluation, with each of the two cases; sheets without the kinds of a request; what the promise alone says of a sheet; and
+-- answers that break it.
 use mathlib.Core.Path.{_≡_, refl, sym, ap, _∙_}
 use mathlib.Core.Bool.{true, false}
 use mathlib.Core.Logic.{⊎-elim}
 use mathlib.Core.Option.{some}
 use mathlib.Core.List.{List, [], _∷_, map}
-use Prim.Native.Nat.{ℕ, _≤_}
+use Prim.Native.Nat.{ℕ, suc, _≤_}
 use native.Mathlib.Nat.{eq-or-lt-of-le, le-of-suc-le-suc}
 use native.Mathlib.Omega.{arith}
 use lib.ListN.{take}
 use Rattle.condition.specs.Condition.{Word}
 use Rattle.certificate.specs.Certificate.{Fault}
-use Rattle.sheet.specs.Model.{Model, large, entry, NoLarger, withKinds}
+use Rattle.sheet.specs.Model.{Model, large, entry, four, NoLarger, withKinds}
 use Rattle.sheet.specs.Record.{byteAt}
 use Rattle.sheet.specs.Reading.{Reading, ReadResult, whole, refusal, readSheet}
-use Rattle.sheet_laws.proofs.Outcomes.{Reached}
+use Rattle.sheet_laws.proofs.States.{Reached}
 use Rattle.sheet_laws.proofs.Before.{WithoutKindsAbove, fewer-kinds}
 use Rattle.verdict.specs.Verdict.{Report, accepted, refused, unproved, verdictOf}
 use Rattle.verdict.specs.WordTest.{Answer, tested, untested, wordTest}
@@ -46,7 +47,7 @@ failing clause = record { clause = clause; pair = 0; event = 0; place = 0 }
 
 abbrev sheets : List Both
 sheets =
-    -- "The sheet 0F now gives `refused 3 at 0`"; the first kind that is still unknown
+    -- "The sheet 0F now gives `refused 3 at 0`"; the first kind that the large instrument does not know
     both (0x0F ∷ []) (refused 2 (some 0)) (refused 3 (some 0))
     ∷ both (0x15 ∷ []) (refused 2 (some 0)) (refused 2 (some 0))
     -- a record of a kind of Ask 2 further on
@@ -81,6 +82,14 @@ at-owned-point : AsBefore replyOf 19 large (0x14 ∷ []) (verdictOf (withKinds 1
 unfolding verdictOf byteAt
 at-owned-point = of-new-kind {at = 0} (omega arith) (omega arith) refl
 
+at-long-leaf : AsBefore replyOf 20 four (0x15 ∷ []) (verdictOf (withKinds 20 four) (0x15 ∷ [])) (verdictOf four (0x15 ∷ []))
+unfolding verdictOf byteAt
+at-long-leaf = of-new-kind {at = 0} (omega arith) (omega arith) refl
+
+at-call-on-channel : AsBefore replyOf 20 four (0x16 ∷ []) (verdictOf (withKinds 20 four) (0x16 ∷ [])) (verdictOf four (0x16 ∷ []))
+unfolding verdictOf byteAt
+at-call-on-channel = of-new-kind {at = 0} (omega arith) (omega arith) refl
+
 M-before : verdictOf (former large) M ≡ accepted 6
 unfolding verdictOf
 M-before = refl
@@ -94,21 +103,23 @@ without-new-kinds = the-same-answer (M-before ∙ sym M-since)
 
 -- Sheets without the kinds of a request ---------------------------------------------------------------------------------------
 
+-- no record that reading comes to is of one of the two kinds above k, which are the last that an instrument takes
+neither : (k : ℕ) (I : Model) (s : List ℕ) → I .kinds ≡ suc (suc k)
+    → ((at : ℕ) (r : Reading) → Reached I s at r → (byteAt s at ≡ suc k → ⊥) × (byteAt s at ≡ suc (suc k) → ⊥)) → WithoutKindsAbove k I s
+neither k I s kinds none at r h above taken =
+    let (not-first, not-second) = none at r h in
+    let within : byteAt s at ≤ suc (suc k) = omega (arith, taken, kinds) in
+    ⊎-elim not-second (λ below. not-first (omega (arith, above, below))) (eq-or-lt-of-le within)
+
 -- "sheets without kinds 18 and 19 are judged as before": where no record that reading comes to is of one of these kinds, an instrument that takes the kinds
 -- up to 19 gives the verdict, and the answer of the word test, that it gave when it took those up to 17
 module _ (I : Model) (kinds : I .kinds ≡ 19) (s : List ℕ)
     (none : (at : ℕ) (r : Reading) → Reached I s at r → (byteAt s at ≡ 18 → ⊥) × (byteAt s at ≡ 19 → ⊥)) where
-  neither : WithoutKindsAbove 17 I s
-  neither at r h above taken =
-      let (not18, not19) = none at r h in
-      let within : byteAt s at ≤ 19 = omega (arith, taken, kinds) in
-      ⊎-elim not19 (λ below. not18 (omega (arith, above, below))) (eq-or-lt-of-le within)
-
   pub judged-without-18-and-19 : verdictOf (withKinds 17 I) s ≡ verdictOf I s
-  judged-without-18-and-19 = judged-the-same I s 17 (omega (arith, kinds)) neither
+  judged-without-18-and-19 = judged-the-same I s 17 (omega (arith, kinds)) (neither 17 I s kinds none)
 
   pub tested-without-18-and-19 : (c : ℕ) (w : Word) → wordTest (withKinds 17 I) s c w ≡ wordTest I s c w
-  tested-without-18-and-19 = tested-the-same I s 17 (omega (arith, kinds)) neither
+  tested-without-18-and-19 = tested-the-same I s 17 (omega (arith, kinds)) (neither 17 I s kinds none)
 
 -- and where none is of kind 20, one that takes the kinds up to 20 gives those that it gave when it took those up to 19
 module _ (I : Model) (kinds : I .kinds ≡ 20) (s : List ℕ) (none : (at : ℕ) (r : Reading) → Reached I s at r → byteAt s at ≡ 20 → ⊥) where
@@ -120,6 +131,15 @@ module _ (I : Model) (kinds : I .kinds ≡ 20) (s : List ℕ) (none : (at : ℕ)
 
   pub tested-without-20 : (c : ℕ) (w : Word) → wordTest (withKinds 19 I) s c w ≡ wordTest I s c w
   tested-without-20 = tested-the-same I s 19 (omega (arith, kinds)) not-20
+
+-- and where none is of kind 21 or 22, the four-channel instrument gives those of one that takes the kinds up to 20. Beside the large instrument, which has
+-- fewer events, too: proofs/Four
+module _ (s : List ℕ) (none : (at : ℕ) (r : Reading) → Reached four s at r → (byteAt s at ≡ 21 → ⊥) × (byteAt s at ≡ 22 → ⊥)) where
+  pub judged-without-21-and-22 : verdictOf (withKinds 20 four) s ≡ verdictOf four s
+  judged-without-21-and-22 = judged-the-same four s 20 (omega arith) (neither 20 four s refl none)
+
+  pub tested-without-21-and-22 : (c : ℕ) (w : Word) → wordTest (withKinds 20 four) s c w ≡ wordTest four s c w
+  tested-without-21-and-22 = tested-the-same four s 20 (omega arith) (neither 20 four s refl none)
 
 -- whatever keeps the promise gives a sheet without the kinds above k the verdict that it had
 pub keeps-without : {I : Model} {s : List ℕ} {answer : Report} → Loads I s answer → (k : ℕ) → k ≤ I .kinds → WithoutKindsAbove k I s
@@ -218,7 +238,7 @@ only-byte : (kind : ℕ) {at : ℕ} → replyOf (refused 2 (some 0)) ≡ 2 givin
 unfolding byteAt
 only-byte kind e = ap (byteAt (kind ∷ [])) (sym (same-value 0 e))
 
--- 2 at a record of document 01's last kind, and of a kind that is still unknown
+-- 2 at a record of document 01's last kind, and of a kind that the large instrument does not know
 at-former-kind : AsBefore replyOf 14 large (14 ∷ []) (refused 2 (some 0)) (accepted 6) → ⊥
 at-former-kind (of-new-kind above taken e) = omega (arith, above, only-byte 14 e)
 at-former-kind (the-same-answer e) = omega (arith, same-number (ap replyOf e))

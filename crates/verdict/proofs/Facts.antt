@@ -1,5 +1,6 @@
 -- The facts of the definitions hold.
 use Rattle.condition.proofs.Words.{nullable-holds, words}
+use Rattle.condition.proofs.Exchange.{exchange-holds, exchange-any, exchange-zeroth}
 use Rattle.sheet.specs.Model.{Model}
 use Rattle.sheet.specs.Decode.{sheetOf}
 use Rattle.sheet_laws.proofs.Standing.{conditions-in-postfix}
@@ -8,6 +9,7 @@ use Rattle.sheet_laws.proofs.First.{first-has-body}
 use Rattle.sheet_laws.proofs.Outcomes.{outcomes-fit}
 use Rattle.sheet_laws.proofs.Editions.{edition, stops-fit}
 use Rattle.sheet_laws.proofs.Owners.{owners-fit, no-owners, no-owner-refused}
+use Rattle.sheet_laws.proofs.Channels.{channels-fit, no-channels, no-channel-refused}
 use Rattle.runs.specs.Rules.{rules}
 use Rattle.runs.proofs.Count.{counted}
 use Rattle.runs.proofs.Moves.{made-by-trace}
@@ -22,14 +24,20 @@ facts M wide s bytes =
     record {
       words = words;
       empty-word = nullable-holds;
+      exchanged = exchange-holds;
+      any-stays = exchange-any;
+      channel-0 = exchange-zeroth;
       in-postfix = conditions-in-postfix M s;
       names-exist = names-exist M s;
       events-below = events-below M s;
       first-has-body = first-has-body M s;
       outcomes-fit = outcomes-fit M s;
       owners-fit = owners-fit M s;
+      channels-fit = channels-fit M s;
       edition = edition M s;
       stops-fit = stops-fit M s;
+      no-channels = no-channels M s;
+      no-channel-refused = no-channel-refused M s;
       no-owners = no-owners M s;
       no-owner-refused = no-owner-refused M s;
       old-edition = λ former r read. old-edition M s r read former;

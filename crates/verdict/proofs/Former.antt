@@ -52,7 +52,7 @@ module _ (x : Record) (former : x .kind < 15) where
 
   no-failed-target : failedCallCount (stepOf x) ≡ 0
   no-failed-target =
-      step-cases (λ (t : Step). failedCallCount t ≡ 0) x refl (λ e. refl) (λ e. absurd (omega (arith, former, eqb-true (x .kind) 17 e))) (λ e. refl) refl
+      step-cases (λ (t : Step). failedCallCount t ≡ 0) x refl (λ e. refl) (λ e. absurd (omega (arith, former, eqb-true (x .kind) 17 e))) (λ e. refl) (λ e. refl) refl
 
 module _ (M : Model) (s : List ℕ) (r : Reading) (read : readSheet M s ≡ whole r) (former : M .kinds < 15) where
   known : (k : ℕ) → Each (λ (c : Counted). c .last .kind < 15) (r .own k)

@@ -16,3 +16,4 @@ mod Former
 mod Unqualified
 mod Used
 mod Entry
+mod Four

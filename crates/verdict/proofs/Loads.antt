@@ -10,17 +10,17 @@ use lib.Dec.{T, eqb, eqb→eq, eqb-refl}
 use borrow.Author.Tests.{eqb-false, ne-eqb}
 use Rattle.bits.proofs.Tests.{T-true}
 use Rattle.certificate.specs.Certificate.{Fault}
-use Rattle.sheet.specs.Model.{Model}
+use Rattle.sheet.specs.Model.{Model, setEvents}
 use Rattle.sheet.specs.Sheet.{Sheet, body}
 use Rattle.sheet.specs.Record.{Bytes}
 use Rattle.sheet.specs.Reading.{Reading, ReadResult, whole, refusal, readSheet}
 use Rattle.sheet.specs.Decode.{sheetOf}
-use Rattle.sheet_laws.specs.Names.{HasBody}
+use Rattle.sheet_laws.specs.Names.{HasBody, ChannelsFit}
 use Rattle.sheet_laws.proofs.SheetOf.{sheet-is}
-use Rattle.sheet_laws.proofs.Named.{names-exist, events-below}
+use Rattle.sheet_laws.proofs.Named.{names-exist}
+use Rattle.sheet_laws.proofs.Channels.{channels-fit}
 use Rattle.sheet_laws.proofs.First.{first-has-body}
 use Rattle.sheet_laws.proofs.Owners.{owners-fit}
-use Rattle.sheet_laws.proofs.Narrow.{conditions-below}
 use Rattle.runs.specs.Rules.{rules, rulesFrom, AllMet, count}
 use Rattle.runs.specs.Runs.{Move, run, Safe}
 use Rattle.runs.specs.Owing.{Owing, OwingWhenOpen}
@@ -34,7 +34,7 @@ use Rattle.verdict.specs.Reply.{replyOf}
 use Rattle.verdict.specs.Promise.{WellFormed, EachCertified, Passes, FirstFault, RefusedFor, while-reading, wrong-count, AnswerForm, with-count, with-place, with-fault, Loads, LoadsAsPromised}
 use Rattle.verdict.proofs.Reply.{IsAccepted, IsUnproved, reply-refused, reply-unproved}
 use Rattle.verdict.proofs.Judged.{Tried, all-pass, one-fails, tried, pass-all, fault-found}
-use Rattle.verdict.proofs.RulesMet.{all-met, all-pass as exact-pass, rules-below}
+use Rattle.verdict.proofs.RulesMet.{all-met, all-pass as exact-pass, all-below}
 use Rattle.verdict.proofs.Models.{on-larger, judged-as-before}
 
 -- Reports told apart ----------------------------------------------------------------------------------------------------
@@ -192,22 +192,26 @@ module _ (M : Model) (s : List ℕ) where
   pub accepted-has-body : (n : ℕ) → verdictOf M s ≡ accepted n → HasBody (body (sheetOf M s) 0)
   accepted-has-body n h = let (w, p, e) = accepted-out n h in first-has-body M s (w .reading) (w .read)
 
-  module _ (wide : 32 ≤ M .events) (bytes : Bytes s) where
+  -- what 26 leaves
+  pub accepted-fits : (n : ℕ) → verdictOf M s ≡ accepted n → ChannelsFit (sheetOf M s)
+  accepted-fits n h = let (w, p, e) = accepted-out n h in channels-fit M s (w .reading) (w .read)
+
+  module _ (wide : setEvents M ≤ M .events) (bytes : Bytes s) where
     -- the rules of an accepted sheet are true
     pub accepted-met : (n : ℕ) → verdictOf M s ≡ accepted n → AllMet (rulesFrom (0 ∷ []) (sheetOf M s))
     unfolding rules
     accepted-met n h =
         let (w, p, e) = accepted-out n h in
-        all-met (M .events) p (rules-below (M .events) (sheetOf M s) (conditions-below M s wide bytes) (0 ∷ []) (events-below M s (w .reading) (w .read)))
+        all-met (M .events) p (all-below M s wide bytes (w .reading) (w .read) (0 ∷ []))
 
     -- after every list of moves, whichever it is, a run of an accepted sheet is safe
     pub accepted-safe : (n : ℕ) → verdictOf M s ≡ accepted n → (ms : List Move) → Safe (sheetOf M s) (run (sheetOf M s) 0 ms)
     unfolding rules
-    accepted-safe n h ms = runs-are-safe (sheetOf M s) (0 ∷ []) (accepted-met n h) 0 (List·Memᴰ·head refl) (accepted-has-body n h) ms
+    accepted-safe n h ms = runs-are-safe (sheetOf M s) (accepted-fits n h) (0 ∷ []) (accepted-met n h) 0 (List·Memᴰ·head refl) (accepted-has-body n h) ms
 
     -- and meets what it owes
     pub accepted-owing : (n : ℕ) → verdictOf M s ≡ accepted n → (ms : List Move) → Owing (sheetOf M s) (run (sheetOf M s) 0 ms)
-    accepted-owing n h ms = runs-owe (sheetOf M s) (0 ∷ []) (accepted-met n h) 0 (List·Memᴰ·head refl) (accepted-has-body n h) ms
+    accepted-owing n h ms = runs-owe (sheetOf M s) (accepted-fits n h) (0 ∷ []) (accepted-met n h) 0 (List·Memᴰ·head refl) (accepted-has-body n h) ms
 
     -- what the loader promises is true of the definition's answer
     pub loads : Loads M s (verdictOf M s)
@@ -226,7 +230,7 @@ module _ (M : Model) (s : List ℕ) where
           told-apart = told-apart (sheetOf M s) 0;
           owned = λ r read all. point-belongs (sheetOf M s) (names-exist M s r read) all (owners-fit M s r read) 0 (first-has-body M s r read);
           complete = λ w h c. accepted-in w (exact-pass (M .events) c h);
-          on-larger = λ M′ N. on-larger M M′ N s;
+          on-larger = λ M′ N. on-larger M M′ N s bytes;
           as-before = judged-as-before M s;
         }
 

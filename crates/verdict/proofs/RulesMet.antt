@@ -1,22 +1,35 @@
--- A rule that passes its test is true, and a true rule with an exact certificate passes.
+-- A rule that passes its test is true, and a true rule with an exact certificate passes. The left sides of the rules of a sheet that is read whole have
+-- only events of the instrument.
+use mathlib.Core.Path.{_≡_, refl, sym, subst}
 use mathlib.Core.Bool.{Bool, true, false, cond}
 use mathlib.Core.Option.{Option, none, some}
 use mathlib.Core.List.{List, [], _∷_}
-use Prim.Native.Nat.{ℕ, suc}
+use Prim.Native.Nat.{ℕ, suc, _*_, _≤_, _<_}
+use native.Mathlib.Omega.{arith}
 use lib.Pow.{pow-pos, pow-lt}
 use lib.ListN.{getElem?}
+use lib.Dec.{ltb}
+use borrow.Author.Tests.{ltb-true, ltb-false}
 use Rattle.condition.specs.Condition.{Condition, join, event}
 use Rattle.condition.specs.Places.{nullable}
 use Rattle.condition.proofs.Words.{nullable-holds}
 use Rattle.condition.proofs.Narrow.{EventsBelow}
+use Rattle.condition.proofs.Exchange.{exchange-below}
 use Rattle.certificate.specs.Certificate.{Certificate, fault}
 use Rattle.certificate.proofs.Findings.{fine-is, is-fine, unless-out, unless-in}
 use Rattle.certificate.proofs.Sound.{sound}
 use Rattle.certificate.proofs.Complete.{complete}
+use Rattle.sheet.specs.Model.{Model, setEvents}
 use Rattle.sheet.specs.Each.{Each, nil, cons}
-use Rattle.sheet.specs.Sheet.{Outcome, normal, failed, Point, Declared, Body, Method, CallStep, Step, event-step, call-step, pass-step, stop-step, Sheet, condition, conditionNamed, past, own, due, declaredIn, pre, trace, future}
-use Rattle.sheet.proofs.Each.{each-head, each-tail, each-append}
-use Rattle.sheet_laws.specs.Names.{EventBelow}
+use Rattle.sheet.specs.Sheet.{Outcome, normal, failed, Point, Declared, Body, Method, CallStep, Step, event-step, call-step, pass-step, stop-step, Sheet, condition, conditionNamed, past, own, due, declaredIn, pre, trace, future, onChannel}
+use Rattle.sheet.specs.Record.{Bytes}
+use Rattle.sheet.specs.Reading.{Reading, whole, readSheet}
+use Rattle.sheet.specs.Decode.{sheetOf}
+use Rattle.sheet.proofs.Each.{each-head, each-tail, each-append, each-zip}
+use Rattle.sheet_laws.specs.Names.{EventBelow, ChannelFits, StepOnChannel, NoChannel}
+use Rattle.sheet_laws.proofs.Narrow.{conditions-below}
+use Rattle.sheet_laws.proofs.Named.{events-below}
+use Rattle.sheet_laws.proofs.Channels.{channels-fit, no-channels}
 use Rattle.runs.specs.Rules.{Claim, _isIn_, holdsEmpty, Met, Rule, _of_says_, isAmong, ifAny, exitRules, failedExitRules, methodRules, returnRules, entryAsked, entryRules, stepRules, firstsRules, methodsRules, stepsRules, rulesFrom, AllMet}
 use Rattle.verdict.specs.Promise.{EachCertified, done, bare, certified, Passes, ExactFor}
 
@@ -48,6 +61,22 @@ all-pass n (bare {a = a} p t) h = bare (met-passes n (holdsEmpty a) [] (each-hea
 all-pass n (certified {a = a} {b = b} {c = c} p t) h = certified (met-passes n (a isIn b) c (each-head h) p) (all-pass n t (each-tail h))
 
 -- The left sides of a sheet's rules -------------------------------------------------------------------------------------
+
+-- the events of a channel are below n, and what is read on it has then no others
+abbrev ChannelBelow : ℕ → Option ℕ → Type 0
+ChannelBelow n none = Unit {0}
+ChannelBelow n (some c) = 16 * suc c ≤ n
+
+read-below : (n : ℕ) (channel : Option ℕ) → ChannelBelow n channel → (r : Condition) → EventsBelow n r → EventsBelow n (onChannel channel r)
+read-below n none l r h = h
+read-below n (some c) l r h = exchange-below c n l r h
+
+-- the event of a step and the events of its channel are below n
+abbrev StepBelow : ℕ → Step → Type 0
+StepBelow n (event-step p q a) = a < n
+StepBelow n (call-step t) = ChannelBelow n (t .channel)
+StepBelow n (pass-step p q) = Unit {0}
+StepBelow n (stop-step p) = Unit {0}
 
 module _ (n : ℕ) (S : Sheet) (below : (c : ℕ) → EventsBelow n (condition S c)) where
   abbrev Below : List Rule → Type 0
@@ -99,25 +128,25 @@ module _ (n : ℕ) (S : Sheet) (below : (c : ℕ) → EventsBelow n (condition S
       cons (pre-below m) (cons tt
       (each-append (exit-below 5 m normal (b .exit)) (if-any (b .failed-exit) (failedExitRules S starts m) (failed-exit-below starts m))))
 
-  return-below : (n i : ℕ) (t : CallStep) (o : Outcome) (q : ℕ) → Below (returnRules S n i t o q)
-  return-below n i t o q =
-      let T = trace S (t .method) o in
-      let small = trace-below (t .method) o in
+  return-below : (k i : ℕ) (t : CallStep) → ChannelBelow n (t .channel) → (o : Outcome) (q : ℕ) → Below (returnRules S k i t o q)
+  return-below k i t h o q =
+      let T = onChannel (t .channel) (trace S (t .method) o) in
+      let small = read-below n (t .channel) h (trace S (t .method) o) (trace-below (t .method) o) in
       cons (joined (past S (t .from)) T (past-below (t .from)) small)
       (cons (joined (own S (t .from)) T (own-below (t .from)) small)
       (cons (due-below q)
       (cons (joined T (due S q) small (due-below q)) nil)))
 
-  step-below : (k : ℕ) (t : Step) → EventBelow n t → Below (stepRules S k t)
+  step-below : (k : ℕ) (t : Step) → StepBelow n t → Below (stepRules S k t)
   step-below k (event-step p q a) h =
       cons (joined (past S p) (event a) (past-below p) (pow-lt h))
       (cons (joined (own S p) (event a) (own-below p) (pow-lt h))
       (cons (joined (event a) (due S q) (pow-lt h) (due-below q)) nil))
   step-below k (call-step t) h =
       cons (past-below (t .from))
-      (each-append (return-below 11 k t normal (t .to))
+      (each-append (return-below 11 k t h normal (t .to))
       (each-append
-      (if-any (t .failed-to) (returnRules S 18 k t failed) (return-below 18 k t failed))
+      (if-any (t .failed-to) (returnRules S 18 k t failed) (return-below 18 k t h failed))
       (if-any (entryAsked S (t .method)) (entryRules S k t) (λ e. cons (due-below e) nil))))
   step-below k (pass-step p q) h = cons (past-below p) (cons (own-below p) (cons (due-below q) nil))
   -- 25 is about the empty word
@@ -133,11 +162,50 @@ module _ (n : ℕ) (S : Sheet) (below : (c : ℕ) → EventsBelow n (condition S
   methods-below starts k [] = nil
   methods-below starts k (m ∷ ms) = each-append (method-below starts k (m .body)) (methods-below starts (suc k) ms)
 
-  steps-below : (k : ℕ) {ts : List Step} → Each (EventBelow n) ts → Below (stepsRules S k ts)
+  steps-below : (k : ℕ) {ts : List Step} → Each (StepBelow n) ts → Below (stepsRules S k ts)
   unfolding stepsRules
   steps-below k nil = nil
   steps-below k (cons {x = t} h r) = each-append (step-below k t h) (steps-below (suc k) r)
 
-  pub rules-below : (starts : List ℕ) → Each (EventBelow n) (S .steps) → Below (rulesFrom starts S)
+  pub rules-below : (starts : List ℕ) → Each (StepBelow n) (S .steps) → Below (rulesFrom starts S)
   unfolding rulesFrom
   rules-below starts h = each-append (firsts-below starts) (each-append (methods-below starts 0 (S .methods)) (steps-below 0 h))
+
+-- Of a sheet that is read whole -------------------------------------------------------------------------------------------
+
+module _ (M : Model) (s : List ℕ) (wide : setEvents M ≤ M .events) (bytes : Bytes s) (r : Reading) (read : readSheet M s ≡ whole r) where
+  abbrev n : ℕ
+  n = M .events
+
+  -- without kind 22 no call is on a channel
+  no-channel-below : (t : Step) → EventBelow n t → NoChannel t → StepBelow n t
+  no-channel-below (event-step p q a) h e = h
+  no-channel-below (call-step t) h e = rw e tt
+  no-channel-below (pass-step p q) h e = tt
+  no-channel-below (stop-step p) h e = tt
+
+  -- with it there are the events of the four channels
+  channel-below : 64 ≤ n → (m : ℕ) (channel : Option ℕ) → ChannelFits (sheetOf M s) m channel → ChannelBelow n channel
+  channel-below all m none f = tt
+  channel-below all m (some c) (plain, one, last) = omega arith
+
+  fitting-below : 64 ≤ n → (t : Step) → EventBelow n t → StepOnChannel (sheetOf M s) t → StepBelow n t
+  fitting-below all (event-step p q a) h f = h
+  fitting-below all (call-step t) h f = channel-below all (t .method) (t .channel) f
+  fitting-below all (pass-step p q) h f = tt
+  fitting-below all (stop-step p) h f = tt
+
+  each-below : Each (StepBelow n) (sheetOf M s .steps)
+  each-below = go (ltb (M .kinds) 22) refl
+    where
+      -- where kind 22 is taken, so is 21
+      many : ltb (M .kinds) 22 ≡ false → (b : Bool) → ltb (M .kinds) 21 ≡ b → cond b 32 64 ≤ n → 64 ≤ n
+      many e true f l = absurd (omega (arith, ltb-false (M .kinds) 22 e, ltb-true (M .kinds) 21 f))
+      many e false f l = l
+
+      go : (b : Bool) → ltb (M .kinds) 22 ≡ b → Each (StepBelow n) (sheetOf M s .steps)
+      go true e = each-zip no-channel-below (events-below M s r read) (no-channels M s (ltb-true (M .kinds) 22 e) r read)
+      go false e = each-zip (fitting-below (many e (ltb (M .kinds) 21) refl wide)) (events-below M s r read) (channels-fit M s r read)
+
+  pub all-below : (starts : List ℕ) → Each (λ x. LeftBelow n (x .claim)) (rulesFrom starts (sheetOf M s))
+  all-below starts = rules-below n (sheetOf M s) (conditions-below M s wide bytes) starts each-below

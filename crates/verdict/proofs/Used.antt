@@ -1,20 +1,21 @@
 -- The facts of the definitions, used: what each of them alone says of document 01's sheet M, or of every sheet.
-use mathlib.Core.Path.{_≡_, refl, subst}
+use mathlib.Core.Path.{_≡_, refl, sym, subst}
 use mathlib.Core.Bool.{true, false}
 use mathlib.Core.Option.{none, some}
 use mathlib.Core.List.{List, [], _∷_, List·Memᴰ}
 use Prim.Native.Nat.{ℕ, _≤_, _<_}
 use native.Mathlib.Omega.{arith}
 use lib.ListN.{length, getElem?}
-use Rattle.condition.specs.Condition.{Word, empty, event, Holds}
+use Rattle.condition.specs.Condition.{Condition, Word, empty, event, Holds, any}
+use Rattle.condition.specs.Exchange.{swapChannel, swap, exchange}
 use Rattle.condition.specs.Places.{nullable, accepts}
 use Rattle.certificate.specs.Certificate.{Certificate, Exact}
-use Rattle.sheet.specs.Model.{Model, large, withKinds}
-use Rattle.sheet.specs.Sheet.{Outcome, failed, Point, Body, Method, CallStep, Step, event-step, call-step, stop-step, isSome, owner, declaredIn, body, trace, targetFor}
+use Rattle.sheet.specs.Model.{Model, large, four, withKinds}
+use Rattle.sheet.specs.Sheet.{Outcome, failed, Point, Body, Method, CallStep, Step, event-step, call-step, stop-step, isSome, owner, declaredIn, onChannel, body, trace, targetFor}
 use Rattle.sheet.specs.Each.{Each}
 use Rattle.sheet.specs.Record.{byteAt}
 use Rattle.sheet.specs.Reading.{Reading, whole, refusal, readSheet}
-use Rattle.sheet_laws.specs.Names.{NamedIfAny, HasBody, ExitsFit, TargetsFit, EventBelow, StopFits, SameIfAny, BodyOwned, StepOwned}
+use Rattle.sheet_laws.specs.Names.{NamedIfAny, HasBody, ExitsFit, TargetsFit, EventBelow, StopFits, SameIfAny, BodyOwned, StepOwned, ChannelFits, StepOnChannel, NoChannel}
 use Rattle.sheet.specs.Decode.{sheetOf}
 use Rattle.sheet_laws.specs.AtOffset.{empty-symbol, symbolsAt, postfix}
 use Rattle.sheet.proofs.Each.{each-head, each-member}
@@ -49,6 +50,28 @@ module _ (f : Facts large M) where
   event-not-empty : Holds (event 0) [] → ⊥
   unfolding nullable
   event-not-empty h = f .empty-word (event 0) .1 h
+
+  -- on channel 1 the event 0 is read as 16, and 0 is not
+  exchanged-holds : Holds (exchange 1 (event 0)) (16 ∷ [])
+  unfolding accepts swapChannel swap
+  exchanged-holds = f .exchanged 1 (event 0) (16 ∷ []) .1 (f .words (event 0) (0 ∷ []) .0 tt)
+
+  exchanged-lacks : Holds (exchange 1 (event 0)) (0 ∷ []) → ⊥
+  unfolding accepts swapChannel swap
+  exchanged-lacks h = f .words (event 0) (16 ∷ []) .1 (f .exchanged 1 (event 0) (0 ∷ []) .0 h)
+
+  -- "any" of the four-channel instrument remains "any" on its last channel; that of the large one does not on channel 2, which it lacks
+  any-of-four : exchange 3 (any (four .events)) ≡ any (four .events)
+  any-of-four = f .any-stays 3 (four .events) (omega arith)
+
+  any-of-large : exchange 2 (any 32) ≡ any 32 → ⊥
+  unfolding accepts swapChannel swap
+  any-of-large e =
+      let held : Holds (exchange 2 (any 32)) (0 ∷ []) = subst (λ (r : Condition). Holds r (0 ∷ [])) (sym e) (f .words (any 32) (0 ∷ []) .0 tt) in
+      f .words (any 32) (32 ∷ []) .1 (f .exchanged 2 (any 32) (0 ∷ []) .0 held)
+
+  as-on-channel-0 : exchange 0 (event 16) ≡ event 16
+  as-on-channel-0 = f .channel-0 (event 16)
 
   its-records : symbolsAt M 0 ≡ empty-symbol ∷ []
   unfolding sheetOf postfix
@@ -121,6 +144,29 @@ owners-are-methods : (I : Model) (s : List ℕ) → Facts I s → (r : Reading) 
 owners-are-methods I s f r read x i =
     each-member (λ (x : Point). NamedIfAny (length (sheetOf I s .methods)) (x .owner)) (f .names-exist r read .owners-named) i
 
+-- in such a sheet a call on a channel is one of a primitive of one outcome, and its channel one of 0 to 3
+module _ (I : Model) (s : List ℕ) (f : Facts I s) (r : Reading) (read : readSheet I s ≡ whole r) (t : CallStep)
+    (i : List·Memᴰ (call-step t) (sheetOf I s .steps)) (c : ℕ) (on : t .channel ≡ some c) where
+  its-fit : ChannelFits (sheetOf I s) (t .method) (some c)
+  its-fit = subst (ChannelFits (sheetOf I s) (t .method)) on (each-member (StepOnChannel (sheetOf I s)) (f .channels-fit r read) i)
+
+  its-primitive : body (sheetOf I s) (t .method) ≡ none
+  its-primitive = its-fit .0
+
+  its-outcome : declaredIn failed (getElem? (sheetOf I s .methods) (t .method)) ≡ none
+  its-outcome = its-fit .1
+
+  its-channel : c ≤ 3
+  its-channel = its-fit .2
+
+-- where no kind above 21 is taken no call is on a channel, and 26 is not given
+module _ (I : Model) (s : List ℕ) (f : Facts I s) (former : I .kinds < 22) where
+  its-former-calls : (r : Reading) → readSheet I s ≡ whole r → (t : CallStep) → List·Memᴰ (call-step t) (sheetOf I s .steps) → t .channel ≡ none
+  its-former-calls r read t i = each-member NoChannel (f .no-channels former r read) i
+
+  never-26 : (at : ℕ) (r : Reading) → readSheet I s ≡ refusal 26 at r → ⊥
+  never-26 at r read = f .no-channel-refused former 26 at r read refl
+
 -- where no kind above 19 is taken no point has an owner, and neither 24 nor 25 is given
 module _ (I : Model) (s : List ℕ) (f : Facts I s) (former : I .kinds < 20) where
   its-former-points : (r : Reading) → readSheet I s ≡ whole r → (x : Point) → List·Memᴰ x (sheetOf I s .points) → x .owner ≡ none
@@ -155,8 +201,8 @@ module _ (I : Model) (s : List ℕ) (f : Facts I s) (former : I .kinds < 18) (r 
 module _ (I : Model) (s : List ℕ) (f : Facts I s) (u : State) (i : ℕ) (t : CallStep) (o : Outcome) (q : ℕ) (w : Word) (going : u .ended ≡ false)
     (found : getElem? (sheetOf I s .steps) i ≡ some (call-step t)) (at : u .point ≡ t .from) (primitive : body (sheetOf I s) (t .method) ≡ none)
     (to : targetFor o t ≡ some q) where
-  of-trace : Holds (trace (sheetOf I s) (t .method) o) w → move (sheetOf I s) u (by-step i o w) ≡ returnedNow (newCall u i t) o (raise w q u)
+  of-trace : Holds (onChannel (t .channel) (trace (sheetOf I s) (t .method) o)) w → move (sheetOf I s) u (by-step i o w) ≡ returnedNow (newCall u i t) o (raise w q u)
   of-trace h = f .made-by-trace u i t o q w going found at primitive to .made h
 
-  not-of-trace : (Holds (trace (sheetOf I s) (t .method) o) w → ⊥) → move (sheetOf I s) u (by-step i o w) ≡ u
+  not-of-trace : (Holds (onChannel (t .channel) (trace (sheetOf I s) (t .method) o)) w → ⊥) → move (sheetOf I s) u (by-step i o w) ≡ u
   not-of-trace n = f .made-by-trace u i t o q w going found at primitive to .not-made n

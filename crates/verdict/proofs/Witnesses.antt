@@ -48,7 +48,7 @@ pub record Premises (I : Model) (s : List ℕ) : Type 0 where
   pub exact : EachCertified (ExactFor (I .events)) (rules (sheetOf I s)) (sheetOf I s .certificates)
 
 -- a condition without leaves has place 0 alone
-only-start : (a b : Condition) → leaves a ≡ 0 → {p : Pair} → Reachable 32 a b p → p ≡ pair 0 1
+only-start : {n : ℕ} (a b : Condition) → leaves a ≡ 0 → {p : Pair} → Reachable n a b p → p ≡ pair 0 1
 only-start a b no-leaf start = refl
 only-start a b no-leaf (onward {l} e q r h n t) = let (above, below) = follows-leaf a l q n in absurd (omega (arith, above, below, no-leaf))
 
@@ -56,33 +56,33 @@ pub in-itself : empty ⊆ empty
 in-itself w h = h
 
 -- so the start alone is exact for it
-pub start-is-exact : (a b : Condition) → leaves a ≡ 0 → Exact 32 a b (pair 0 1 ∷ [])
-start-is-exact a b no-leaf =
+pub start-is-exact : {n : ℕ} (a b : Condition) → leaves a ≡ 0 → Exact n a b (pair 0 1 ∷ [])
+start-is-exact {n} a b no-leaf =
     record {
       start-first = tt;
       only-reachable = reached;
       all-reachable = λ p r. (0, omega arith, sym (only-start a b no-leaf r));
     }
   where
-    reached : (i : ℕ) → i < 1 → Reachable 32 a b (pairOf (pair 0 1 ∷ []) i)
+    reached : (i : ℕ) → i < 1 → Reachable n a b (pairOf (pair 0 1 ∷ []) i)
     reached zero l = start
     reached (suc i) l = absurd (omega arith)
 
-pub empty-is-exact : Exact 32 empty empty (pair 0 1 ∷ [])
+pub empty-is-exact : {n : ℕ} → Exact n empty empty (pair 0 1 ∷ [])
 unfolding leaves
 empty-is-exact = start-is-exact empty empty refl
 
 -- a certificate that repeats a pair is exact too
-pub twice-is-exact : Exact 32 empty empty (pair 0 1 ∷ pair 0 1 ∷ [])
+pub twice-is-exact : {n : ℕ} → Exact n empty empty (pair 0 1 ∷ pair 0 1 ∷ [])
 unfolding leaves
-twice-is-exact =
+twice-is-exact {n} =
     record {
       start-first = tt;
       only-reachable = reached;
       all-reachable = λ p r. (0, omega arith, sym (only-start empty empty refl r));
     }
   where
-    reached : (i : ℕ) → i < 2 → Reachable 32 empty empty (pairOf (pair 0 1 ∷ pair 0 1 ∷ []) i)
+    reached : (i : ℕ) → i < 2 → Reachable n empty empty (pairOf (pair 0 1 ∷ pair 0 1 ∷ []) i)
     reached zero l = start
     reached (suc zero) l = start
     reached (suc (suc i)) l = absurd (omega arith)

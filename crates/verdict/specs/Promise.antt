@@ -1,7 +1,7 @@
 -- What is promised of the loader's and of the word test's answers: the three demands and what document 02's requests add, as one record each over
 -- the bytes and the answer. Of an answer's number and values it speaks by specs/Reply. That a function "reads nothing outside the sheet and writes
 -- nothing into it" is in its type, which lends it the sheet to be read.
-use Prim.Native.Nat.{ℕ, _≤_, _<_}
+use Prim.Native.Nat.{ℕ, _+_, _≤_, _<_}
 use mathlib.Core.Path.{_≡_}
 use mathlib.Core.Bool.{Bool}
 use mathlib.Core.Logic.{_↔_}
@@ -11,7 +11,7 @@ use lib.ListN.{length, getD}
 use lib.Dec.{T}
 use Rattle.condition.specs.Condition.{Condition, Word, Holds}
 use Rattle.certificate.specs.Certificate.{Certificate, Fault, fine, found, Exact}
-use Rattle.sheet.specs.Model.{Model, NoLarger, withKinds, wordLimit}
+use Rattle.sheet.specs.Model.{Model, setEvents, NoLarger, withKinds, wordLimit}
 use Rattle.sheet.specs.Each.{Each}
 use Rattle.sheet.specs.Record.{Bytes, byteAt}
 use Rattle.sheet.specs.Sheet.{condition}
@@ -30,7 +30,7 @@ use Rattle.verdict.specs.Reply.{Reply, _giving_, placeValue, faultValues
 -- "A sheet is well formed if none of 1 to 10 applies to it, nor a later refusal met while reading"
 pub record WellFormed (M : Model) (s : List ℕ) : Type 0 where
   pub reading : Reading
-  -- none of 1 to 9, nor 18 to 20, 24 and 25
+  -- none of 1 to 9, nor 18 to 20, nor 24 to 26
   pub read : readSheet M s ≡ whole reading
   -- nor 10
   pub enough : length (sheetOf M s .certificates) ≡ certificatesNeeded (rules (sheetOf M s))
@@ -65,10 +65,10 @@ pub record FirstFault (events : ℕ) (xs : List Rule) (cs : List Certificate) (r
   pub before-pass : EachCertified (Passes events) before used
   pub fails : testOf events failing (nextOf unused) ≡ found f
 
--- one of the refusals 1 to 10, 18 to 20, 24 and 25 applies, and the first of them has this number and place; what they are but 10 is said by
+-- one of the refusals 1 to 10, 18 to 20 and 24 to 26 applies, and the first of them has this number and place; what they are but 10 is said by
 -- sheet/specs/Reading
 pub data RefusedFor (M : Model) (s : List ℕ) : ℕ → ℕ → Type 0 where
-  -- 1 to 9, 18 to 20, 24 and 25: reading ends with it
+  -- 1 to 9, 18 to 20 and 24 to 26: reading ends with it
   while-reading : {n at : ℕ} {r : Reading} → readSheet M s ≡ refusal n at r → RefusedFor M s n at
   -- 10, "length": "certificates are more or fewer than the rules need"
   wrong-count : {r : Reading} → readSheet M s ≡ whole r
@@ -77,8 +77,8 @@ pub data RefusedFor (M : Model) (s : List ℕ) : ℕ → ℕ → Type 0 where
 -- Of two instruments ----------------------------------------------------------------------------------------------------
 
 -- What an instrument M answers to the bytes s, a, beside the answer b of an instrument M′ that is no smaller: 1 with its own limit for the place, where
--- it takes fewer bytes; 6, where it takes fewer points; 2, where it does not take the record's kind and the other does; or the same answer with all its
--- values. `reply` gives document 01's number and values of an answer.
+-- it takes fewer bytes; 6, where it takes fewer points; 2, where it does not take the record's kind and the other does; 7 at an event step, where it
+-- has fewer events; or the same answer with all its values. `reply` gives document 01's number and values of an answer.
 pub data LikeLarger {A : Type 0} (reply : A → Reply) (M M′ : Model) (s : List ℕ) (a b : A) : Type 0 where
   -- "Refusal 1 then gives place 8,192": the limit, not the sheet's length
   too-long : M .bytes < M′ .bytes → reply a ≡ 1 giving (M .bytes ∷ []) → LikeLarger reply M M′ s a b
@@ -86,8 +86,17 @@ pub data LikeLarger {A : Type 0} (reply : A → Reply) (M M′ : Model) (s : Lis
   over-limit : {at : ℕ} → M .points < M′ .points → reply a ≡ 6 giving (at ∷ []) → LikeLarger reply M M′ s a b
   -- a record of a kind that only the larger one takes
   unknown-kind : {at : ℕ} → M .kinds < byteAt s at → byteAt s at ≤ M′ .kinds → reply a ≡ 2 giving (at ∷ []) → LikeLarger reply M M′ s a b
+  -- an event step, whose event only the larger one has
+  step-above : {at : ℕ} → byteAt s at ≡ 10 → M .events ≤ byteAt s (at + 5) → byteAt s (at + 5) < M′ .events → reply a ≡ 7 giving (at ∷ [])
+      → LikeLarger reply M M′ s a b
   -- "accepted by the large one with an equal count", and so every other answer
   the-same : a ≡ b → LikeLarger reply M M′ s a b
+
+-- The same of the word test's answers on the word w: there is 13, too, where the instrument has fewer events
+pub data TestsLikeLarger (M M′ : Model) (s : List ℕ) (w : Word) (a b : Answer) : Type 0 where
+  as-loaded : LikeLarger answerReply M M′ s a b → TestsLikeLarger M M′ s w a b
+  -- a word with an event that only the larger one has
+  word-above : {i : ℕ} → M .events ≤ getD w i 0 → getD w i 0 < M′ .events → answerReply a ≡ 13 giving (i ∷ []) → TestsLikeLarger M M′ s w a b
 
 -- Request 8, of the loader
 pub record OnLarger (M M′ : Model) (s : List ℕ) (a b : Report) : Type 0 where
@@ -95,15 +104,15 @@ pub record OnLarger (M M′ : Model) (s : List ℕ) (a b : Report) : Type 0 wher
   -- "A sheet that the small one accepts is accepted by the large one with an equal count"
   pub accepted-too : (n : ℕ) → a ≡ accepted n → b ≡ accepted n
   -- "a refusal there of a lone sheet by the loader, not 1 or 6, is the large one's too": its number and its values, 11 included; 2 where both take the
-  -- same kinds
+  -- same kinds, and 7 where both have as many events
   pub refused-too : (n : ℕ) (values : List ℕ) → replyOf a ≡ n giving values → (n ≡ 1 → ⊥) → (n ≡ 6 → ⊥) → (n ≡ 2 → M .kinds ≡ M′ .kinds)
-      → replyOf b ≡ n giving values
+      → (n ≡ 7 → M .events ≡ M′ .events) → replyOf b ≡ n giving values
 
 -- "State it over both limits as parameters": of any two instruments, whatever their limits, and all bytes; of the word test too (proofs/Models)
 abbrev pub ModelsAgree : Type 0
 ModelsAgree =
-    (M M′ : Model) → NoLarger M M′ → (s : List ℕ)
-    → OnLarger M M′ s (verdictOf M s) (verdictOf M′ s) × ((c : ℕ) (w : Word) → LikeLarger answerReply M M′ s (wordTest M s c w) (wordTest M′ s c w))
+    (M M′ : Model) → NoLarger M M′ → (s : List ℕ) → Bytes s
+    → OnLarger M M′ s (verdictOf M s) (verdictOf M′ s) × ((c : ℕ) (w : Word) → TestsLikeLarger M M′ s w (wordTest M s c w) (wordTest M′ s c w))
 
 -- "judged as before" (Ask 4, and so of each request that brings kinds): before, when an instrument M took the kinds up to k only, its answer was 2 at a
 -- record of a kind above k, or it was the present answer. A sheet without such kinds has no such record.
@@ -119,7 +128,7 @@ pub data AnswerForm : Report → Type 0 where
   with-place : (n at : ℕ) → AnswerForm (refused n (some at))
   with-fault : (r k : ℕ) (f : Fault) → AnswerForm (unproved r k f)
 
--- What the loader promises of its answer to the bytes s, for every s, on an instrument that has at least the 32 events of a leaf's four-byte set
+-- What the loader promises of its answer to the bytes s, for every s, on an instrument that has at least the events that a leaf's set can hold
 -- (`LoadsAsPromised` below). With fewer events clause 4 would leave some events of a leaf untested.
 pub record Loads (M : Model) (s : List ℕ) (answer : Report) : Type 0 where
   -- the answer is the definition's
@@ -148,18 +157,19 @@ pub record Loads (M : Model) (s : List ℕ) (answer : Report) : Type 0 where
   -- "Conversely a well-formed sheet with true rules is accepted if each certificate lists exactly the reachable pairs, the start first."
   pub complete : WellFormed M s → AllMet (rules (sheetOf M s)) → EachCertified (ExactFor (M .events)) (rules (sheetOf M s)) (sheetOf M s .certificates)
       → answer ≡ accepted (count (sheetOf M s))
-  -- Request 8: the answer of an instrument that is no smaller is this one, unless this one is 1, 6, or 2 at a kind that only the other takes
+  -- Request 8: the answer of an instrument that is no smaller is this one, unless this one is 1, 6, 2 at a kind that only the other takes,
+  -- or 7 at an event that only the other has; so of the two-channel instruments and the four-channel one
   pub on-larger : (M′ : Model) → NoLarger M M′ → OnLarger M M′ s answer (verdictOf M′ s)
-  -- Requests 2, 4 and 9: a sheet that does not use the kinds above k is judged as by an instrument that takes none of them
+  -- Requests 2, 4, 9 and 11: a sheet that does not use the kinds above k is judged as by an instrument that takes none of them
   pub as-before : (k : ℕ) → k ≤ M .kinds → AsBefore replyOf k M s (verdictOf (withKinds k M) s) answer
 
 -- that the definition's answer keeps the promise (proofs/Loads)
 abbrev pub LoadsAsPromised : Model → Type 0
-LoadsAsPromised M = 32 ≤ M .events → (s : List ℕ) → Bytes s → Loads M s (verdictOf M s)
+LoadsAsPromised M = setEvents M ≤ M .events → (s : List ℕ) → Bytes s → Loads M s (verdictOf M s)
 
 -- Of the word test ------------------------------------------------------------------------------------------------------
 
--- the word test reads the sheet whole and finds the condition: none of 1 to 9, 18 to 20, 24 and 25, nor 14
+-- the word test reads the sheet whole and finds the condition: none of 1 to 9, 18 to 20 and 24 to 26, nor 14
 pub record FindsCondition (M : Model) (s : List ℕ) (c : ℕ) : Type 0 where
   pub reading : Reading
   pub read : readSheet M s ≡ whole reading
@@ -194,9 +204,10 @@ pub record TestsWord (M : Model) (s : List ℕ) (c : ℕ) (w : Word) (answer : A
   pub right : (b : Bool) → answer ≡ tested b → T b ↔ Holds (condition (sheetOf M s) c) w
   -- and else names the first refusal that applies
   pub refused-iff : (n : ℕ) (at : Option ℕ) → (answerReply answer ≡ n giving placeValue at) ↔ WordRefusedFor M s c w n at
-  -- Request 8: the answer of an instrument that is no smaller is this one, unless this one is 1, 6, or 2 at a kind that only the other takes
-  pub on-larger : (M′ : Model) → NoLarger M M′ → LikeLarger answerReply M M′ s answer (wordTest M′ s c w)
-  -- Requests 2, 4 and 9: a sheet that does not use the kinds above k is tested as by an instrument that takes none of them
+  -- Request 8: the answer of an instrument that is no smaller is this one, unless this one is 1, 6, 2 at a kind that only the other takes,
+  -- or 7 or 13 at an event that only the other has
+  pub on-larger : (M′ : Model) → NoLarger M M′ → TestsLikeLarger M M′ s w answer (wordTest M′ s c w)
+  -- Requests 2, 4, 9 and 11: a sheet that does not use the kinds above k is tested as by an instrument that takes none of them
   pub as-before : (k : ℕ) → k ≤ M .kinds → AsBefore answerReply k M s (wordTest (withKinds k M) s c w) answer
 
 -- that the definition's answer keeps the promise (proofs/WordTest)

@@ -5,6 +5,7 @@ use mathlib.Core.Option.{Option, some}
 use mathlib.Core.List.{List, [], _∷_}
 use lib.ListN.{length}
 use lib.Dec.{eqb}
+use Rattle.condition.specs.Exchange.{exchange}
 use Rattle.condition.specs.Places.{nullable}
 use Rattle.certificate.specs.Certificate.{Certificate, Fault, Finding, fine, found, fault, unless, check}
 use Rattle.sheet.specs.Model.{Model}
@@ -68,12 +69,12 @@ firstFault events (x ∷ xs) cs otherwise =
 
 -- 10, "length": "certificates are more or fewer than the rules need"; "accepted, count": "every rule is met"
 unfoldable pub judged : Model → List ℕ → Sheet → Report
-unfolding rules count certificatesNeeded check nullable firstFault
+unfolding exchange rules count certificatesNeeded check nullable firstFault
 judged M s S =
     let first = firstFault (M .events) (rules S) (S .certificates) (accepted (count S)) in
     cond (eqb (length (S .certificates)) (certificatesNeeded (rules S))) first (refused 10 (some (length s)))
 
--- 1 to 9, 18 to 20, 24 and 25 end reading; a sheet that is read whole is judged
+-- 1 to 9, 18 to 20 and 24 to 26 end reading; a sheet that is read whole is judged
 unfoldable pub verdictAfter : Model → List ℕ → ReadResult → Report
 unfolding judged
 verdictAfter M s (refusal n at r) = refused n (some at)
