@@ -5,7 +5,7 @@ use Prim.Native.Nat.{ℕ, _+_, _*_, _≤_}
 use native.Mathlib.Omega.{arith}
 use lib.ListN.{length, List·getD-eq-default}
 use Rattle.sheet.specs.Record.{byteAt}
-use Rattle.sheet_laws.specs.AtOffset.{shortAt, setAt}
+use Rattle.sheet_laws.specs.AtOffset.{shortAt, setAt, longSetAt}
 
 module _ (s : List ℕ) (i : ℕ) (past : length s ≤ i) where
   pub byte-past : byteAt s i ≡ 0
@@ -21,6 +21,11 @@ module _ (s : List ℕ) (i : ℕ) (past : length s ≤ i) where
   pub set-past : setAt s i ≡ 0
   unfolding setAt
   set-past = omega (arith, short-past s i past, short-past s (i + 2) (omega arith))
+
+module _ (s : List ℕ) (i : ℕ) (past : length s ≤ i) where
+  pub long-set-past : longSetAt s i ≡ 0
+  unfolding longSetAt
+  long-set-past = omega (arith, set-past s i past, set-past s (i + 4) (omega arith))
 
 pub set-is : (s : List ℕ) (i : ℕ)
     → setAt s i ≡ byteAt s i + 256 * byteAt s (i + 1) + 65536 * (byteAt s (i + 2) + 256 * byteAt s (i + 3))

@@ -3,7 +3,7 @@ ghost use mathlib.Core.Path.{_≡_};
 ghost use Prim.Native.Nat.{_+_, _*_, _≤_};
 ghost use lib.ListN.{length};
 ghost use Rattle.sheet.specs.Record.{byteAt};
-ghost use Rattle.sheet_laws.specs.AtOffset.{shortAt, setAt};
+ghost use Rattle.sheet_laws.specs.AtOffset.{shortAt, setAt, longSetAt};
 
 // The byte at an offset.
 pub fn byte_at(s: &[u8], i: usize) -> u8
@@ -85,4 +85,14 @@ pub fn set_at(s: &[u8], i: usize) -> u64
     } else {
         0
     }
+}
+
+// The eight-byte set at any offset.
+pub fn long_set_at(s: &[u8], i: usize) -> u64
+    ensures { λ r. ⌜ r ≡ longSetAt (now (s .entry)) i ⌝ }
+{
+    if i < s.len() {
+        return set_at(s, i) + 4294967296 * set_at(s, i + 4);
+    }
+    0
 }

@@ -7,7 +7,7 @@ use native.Mathlib.Omega.{arith}
 use lib.ListN.{length}
 use lib.Dec.{ltb, eqb, lit≤}
 use borrow.Author.Tests.{lt-ltb, le-ltb, ne-eqb}
-use Rattle.sheet.specs.Kind.{conditions, points, methods, steps, Field, a-name, an-event, an-owner, kindOf, sectionOf, widths, bodyLength}
+use Rattle.sheet.specs.Kind.{conditions, points, methods, steps, Field, a-name, an-event, an-owner, a-channel, kindOf, sectionOf, widths, bodyLength}
 use Rattle.sheet.proofs.Kind.{_and_}
 use Rattle.sheet_laws.proofs.Take.{next-is}
 use Rattle.kinds.specs.Kinds.{lastKind}
@@ -30,7 +30,7 @@ declaredBehind k =
 
 abbrev pub stepBehind : ℕ → List Field
 stepBehind k =
-    cond (eqb k 10) (an-event ∷ []) (cond (eqb k 11) (a-name methods ∷ []) (cond (eqb k 17) (a-name points ∷ a-name methods ∷ []) []))
+    cond (eqb k 10) (an-event ∷ []) (cond (eqb k 11) (a-name methods ∷ []) (cond (eqb k 17) (a-name points ∷ a-name methods ∷ []) (cond (eqb k 22) (a-name methods ∷ a-channel ∷ []) [])))
 
 abbrev stepFields : ℕ → List Field
 stepFields k = cond (eqb k 19) (a-name points ∷ []) (two (stepBehind k))
@@ -45,7 +45,7 @@ fields-are =
     and (λ g h. (lit≤ tt, lit≤ tt, refl)) and (λ g h. (lit≤ tt, lit≤ tt, refl)) and (λ g h. (lit≤ tt, lit≤ tt, refl))
     and (λ g h. (lit≤ tt, lit≤ tt, refl)) and (λ g h. (lit≤ tt, lit≤ tt, refl)) and (λ g h. (lit≤ tt, lit≤ tt, refl)) and high and high
     and (λ g h. (lit≤ tt, lit≤ tt, refl)) and (λ g h. (lit≤ tt, lit≤ tt, refl)) and (λ g h. (lit≤ tt, lit≤ tt, refl)) and low
-    and (λ g h. (lit≤ tt, lit≤ tt, refl)) and (λ g h. (lit≤ tt, lit≤ tt, refl)) and (λ i. none))
+    and (λ g h. (lit≤ tt, lit≤ tt, refl)) and (λ g h. (lit≤ tt, lit≤ tt, refl)) and low and (λ g h. (lit≤ tt, lit≤ tt, refl)) and (λ i. none))
   where
     none : {A : Type 0} → 2 ≤ 0 → A
     none g = absurd (omega arith)

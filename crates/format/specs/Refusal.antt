@@ -1,10 +1,10 @@
--- Document 01's number and place of each refusal: "What the loader returns"; and those of document 02's 18 to 20, 24 and 25.
+-- Document 01's number and place of each refusal: "What the loader returns"; and those of document 02's 18 to 20 and 24 to 26.
 use Prim.Native.Nat.{ℕ}
 use mathlib.Core.Option.{Option, none, some}
 use Rattle.format.specs.declared.Refusal.{Refusal}
-use Rattle.format.specs.declared.Refusal.the-variants.{TooLong, UnknownKind, BodyPastEnd, WrongSection, WrongItems, OverLimit, UnknownName, Unfinished, NoFirstBody, CertificateCount, WordTooLong, StrayEvent, NoSuchCondition, WrongOutcomes, EditionNotFirst, StopInOldSheet, WrongOwner, UnknownOwner}
+use Rattle.format.specs.declared.Refusal.the-variants.{TooLong, UnknownKind, BodyPastEnd, WrongSection, WrongItems, OverLimit, UnknownName, Unfinished, NoFirstBody, CertificateCount, WordTooLong, StrayEvent, NoSuchCondition, WrongOutcomes, EditionNotFirst, StopInOldSheet, WrongOwner, UnknownOwner, WrongChannel}
 
--- the number, 1 to 10, 12 to 14, 18 to 20, 24 and 25
+-- the number, 1 to 10, 12 to 14, 18 to 20, 24 to 26
 abbrev pub numberOf : Refusal → ℕ
 numberOf (TooLong at) = 1
 numberOf (UnknownKind at) = 2
@@ -24,6 +24,7 @@ numberOf (EditionNotFirst at) = 19
 numberOf (StopInOldSheet at) = 20
 numberOf (WrongOwner at) = 24
 numberOf (UnknownOwner at) = 25
+numberOf (WrongChannel at) = 26
 
 -- "place", "offset", "length" or "index", by the refusal; 12 and 14 have none
 abbrev pub placeOf : Refusal → Option ℕ
@@ -45,3 +46,4 @@ placeOf (EditionNotFirst at) = some at
 placeOf (StopInOldSheet at) = some at
 placeOf (WrongOwner at) = some at
 placeOf (UnknownOwner at) = some at
+placeOf (WrongChannel at) = some at

@@ -1,9 +1,9 @@
--- The symbols of a condition as the code has them: what they stand for, and what each takes, has and is long.
+-- The symbols of a condition as the code has them: what they stand for, what each takes and has, and where the next one stands.
 use mathlib.Core.Path.{_≡_}
 use mathlib.Core.Bool.{Bool, true, false}
 use mathlib.Core.Option.{Option, none, some}
 use mathlib.Core.List.{List}
-use Prim.Native.Nat.{ℕ, _+_, _<_}
+use Prim.Native.Nat.{ℕ, _+_, _≤_, _<_}
 use lib.ListN.{length}
 use Rattle.sheet.specs.Record.{nextAt}
 use Rattle.sheet_laws.specs.AtOffset.{leaf-symbol, empty-symbol, join-symbol, either-symbol, star-symbol, symbolAt}
@@ -46,17 +46,12 @@ leavesIn Join = 0
 leavesIn Either = 0
 leavesIn Star = 0
 
--- how many bytes its record has
-abbrev pub bytesOf : Symbol → ℕ
-bytesOf None = 1
-bytesOf (Leaf set) = 5
-bytesOf Empty = 1
-bytesOf Join = 1
-bytesOf Either = 1
-bytesOf Star = 1
-
--- y is the symbol at the offset; its record stands in the sheet, and the next one behind it
+-- y is the symbol at the offset; its record stands in the sheet
 pub record IsSymbolAt (s : List ℕ) (at : ℕ) (y : Symbol) : Type 0 where
   pub symbol-is : y ≡ valueOf (symbolAt s at)
   pub inside : isSymbol y ≡ true → at < length s
-  pub next-is : isSymbol y ≡ true → nextAt s at ≡ at + bytesOf y
+
+-- the next record stands n bytes behind the symbol at the offset, if there is one; no symbol has more than nine
+pub record IsBehind (s : List ℕ) (at n : ℕ) : Type 0 where
+  pub next-is : isSymbol (valueOf (symbolAt s at)) ≡ true → nextAt s at ≡ at + n
+  pub few : n ≤ 9

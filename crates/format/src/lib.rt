@@ -13,7 +13,7 @@ use kinds::lengths::body_length;
 pub mod listing; // listing.rt: the pairs of a certificate
 pub mod symbols; // symbols.rt: the symbols of a condition
 
-// The refusals 1 to 10 and 12 to 14 of document 01 and 18 to 20, 24 and 25 of document 02, with their places; specs/Refusal gives each its number.
+// The refusals 1 to 10 and 12 to 14 of document 01 and 18 to 20 and 24 to 26 of document 02, with their places; specs/Refusal gives each its number.
 pub enum Refusal {
     TooLong(usize),
     UnknownKind(usize),
@@ -33,6 +33,7 @@ pub enum Refusal {
     StopInOldSheet(usize),
     WrongOwner(usize),
     UnknownOwner(usize),
+    WrongChannel(usize),
 }
 
 // A record with the offset after it. Where there is none, `refusal_at` says why.

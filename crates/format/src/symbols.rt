@@ -1,12 +1,13 @@
 // The symbols of a condition in postfix order, as values.
-ghost use mathlib.Core.Path.{_≡_};
-ghost use Rattle.format.specs.Symbols.{IsSymbolAt, bytesOf};
+ghost use Rattle.format.specs.Symbols.{IsSymbolAt, IsBehind};
 use fields::byte_at;
+use fields::long_set_at;
 use fields::set_at;
 use kinds::EITHER;
 use kinds::EMPTY;
 use kinds::JOIN;
 use kinds::LEAF;
+use kinds::LONG_LEAF;
 use kinds::STAR;
 
 // A leaf with its set, EMPTY, JOIN, EITHER or STAR; or that no symbol is there.
@@ -29,20 +30,18 @@ pub fn symbol_at(s: &[u8], at: usize) -> Symbol
         JOIN => Symbol::Join,
         EITHER => Symbol::Either,
         STAR => Symbol::Star,
+        LONG_LEAF => Symbol::Leaf(long_set_at(s, at + 1)),
         _ => Symbol::None,
     }
 }
 
-// How many bytes a symbol's record has.
-pub fn bytes_of(symbol: Symbol) -> usize
-    ensures { λ r. ⌜ r ≡ bytesOf symbol ⌝ }
+// How many bytes the record of the symbol at an offset has.
+pub fn symbol_bytes(s: &[u8], at: usize) -> usize
+    ensures { λ r. ⌜ IsBehind (now (s .entry)) at r ⌝ }
 {
-    match symbol {
-        Symbol::Leaf(_) => 5,
-        Symbol::None => 1,
-        Symbol::Empty => 1,
-        Symbol::Join => 1,
-        Symbol::Either => 1,
-        Symbol::Star => 1,
+    match byte_at(s, at) {
+        LEAF => 5,
+        LONG_LEAF => 9,
+        _ => 1,
     }
 }

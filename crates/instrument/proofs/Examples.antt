@@ -1,11 +1,11 @@
 -- The instruments by evaluation: the longest sheet that each reads, and one byte more; as many points as the entry instrument takes, and one more;
--- the kinds that they take; which number names which.
+-- the events and the kinds that they take; which number names which.
 use mathlib.Core.Path.{_≡_, refl}
 use mathlib.Core.List.{List, [], _∷_, _++_, map}
 use Prim.Native.Nat.{ℕ, zero, suc}
 use lib.ListN.{replicate}
 use Rattle.sheet.specs.Reading.{fresh, ReadResult, whole, refusal, readSheet}
-use Rattle.instrument.specs.declared.Instrument.the-variants.{Large, Entry}
+use Rattle.instrument.specs.declared.Instrument.the-variants.{Large, Entry, Four}
 use Rattle.instrument.specs.declared.Named.the-variants.{Known, Unknown}
 use Rattle.instrument.specs.Model.{modelOf, instrumentOf}
 
@@ -72,8 +72,23 @@ mixed-points : map (λ more. numberAndPlace (readSheet (modelOf Entry) (withMixe
 unfolding readSheet
 mixed-points = refl
 
--- both take kinds up to 20: a condition, a point, a method and a primitive with two outcomes, and a call of each; as a sheet of the new edition with a
--- stop behind them; a point with an owner; and none above
+-- "It has 64 events" and reads as many bytes and points as the large one
+longest-on-four : map (λ n. numberAndPlace (readSheet (modelOf Four) (replicate n 0))) (65536 ∷ 65537 ∷ []) ≡ (2 ∷ 0 ∷ []) ∷ (1 ∷ 65536 ∷ []) ∷ []
+unfolding readSheet
+longest-on-four = refl
+
+-- a condition, a point, a method and a step with an event
+abbrev withEvent : ℕ → List ℕ
+withEvent a = (0x02 ∷ 0x06 ∷ []) ++ (points 1 ++ ((0x09 ∷ replicate 10 0) ++ (0x0A ∷ 0 ∷ 0 ∷ 0 ∷ 0 ∷ a ∷ [])))
+
+-- the last event of each instrument, and the one behind it: 7
+events-read : map (λ i. map (λ a. numberAndPlace (readSheet (modelOf i) (withEvent a))) (31 ∷ 32 ∷ 63 ∷ 64 ∷ [])) (Large ∷ Entry ∷ Four ∷ [])
+    ≡ ([] ∷ (7 ∷ 20 ∷ []) ∷ (7 ∷ 20 ∷ []) ∷ (7 ∷ 20 ∷ []) ∷ []) ∷ ([] ∷ (7 ∷ 20 ∷ []) ∷ (7 ∷ 20 ∷ []) ∷ (7 ∷ 20 ∷ []) ∷ []) ∷ ([] ∷ [] ∷ [] ∷ (7 ∷ 20 ∷ []) ∷ []) ∷ []
+unfolding readSheet
+events-read = refl
+
+-- all take kinds up to 20: a condition, a point, a method and a primitive with two outcomes, and a call of each; as a sheet of the new edition with a
+-- stop behind them; and a point with an owner
 abbrev withFailing : List ℕ
 withFailing =
     (0x02 ∷ 0x06 ∷ []) ++ (points 1 ++ ((0x10 ∷ replicate 16 0) ++ ((0x0F ∷ replicate 10 0) ++ ((0x11 ∷ replicate 8 0) ++ (0x11 ∷ 0 ∷ 0 ∷ 0 ∷ 0 ∷ 0 ∷ 0 ∷ 1 ∷ 0 ∷ [])))))
@@ -81,12 +96,24 @@ withFailing =
 abbrev withStop : List ℕ
 withStop = (0x12 ∷ withFailing) ++ (0x13 ∷ 0 ∷ 0 ∷ [])
 
-kinds-read : map (λ i. map (λ s. numberAndPlace (readSheet (modelOf i) s)) (withFailing ∷ withStop ∷ withMixed 1 [] ∷ (0x14 ∷ []) ∷ (0x15 ∷ []) ∷ []))
-    (Large ∷ Entry ∷ [])
-    ≡ replicate 2 ([] ∷ [] ∷ [] ∷ (3 ∷ 0 ∷ []) ∷ (2 ∷ 0 ∷ []) ∷ [])
+kinds-read : map (λ i. map (λ s. numberAndPlace (readSheet (modelOf i) s)) (withFailing ∷ withStop ∷ withMixed 1 [] ∷ (0x14 ∷ []) ∷ [])) (Large ∷ Entry ∷ Four ∷ [])
+    ≡ replicate 3 ([] ∷ [] ∷ [] ∷ (3 ∷ 0 ∷ []) ∷ [])
 unfolding readSheet
 kinds-read = refl
 
+-- "The two-channel instrument still gives 2 for both kinds", 21 and 22, which the four-channel one takes, and it none above: a long leaf; a condition, a
+-- point, a method, a primitive and a call of it on channel 3
+abbrev withChannel : List ℕ
+withChannel =
+    (0x02 ∷ 0x06 ∷ []) ++ (points 1 ++ ((0x09 ∷ replicate 10 0) ++ ((0x08 ∷ replicate 6 0) ++ (0x16 ∷ 0 ∷ 0 ∷ 0 ∷ 0 ∷ 1 ∷ 0 ∷ 3 ∷ []))))
+
+channels-read : map (λ i. map (λ s. numberAndPlace (readSheet (modelOf i) s)) ((0x15 ∷ replicate 8 255) ∷ withChannel ∷ (0x16 ∷ []) ∷ (0x17 ∷ []) ∷ []))
+    (Large ∷ Entry ∷ Four ∷ [])
+    ≡ ((2 ∷ 0 ∷ []) ∷ (2 ∷ 27 ∷ []) ∷ (2 ∷ 0 ∷ []) ∷ (2 ∷ 0 ∷ []) ∷ []) ∷ ((2 ∷ 0 ∷ []) ∷ (2 ∷ 27 ∷ []) ∷ (2 ∷ 0 ∷ []) ∷ (2 ∷ 0 ∷ []) ∷ [])
+    ∷ ((8 ∷ 9 ∷ []) ∷ [] ∷ (3 ∷ 0 ∷ []) ∷ (2 ∷ 0 ∷ []) ∷ []) ∷ []
+unfolding readSheet
+channels-read = refl
+
 -- the numbers that name an instrument, and numbers beside them
-named : map instrumentOf (0 ∷ 1 ∷ 2 ∷ 3 ∷ 4294967297 ∷ []) ≡ Unknown ∷ Known Large ∷ Known Entry ∷ Unknown ∷ Unknown ∷ []
+named : map instrumentOf (0 ∷ 1 ∷ 2 ∷ 3 ∷ 4 ∷ 4294967297 ∷ []) ≡ Unknown ∷ Known Large ∷ Known Entry ∷ Known Four ∷ Unknown ∷ Unknown ∷ []
 named = refl

@@ -2,9 +2,9 @@
 use Prim.Native.Nat.{ℕ}
 use lib.Dec.{eqb}
 use mathlib.Core.Bool.{cond}
-use Rattle.sheet.specs.Model.{Model, large, entry}
+use Rattle.sheet.specs.Model.{Model, large, entry, four}
 use Rattle.instrument.specs.declared.Instrument.{Instrument}
-use Rattle.instrument.specs.declared.Instrument.the-variants.{Large, Entry}
+use Rattle.instrument.specs.declared.Instrument.the-variants.{Large, Entry, Four}
 use Rattle.instrument.specs.declared.Named.{Named}
 use Rattle.instrument.specs.declared.Named.the-variants.{Known, Unknown}
 use Rattle.instrument.specs.declared.Limits.{Limits}
@@ -13,6 +13,7 @@ use Rattle.instrument.specs.declared.Limits.{Limits}
 abbrev pub modelOf : Instrument → Model
 modelOf Large = large
 modelOf Entry = entry
+modelOf Four = four
 
 -- the model that limits stand for, and the limits of a model
 abbrev pub modelWith : Limits → Model
@@ -22,6 +23,6 @@ abbrev pub limitsOf : Instrument → Limits
 limitsOf i =
     let M = modelOf i in record { bytes = M .bytes; points = M .points; events = M .events; kinds = M .kinds }
 
--- the instrument that a number names: 1 the large one, 2 the entry instrument, any other number none
+-- the instrument that a number names: 1 the large one, 2 the entry instrument, 3 the four-channel one, any other number none
 abbrev pub instrumentOf : ℕ → Named
-instrumentOf n = cond (eqb n 1) (Known Large) (cond (eqb n 2) (Known Entry) Unknown)
+instrumentOf n = cond (eqb n 1) (Known Large) (cond (eqb n 2) (Known Entry) (cond (eqb n 3) (Known Four) Unknown))

@@ -2,10 +2,12 @@
 ghost use mathlib.Core.Path.{_≡_};
 ghost use Rattle.instrument.specs.Model.{limitsOf, instrumentOf};
 
-// The large two-channel instrument, which is document 01's, and the entry instrument, which is request 8's.
+// The large two-channel instrument, which is document 01's, the entry instrument, which is request 8's, and the four-channel instrument, which is
+// request 11's.
 pub enum Instrument {
     Large,
     Entry,
+    Four,
 }
 
 // What a number stands for where an instrument is asked for.
@@ -38,6 +40,12 @@ pub fn limits_of(instrument: Instrument) -> Limits
             events: 32,
             kinds: 20,
         },
+        Instrument::Four => Limits {
+            bytes: 65536,
+            points: 512,
+            events: 64,
+            kinds: 22,
+        },
     }
 }
 
@@ -49,6 +57,7 @@ pub fn instrument_of(number: usize) -> Named
     match number {
         1 => Named::Known(Instrument::Large),
         2 => Named::Known(Instrument::Entry),
+        3 => Named::Known(Instrument::Four),
         _ => Named::Unknown,
     }
 }

@@ -93,3 +93,14 @@ three-names k low high no-body no-event = go (ltb k 9) refl
     go false e =
         let is : k ≡ 11 = omega (arith, ltb-false k 9 e, no-body, no-event) in
         sym (ap bodyLength is)
+
+-- a call of a method of two outcomes, a point with an owner and a long leaf
+pub eight-bytes : (k : ℕ) → 17 ≤ k → k ≤ 22 → (k ≡ 18 → ⊥) → (k ≡ 19 → ⊥) → (k ≡ 22 → ⊥) → 8 ≡ bodyLength k
+unfolding allBelow same
+eight-bytes k low high no-mark no-stop no-call = go (ltb k 20) refl
+  where
+    go : (b : Bool) → ltb k 20 ≡ b → 8 ≡ bodyLength k
+    go true e =
+        let is : k ≡ 17 = omega (arith, ltb-true k 20 e, no-mark, no-stop) in
+        sym (ap bodyLength is)
+    go false e = length-out k 8 (between 20 2 (Of 8) tt k (ltb-false k 20 e) (omega (arith, no-call))) .2

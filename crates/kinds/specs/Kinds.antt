@@ -7,7 +7,7 @@ use Rattle.sheet.specs.Kind.{Role, symbol, a-pair, counts, edition}
 
 -- the last kind of the table
 abbrev pub lastKind : ℕ
-lastKind = 20
+lastKind = 22
 
 -- the kinds from 1 to `kinds`
 abbrev pub isKnown : ℕ → ℕ → Bool
@@ -26,9 +26,9 @@ takesItems a-pair = 0
 takesItems counts = 0
 takesItems edition = 0
 
--- kind 1; kinds 8 and 15; kinds 9 and 16; kinds 15 and 16
+-- kinds 1 and 21; kinds 8 and 15; kinds 9 and 16; kinds 15 and 16
 abbrev pub leafKind : ℕ → Bool
-leafKind kind = eqb kind 1
+leafKind kind = eqb kind 1 || eqb kind 21
 
 abbrev pub primitiveKind : ℕ → Bool
 primitiveKind kind = eqb kind 8 || eqb kind 15
@@ -39,9 +39,12 @@ bodyKind kind = eqb kind 9 || eqb kind 16
 abbrev pub twoOutcomeKind : ℕ → Bool
 twoOutcomeKind kind = eqb kind 15 || eqb kind 16
 
--- calls: kind 11, and kind 17, which has a failed target
+-- calls: kind 11, kind 17, which has a failed target, and kind 22, which has a channel
 abbrev pub callKind : ℕ → Bool
 callKind kind = eqb kind 11
 
 abbrev pub twoOutcomeCallKind : ℕ → Bool
 twoOutcomeCallKind kind = eqb kind 17
+
+abbrev pub channelCallKind : ℕ → Bool
+channelCallKind kind = eqb kind 22

@@ -13,9 +13,10 @@ use Rattle.kinds.specs.Kinds.{lastKind, isKnown}
 abbrev pub lengthOf : ℕ → Length
 lengthOf kind = cond (isKnown lastKind kind) (Of (bodyLength kind)) Nothing
 
--- the lengths as the documents have them: document 01, "Body lengths by kind, 1 to 14"; of 15 to 20 by their fields in document 02, Asks 2, 4 and 9
+-- the lengths as the documents have them: document 01, "Body lengths by kind, 1 to 14"; of 15 to 22 by their fields in document 02, Asks 2, 4, 9 and
+-- 11
 abbrev pub lengths : List ℕ
-lengths = 4 ∷ 0 ∷ 0 ∷ 0 ∷ 0 ∷ 0 ∷ 6 ∷ 6 ∷ 10 ∷ 5 ∷ 6 ∷ 4 ∷ 5 ∷ 0 ∷ 10 ∷ 16 ∷ 8 ∷ 0 ∷ 2 ∷ 8 ∷ []
+lengths = 4 ∷ 0 ∷ 0 ∷ 0 ∷ 0 ∷ 0 ∷ 6 ∷ 6 ∷ 10 ∷ 5 ∷ 6 ∷ 4 ∷ 5 ∷ 0 ∷ 10 ∷ 16 ∷ 8 ∷ 0 ∷ 2 ∷ 8 ∷ 8 ∷ 7 ∷ []
 
 -- .. of any byte: 0 and those past the list have none
 abbrev pub listedLength : ℕ → Length

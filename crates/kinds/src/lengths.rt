@@ -5,6 +5,7 @@ ghost use Prim.Native.Nat.{_≤_, _<_};
 ghost use Rattle.sheet.specs.Kind.{bodyLength};
 ghost use Rattle.kinds.specs.Kinds.{lastKind};
 ghost use Rattle.kinds.specs.Lengths.{lengthOf};
+use crate::CHANNEL_CALL;
 use crate::EDITION;
 use crate::EVENT;
 use crate::LAST;
@@ -37,7 +38,7 @@ pub fn body_length(kind: u8) -> Length
     Length::Of(later_length(kind))
 }
 
-// Of the kinds of conditions, where a leaf alone has a body, and of 0, which is no kind.
+// Of the kinds of document 01's conditions, where a leaf alone has a body, and of 0, which is no kind.
 fn condition_length(kind: u8) -> Length
     requires { ⌜ kind < 7 ⌝ }
     ensures { λ r. ⌜ r ≡ lengthOf kind ⌝ }
@@ -51,7 +52,7 @@ fn condition_length(kind: u8) -> Length
     Length::Of(0)
 }
 
-// Of the kinds behind them, but for pairs. A call of a method of two outcomes and a point with an owner have four fields.
+// Of the kinds behind them, but for pairs.
 fn later_length(kind: u8) -> usize
     requires { ⌜ (7 ≤ kind) × (kind ≤ lastKind) × (kind ≡ 13 → ⊥) ⌝ }
     ensures { λ r. ⌜ r ≡ bodyLength kind ⌝ }
@@ -62,13 +63,26 @@ fn later_length(kind: u8) -> usize
     if kind < 17 {
         return two_outcome_length(kind);
     }
+    request_length(kind)
+}
+
+// Of the kinds from 17 on. A call of a method of two outcomes and a point with an owner have four fields, and a long leaf has a set of eight bytes. Each
+// length is chosen from the one before: of three returns in a row the compiler makes a table.
+fn request_length(kind: u8) -> usize
+    requires { ⌜ (17 ≤ kind) × (kind ≤ lastKind) ⌝ }
+    ensures { λ r. ⌜ r ≡ bodyLength kind ⌝ }
+{
+    let mut length: usize = 8;
     if kind == EDITION {
-        return 0;
+        length = 0;
     }
     if kind == STOP {
-        return 2;
+        length = 2;
     }
-    8
+    if kind == CHANNEL_CALL {
+        length = 7;
+    }
+    length
 }
 
 // Of a point, a primitive and a method with body; of an event, a call and a pass.

@@ -58,8 +58,13 @@ pub const STOP: u8 = 19;
 // The kind of a point with an owner.
 pub const OWNED_POINT: u8 = 20;
 
+// The kinds of a leaf with a set of eight bytes and of a call on a channel.
+pub const LONG_LEAF: u8 = 21;
+
+pub const CHANNEL_CALL: u8 = 22;
+
 // The last kind.
-const LAST: u8 = 20;
+const LAST: u8 = 22;
 
 pub fn section_of(kind: u8) -> u8
     requires { ⌜ (1 ≤ kind) × (kind ≤ lastKind) ⌝ }
@@ -79,7 +84,7 @@ pub fn section_of(kind: u8) -> u8
         CERTIFICATES
     } else if kind < 17 {
         METHODS
-    } else if kind == EDITION {
+    } else if one_of(kind == EDITION, kind == LONG_LEAF) {
         CONDITIONS
     } else if kind == OWNED_POINT {
         POINTS
@@ -93,7 +98,7 @@ pub fn in_condition(kind: u8) -> bool
     requires { ⌜ 1 ≤ kind ⌝ }
     ensures { λ r. ⌜ r ≡ inCondition (sectionOf kind) (kindOf kind .role) ⌝ }
 {
-    kind < 7
+    one_of(kind < 7, kind == LONG_LEAF)
 }
 
 // A record of the kind is one of its section, whole or at its end: no symbol of a condition, no pair, and no mark of the edition.
@@ -104,7 +109,7 @@ pub fn counts(kind: u8) -> bool
     if kind < 6 {
         return false;
     }
-    both(kind != PAIR, kind != EDITION)
+    both(kind != PAIR, both(kind != EDITION, kind != LONG_LEAF))
 }
 
 // How many items of a condition a record of the kind takes: JOIN and EITHER two, STAR one.
@@ -122,7 +127,7 @@ pub fn items_taken(kind: u8) -> usize
 pub fn is_leaf(kind: u8) -> bool
     ensures { λ r. ⌜ r ≡ leafKind kind ⌝ }
 {
-    kind == LEAF
+    one_of(kind == LEAF, kind == LONG_LEAF)
 }
 
 pub fn is_primitive(kind: u8) -> bool

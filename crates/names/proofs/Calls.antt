@@ -16,10 +16,10 @@ pub not-not : (b : Bool) → not (not b) ≡ b
 not-not true = refl
 not-not false = refl
 
--- whether the method that a field names has two outcomes, as the code finds it
-found : (s methods : List ℕ) (i : ℕ) {m k : ℕ} {b : Bool} → m ≡ shortAt s i → k ≡ kindListed s methods m → b ≡ twoOutcomeKind k
-    → b ≡ twoOutcomeKind (kindListed s methods (shortAt s i))
-found s methods i named listed tested = tested ∙ ap twoOutcomeKind (listed ∙ ap (kindListed s methods) named)
+-- a test of the kind of the method that a field names, as the code makes it
+pub found : (test : ℕ → Bool) (s methods : List ℕ) (i : ℕ) {m k : ℕ} {b : Bool} → m ≡ shortAt s i → k ≡ kindListed s methods m → b ≡ test k
+    → b ≡ test (kindListed s methods (shortAt s i))
+found test s methods i named listed tested = tested ∙ ap test (listed ∙ ap (kindListed s methods) named)
 
 module _ (s : List ℕ) (at : ℕ) (methods : List ℕ) {kind : ℕ} where
   -- of a kind, the test of 18
@@ -30,13 +30,13 @@ module _ (s : List ℕ) (at : ℕ) (methods : List ℕ) {kind : ℕ} where
       → not b ≡ not (wrongOutcomesAt s at kind methods)
   fits-11 e named listed tested =
       ap not
-      (found s methods (at + 5) named listed tested
+      (found twoOutcomeKind s methods (at + 5) named listed tested
       ∙ sym (by-kind 11 e ∙ or-false-right (twoOutcomeKind (kindListed s methods (shortAt s (at + 5))))))
 
   pub fits-17 : kind ≡ 17 → {m k : ℕ} {b : Bool} → m ≡ shortAt s (at + 7) → k ≡ kindListed s methods m → b ≡ twoOutcomeKind k
       → b ≡ not (wrongOutcomesAt s at kind methods)
   fits-17 e named listed tested =
-      found s methods (at + 7) named listed tested
+      found twoOutcomeKind s methods (at + 7) named listed tested
       ∙ sym (ap not (by-kind 17 e) ∙ not-not (twoOutcomeKind (kindListed s methods (shortAt s (at + 7)))))
 
   pub fits-other : (kind ≡ 11 → ⊥) → (kind ≡ 17 → ⊥) → true ≡ not (wrongOutcomesAt s at kind methods)

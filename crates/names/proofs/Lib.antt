@@ -1,3 +1,4 @@
 pub mod Named
 pub mod Calls
+pub mod ChannelCalls
 pub mod Order

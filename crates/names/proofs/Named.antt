@@ -7,7 +7,7 @@ use native.Mathlib.Omega.{arith}
 use lib.ListN.{getD}
 use lib.Dec.{ltb, eqb}
 use borrow.Author.Tests.{ne-eqb}
-use Rattle.sheet.specs.Kind.{conditions, points, methods, steps, Field, a-name, an-event, an-owner, kindOf, sectionOf}
+use Rattle.sheet.specs.Kind.{conditions, points, methods, steps, Field, a-name, an-event, an-owner, a-channel, kindOf, sectionOf}
 use Rattle.sheet.specs.Record.{byteAt, numberAt, valuesAt, recordAt}
 use Rattle.sheet_laws.specs.AtOffset.{shortAt}
 use Rattle.sheet.specs.Reading.{allExist}
@@ -52,6 +52,11 @@ module _ (s : List ℕ) (events : ℕ) (counted : ℕ → ℕ) where
   -- one name, two names and an event at the end of a body
   name-last : (k i : ℕ) → All (a-name k ∷ []) i ≡ ltb (shortAt s i) (counted k)
   name-last k i = name-then k [] i ∙ and-true (ltb (shortAt s i) (counted k))
+
+  -- .. and one name in front of a channel, which is not judged
+  name-then-channel : (k i : ℕ) → All (a-name k ∷ a-channel ∷ []) i ≡ ltb (shortAt s i) (counted k)
+  unfolding valuesAt
+  name-then-channel k i = name-then k (a-channel ∷ []) i ∙ and-true (ltb (shortAt s i) (counted k))
 
   event-last : (i : ℕ) → All (an-event ∷ []) i ≡ ltb (byteAt s i) events
   unfolding valuesAt
@@ -150,6 +155,9 @@ module _ {s : List ℕ} {at kind : ℕ} (w : Named s at kind) where
         pub exist-11 : kind ≡ 11 → {b r : Bool} → b ≡ ltb (shortAt s (at + 5)) (t .methods) → r ≡ (a && b) → r ≡ Exist events t
         exist-11 e second both = step-exist 11 e (second ∙ sym (name-last s events (countOf t) 3 (at + 5))) both
 
+        pub exist-22 : kind ≡ 22 → {b r : Bool} → b ≡ ltb (shortAt s (at + 5)) (t .methods) → r ≡ (a && b) → r ≡ Exist events t
+        exist-22 e second both = step-exist 22 e (second ∙ sym (name-then-channel s events (countOf t) 3 (at + 5))) both
+
         pub exist-17 : kind ≡ 17 → {b c ab r : Bool} → b ≡ ltb (shortAt s (at + 5)) (t .points) → ab ≡ (a && b)
             → c ≡ ltb (shortAt s (at + 7)) (t .methods) → r ≡ (ab && c) → r ≡ Exist events t
         exist-17 e {b} {c} target first-three method all =
@@ -159,7 +167,7 @@ module _ {s : List ℕ} {at kind : ℕ} (w : Named s at kind) where
             ∙ ap (λ (i : ℕ). ltb (shortAt s (at + 5)) (t .points) && All s events (countOf t) (a-name methods ∷ []) i) seven in
             step-exist 17 e (both-are refl target (method ∙ sym last) behind) (all ∙ ap (λ (ab : Bool). ab && c) first-three ∙ sym (and-assoc a b c))
 
-        pub exist-two : (kind ≡ 10 → ⊥) → (kind ≡ 11 → ⊥) → (kind ≡ 17 → ⊥) → a ≡ Exist events t
-        exist-two a10 a11 a17 =
-            let none : stepBehind kind ≡ [] = simp (ne-eqb kind 10 a10, ne-eqb kind 11 a11, ne-eqb kind 17 a17) in
+        pub exist-two : (kind ≡ 10 → ⊥) → (kind ≡ 11 → ⊥) → (kind ≡ 22 → ⊥) → (kind ≡ 17 → ⊥) → a ≡ Exist events t
+        exist-two a10 a11 a22 a17 =
+            let none : stepBehind kind ≡ [] = simp (ne-eqb kind 10 a10, ne-eqb kind 11 a11, ne-eqb kind 17 a17, ne-eqb kind 22 a22) in
             first ∙ sym (of-points events t [] (goes w late goes-on [] none) ∙ and-true (twoBelow s (at + 1) (t .points)))

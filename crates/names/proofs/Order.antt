@@ -1,4 +1,4 @@
--- 7, 9, 18 and 24 in their order: what a record is judged by, the first test that it does not pass.
+-- 7, 9, 18, 24 and 26 in their order: what a record is judged by, the first test that it does not pass.
 use mathlib.Core.Path.{_≡_, sym, ap, _∙_}
 use mathlib.Core.Bool.{Bool, true, false, not, _&&_}
 use mathlib.Core.List.{List}
@@ -7,7 +7,7 @@ use borrow.Author.Tests.{not-true, not-false}
 use Rattle.sheet.specs.Kind.{kindOf}
 use Rattle.sheet.specs.Record.{recordAt}
 use Rattle.sheet.specs.Reading.{allExist}
-use Rattle.format.specs.declared.Refusal.the-variants.{UnknownName, NoFirstBody, WrongOutcomes, WrongOwner}
+use Rattle.format.specs.declared.Refusal.the-variants.{UnknownName, NoFirstBody, WrongOutcomes, WrongOwner, WrongChannel}
 use Rattle.kinds.specs.Kinds.{primitiveKind}
 use Rattle.tally.specs.declared.Tally.{Tally}
 use Rattle.tally.specs.Tally.{countOf}
@@ -15,6 +15,7 @@ use Rattle.owners.specs.Owners.{ownersFit}
 use Rattle.names.specs.declared.judge.Judged.{Judged}
 use Rattle.names.specs.declared.judge.Judged.the-variants.{Fits, Refused}
 use Rattle.names.specs.Outcomes.{wrongOutcomesAt}
+use Rattle.names.specs.Channels.{wrongChannelAt}
 use Rattle.names.specs.Judge.{judgedAt}
 use Rattle.names.proofs.Calls.{not-not}
 
@@ -45,5 +46,12 @@ module _ (events : ℕ) (s : List ℕ) (at kind : ℕ) (first : Bool) (t : Tally
           pub twenty-four : not o ≡ true → Refused (WrongOwner at) ≡ judged
           twenty-four e24 = rw (sym named, not-false n e7, no-first e9, wrong e18, sym owned, not-true o e24)
 
-          pub fits : not o ≡ false → Fits ≡ judged
-          fits e24 = rw (sym named, not-false n e7, no-first e9, wrong e18, sym owned, not-false o e24)
+          module _ (e24 : not o ≡ false) {c : Bool} (channel : c ≡ not (wrongChannelAt s at kind methods)) where
+            stray : {d : Bool} → not c ≡ d → wrongChannelAt s at kind methods ≡ d
+            stray e = sym (not-not (wrongChannelAt s at kind methods)) ∙ ap not (sym channel) ∙ e
+
+            pub twenty-six : not c ≡ true → Refused (WrongChannel at) ≡ judged
+            twenty-six e26 = rw (sym named, not-false n e7, no-first e9, wrong e18, sym owned, not-false o e24, stray e26)
+
+            pub fits : not c ≡ false → Fits ≡ judged
+            fits e26 = rw (sym named, not-false n e7, no-first e9, wrong e18, sym owned, not-false o e24, stray e26)

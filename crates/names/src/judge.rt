@@ -2,6 +2,7 @@
 ghost use mathlib.Core.Path.{_≡_};
 ghost use Rattle.format.specs.Named.{Named};
 ghost use Rattle.names.specs.Judge.{judgedAt};
+use crate::channels::channel_fits;
 use crate::names_exist;
 use crate::outcomes::outcomes_fit;
 use bits::both;
@@ -15,7 +16,7 @@ pub enum Judged {
     Refused(Refusal),
 }
 
-// 7, 9 for a first method that is a primitive, 18 and 24, in that order. The points and the methods stand at the offsets of two tables.
+// 7, 9 for a first method that is a primitive, 18, 24 and 26, in that order. The points and the methods stand at the offsets of two tables.
 pub fn judge(
     s: &[u8],
     at: usize,
@@ -40,6 +41,9 @@ pub fn judge(
     }
     if !owners_fit(s, at, kind, tally.methods, points) {
         return Judged::Refused(Refusal::WrongOwner(at));
+    }
+    if !channel_fits(s, at, kind, methods) {
+        return Judged::Refused(Refusal::WrongChannel(at));
     }
     Judged::Fits
 }

@@ -14,6 +14,7 @@ use bits::both;
 use fields::index;
 use fields::short_inside;
 use kinds::CALL;
+use kinds::CHANNEL_CALL;
 use kinds::EVENT;
 use kinds::STEPS;
 use kinds::STOP;
@@ -24,6 +25,7 @@ use kinds::WITH_BODY;
 use kinds::section_of;
 use tally::Tally;
 
+pub mod channels; // channels.rt: whether a call on a channel names a plain primitive and a channel
 pub mod judge; // judge.rt: what a record is refused for by what it names
 pub mod outcomes; // outcomes.rt: whether a call names a method with as many outcomes
 
@@ -82,6 +84,7 @@ fn step_names_exist(s: &[u8], at: usize, kind: u8, tally: Tally, events: usize) 
     match kind {
         EVENT => both(named, index(s[at + 5]) < events),
         CALL => both(named, below(s, at + 5, tally.methods)),
+        CHANNEL_CALL => both(named, below(s, at + 5, tally.methods)),
         TWO_OUTCOME_CALL => both(
             both(named, below(s, at + 5, tally.points)),
             below(s, at + 7, tally.methods),

@@ -11,7 +11,7 @@ use kinds::TWO_OUTCOME_CALL;
 use kinds::has_two_outcomes;
 
 // The kind of the method m of a table of offsets, 0 past its end.
-fn kind_listed(s: &[u8], methods: &[u32], m: usize) -> u8
+pub fn kind_listed(s: &[u8], methods: &[u32], m: usize) -> u8
     ensures { λ r. ⌜ r ≡ kindListed (now (s .entry)) (now (methods .entry)) m ⌝ }
 {
     if m < methods.len() {

@@ -8,12 +8,12 @@ use native.Mathlib.Omega.{arith}
 use lib.ListN.{length}
 use lib.Dec.{T, eqb}
 use borrow.Author.Tests.{eqb-true, eqb-false, eq-eqb}
-use Rattle.sheet.specs.Kind.{steps, an-event, Kind, kindOf, sectionOf}
+use Rattle.sheet.specs.Kind.{steps, an-event, a-channel, Kind, kindOf, sectionOf}
 use Rattle.sheet.specs.Record.{valuesAt, recordAt}
 use Rattle.sheet.specs.Reading.{agree, agreesWith, allAgree, ownersJoined}
 use Rattle.sheet.proofs.Kind.{_and_}
 use Rattle.sheet_laws.specs.AtOffset.{shortAt}
-use Rattle.sheet_laws.proofs.Fields.{event-value, names-then, names-alone}
+use Rattle.sheet_laws.proofs.Fields.{event-value, channel-value, names-then, names-alone}
 use Rattle.kinds.specs.Kinds.{bodyKind}
 use Rattle.kinds.proofs.Table.{by-rows}
 use Rattle.format.specs.Named.{Named}
@@ -105,6 +105,20 @@ goes-on x k both e = go (eqb x steps) refl (eqb k 19) refl (sym both ∙ e)
 
 -- The owners that a record joins --------------------------------------------------------------------------------------
 
+-- a record that is neither a method's with body nor a step's that goes on joins no two points
+pub none-joined : (s : List ℕ) (i number : ℕ) (owner : ℕ → Option ℕ) (k : ℕ) → bodyKind k ≡ false → (eqb (sectionOf k) steps && not (eqb k 19)) ≡ false
+    → allAgree (ownersJoined number owner (kindOf k) (valuesAt s i (kindOf k .fields))) ≡ true
+unfolding valuesAt
+none-joined s i number owner =
+    by-rows
+    (λ k x. bodyKind k ≡ false → (eqb (x .section) steps && not (eqb k 19)) ≡ false
+    → allAgree (ownersJoined number owner x (valuesAt s i (x .fields))) ≡ true)
+    (fit and fit and fit and fit and fit and fit and fit and fit and fit and (λ h g. no h) and (λ h g. no g) and (λ h g. no g) and (λ h g. no g)
+    and fit and fit and fit and (λ h g. no h) and (λ h g. no g) and fit and fit and fit and fit and (λ h g. no g) and (λ i. fit))
+  where
+    fit : {A B : Type 0} → A → B → true ≡ true
+    fit h g = refl
+
 module _ {s : List ℕ} {at kind : ℕ} (w : Named s at kind) (number : ℕ) (points : List ℕ) where
   -- the owner of the point that is named so many bytes behind the offset
   abbrev pub named-owner : ℕ → Option ℕ
@@ -159,7 +173,9 @@ module _ {s : List ℕ} {at kind : ℕ} (w : Named s at kind) (number : ℕ) (po
       and (λ h a b. joins (kindOf 10) (names-then s at 1 (2 ∷ 2 ∷ []) (an-event ∷ []) (event-value s (at + 5))) refl)
       and (λ h a b. joins (kindOf 11) (names-alone s at (2 ∷ 2 ∷ 3 ∷ [])) refl)
       and (λ h a b. joins (kindOf 12) (names-alone s at (2 ∷ 2 ∷ [])) refl)
-      and out and out and out and out and (λ h a b. absurd (a refl)) and out and (λ h a b. absurd (b refl)) and out and (λ i. out))
+      and out and out and out and out and (λ h a b. absurd (a refl)) and out and (λ h a b. absurd (b refl)) and out and out
+      and (λ h a b. joins (kindOf 22) (names-then s at 1 (2 ∷ 2 ∷ 3 ∷ []) (a-channel ∷ []) (channel-value s (at + 7))) refl)
+      and (λ i. out))
     where
       out : {A B C : Type 0} → false ≡ true → A → B → C
       out e a b = no (sym e)
@@ -186,20 +202,7 @@ module _ {s : List ℕ} {at kind : ℕ} (w : Named s at kind) (number : ℕ) (po
 
   -- Other records -----------------------------------------------------------------------------------------------------
 
-  -- a point, a primitive and a stop
-  none-joined : (k : ℕ) → bodyKind k ≡ false → (eqb (sectionOf k) steps && not (eqb k 19)) ≡ false
-      → Fit (kindOf k) (valuesAt s (at + 1) (kindOf k .fields)) ≡ true
-  unfolding valuesAt
-  none-joined =
-      by-rows
-      (λ k x. bodyKind k ≡ false → (eqb (x .section) steps && not (eqb k 19)) ≡ false → Fit x (valuesAt s (at + 1) (x .fields)) ≡ true)
-      (fit and fit and fit and fit and fit and fit and fit and fit and fit and (λ h g. no h) and (λ h g. no g) and (λ h g. no g) and (λ h g. no g)
-      and fit and fit and fit and (λ h g. no h) and (λ h g. no g) and fit and fit and fit and (λ i. fit))
-    where
-      fit : {A B : Type 0} → A → B → true ≡ true
-      fit h g = refl
-
   pub joins-none : bodyKind kind ≡ false → {x : ℕ} {b : Bool} → x ≡ sectionOf kind → b ≡ (eqb x steps && not (eqb kind 19)) → b ≡ false
       → true ≡ ownersFit s at kind number points
   joins-none a is both e =
-      sym (of-row ∙ none-joined kind a (ap (λ (x : ℕ). eqb x steps && not (eqb kind 19)) (sym is) ∙ sym both ∙ e))
+      sym (of-row ∙ none-joined s (at + 1) number (ownerListed s points) kind a (ap (λ (x : ℕ). eqb x steps && not (eqb kind 19)) (sym is) ∙ sym both ∙ e))

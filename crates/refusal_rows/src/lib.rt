@@ -32,6 +32,7 @@ pub fn refusal_number(x: Refusal) -> usize
         Refusal::StopInOldSheet(_) => 20,
         Refusal::WrongOwner(_) => 24,
         Refusal::UnknownOwner(_) => 25,
+        Refusal::WrongChannel(_) => 26,
     }
 }
 
@@ -57,5 +58,6 @@ pub fn refusal_place(x: Refusal) -> Place
         Refusal::StopInOldSheet(at) => Place::At(at),
         Refusal::WrongOwner(at) => Place::At(at),
         Refusal::UnknownOwner(at) => Place::At(at),
+        Refusal::WrongChannel(at) => Place::At(at),
     }
 }

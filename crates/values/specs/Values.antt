@@ -12,7 +12,7 @@ use Rattle.values.specs.declared.Method.{Method}
 use Rattle.values.specs.declared.Method.the-variants.{Primitive, WithBody, TwoOutcomePrimitive, TwoOutcomeBody}
 use Rattle.values.specs.declared.CallStep.{CallStep}
 use Rattle.values.specs.declared.Step.{Step}
-use Rattle.values.specs.declared.Step.the-variants.{Event, Call, TwoOutcomeCall, Pass, Stop}
+use Rattle.values.specs.declared.Step.the-variants.{Event, Call, TwoOutcomeCall, ChannelCall, Pass, Stop}
 
 -- the point has these conditions; its owner is none of the value's
 pub record PointHas (v : Point) (p : sheet.Point) : Type 0 where
@@ -44,12 +44,13 @@ pub record Declares (d : Declaration) (m : sheet.Method) : Type 0 where
 abbrev pub DeclaresFailed : Declared → sheet.Method → Type 0
 DeclaresFailed d m = (x : sheet.Declared) → m .failing ≡ some x → declaredValue d ≡ x
 
-abbrev pub callValue : CallStep → Option ℕ → sheet.CallStep
-callValue x failed-to = record { from = x .from; to = x .to; failed-to = failed-to; method = x .method }
+abbrev pub callValue : CallStep → (failed-to channel : Option ℕ) → sheet.CallStep
+callValue x failed-to channel = record { from = x .from; to = x .to; failed-to = failed-to; method = x .method; channel = channel }
 
 abbrev pub stepValue : Step → sheet.Step
 stepValue (Event p q a) = event-step p q a
-stepValue (Call c) = call-step (callValue c none)
-stepValue (TwoOutcomeCall c f) = call-step (callValue c (some f))
+stepValue (Call c) = call-step (callValue c none none)
+stepValue (TwoOutcomeCall c f) = call-step (callValue c (some f) none)
+stepValue (ChannelCall c k) = call-step (callValue c none (some k))
 stepValue (Pass p q) = pass-step p q
 stepValue (Stop p) = stop-step p

@@ -8,6 +8,7 @@ use fields::byte_at;
 use fields::index;
 use fields::short_at;
 use kinds::CALL;
+use kinds::CHANNEL_CALL;
 use kinds::EVENT;
 use kinds::PRIMITIVE;
 use kinds::STOP;
@@ -60,7 +61,7 @@ pub struct CallStep {
     pub method: usize,
 }
 
-// A step. A call of a method that can fail has a failed target behind it; a stop has the point that it is at.
+// A step. A call of a method that can fail has a failed target behind it, and a call on a channel the channel; a stop has the point that it is at.
 pub enum Step {
     Event {
         from: usize,
@@ -69,6 +70,7 @@ pub enum Step {
     },
     Call(CallStep),
     TwoOutcomeCall(CallStep, usize),
+    ChannelCall(CallStep, u8),
     Pass {
         from: usize,
         to: usize,
@@ -171,6 +173,11 @@ pub fn step_at(s: &[u8], at: usize) -> Step
         let failed = short_at(s, at + 5);
         let method = short_at(s, at + 7);
         return Step::TwoOutcomeCall(CallStep { from, to, method }, failed);
+    }
+    if kind == CHANNEL_CALL {
+        let method = short_at(s, at + 5);
+        let channel = byte_at(s, at + 7);
+        return Step::ChannelCall(CallStep { from, to, method }, channel);
     }
     if kind == STOP {
         return Step::Stop(from);

@@ -1,9 +1,14 @@
 -- The tests are those of `section-is`, in its order.
+use mathlib.Core.Path.{sym, _∙_}
 use native.Mathlib.Omega.{arith}
+use borrow.Author.Needs.{needs}
 use borrow.Author.Tests.{lt-ltb, le-ltb, eq-eqb, ne-eqb}
 use Rattle.kinds.proofs.Table.{section-is}
 use Rattle.kinds.proofs.section_of.Statement.{statement}
 use Rattle.kinds.proofs.section_of.Tie as tie
+
+one-of-requires : tie.Need-one-of-requires
+one-of-requires c κs = search needs
 
 returns : tie.Need-returns
 returns c =
@@ -43,36 +48,42 @@ returns-6 c =
 
 returns-7 : tie.Need-returns-7
 returns-7 c =
-    let k = c .before .before .before .before .before .args .kind in
-    simp (le-ltb k 7 (omega arith), le-ltb k 13 (omega arith), le-ltb k 15 (omega arith), le-ltb k 17 (omega arith), eq-eqb k 18 (omega arith))
-    at (section-is k (omega arith) (omega arith))
-
-returns-8 : tie.Need-returns-8
-returns-8 c =
     let k = c .before .before .before .before .before .before .args .kind in
     simp (
       le-ltb k 7 (omega arith),
       le-ltb k 13 (omega arith),
       le-ltb k 15 (omega arith),
       le-ltb k 17 (omega arith),
-      ne-eqb k 18 (c .before .if7 .left),
+      sym (c .before .one-of .ensures) ∙ c .if7 .taken,
+    )
+    at (section-is k (omega arith) (omega arith))
+
+returns-8 : tie.Need-returns-8
+returns-8 c =
+    let k = c .before .before .before .before .before .before .before .args .kind in
+    simp (
+      le-ltb k 7 (omega arith),
+      le-ltb k 13 (omega arith),
+      le-ltb k 15 (omega arith),
+      le-ltb k 17 (omega arith),
+      sym (c .before .before .one-of .ensures) ∙ c .before .if7 .left,
       eq-eqb k 20 (omega arith),
     )
     at (section-is k (omega arith) (omega arith))
 
 returns-9 : tie.Need-returns-9
 returns-9 c =
-    let k = c .before .before .before .before .before .before .args .kind in
+    let k = c .before .before .before .before .before .before .before .args .kind in
     simp (
       le-ltb k 7 (omega arith),
       le-ltb k 13 (omega arith),
       le-ltb k 15 (omega arith),
       le-ltb k 17 (omega arith),
-      ne-eqb k 18 (c .before .if7 .left),
+      sym (c .before .before .one-of .ensures) ∙ c .before .if7 .left,
       ne-eqb k 20 (c .if8 .left),
     )
     at (section-is k (omega arith) (omega arith))
 
 pub section-of-spec : {M : Type 1} → statement M
 section-of-spec =
-    tie.close (tie.spec returns returns-2 returns-3 returns-4 returns-5 returns-6 returns-7 returns-8 returns-9)
+    tie.close (tie.spec one-of-requires returns returns-2 returns-3 returns-4 returns-5 returns-6 returns-7 returns-8 returns-9)

@@ -1,7 +1,7 @@
 -- By the kind: each answer is the law of its fields.
 use native.Mathlib.Omega.{arith}
 use Rattle.format.proofs.Named.{kind-inside, two-inside}
-use Rattle.names.proofs.Named.{exist-10, exist-11, exist-17, exist-19, exist-two}
+use Rattle.names.proofs.Named.{exist-10, exist-11, exist-17, exist-19, exist-22, exist-two}
 use borrow.Author.Needs.{needs}
 use Rattle.names.proofs.step_names_exist.Statement.{statement}
 use Rattle.names.proofs.step_names_exist.Tie as tie
@@ -45,22 +45,31 @@ both-requires-2 : tie.Need-both-requires-2
 both-requires-2 c κs = search needs
 
 add-below-3 : tie.Need-add-below-3
-add-below-3 c = omega (arith, kind-inside (c .before .before .before .before .pre .0) 17 (c .match .keys3))
+add-below-3 c = omega (arith, kind-inside (c .before .before .before .before .pre .0) 22 (c .match .keys3))
 
 below-requires-3 : tie.Need-below-requires-3
-below-requires-3 c κs = omega (arith, kind-inside (c .before .before .before .before .pre .0) 17 (c .match .keys3))
+below-requires-3 c κs = omega (arith, kind-inside (c .before .before .before .before .pre .0) 22 (c .match .keys3))
 
 both-requires-3 : tie.Need-both-requires-3
 both-requires-3 c κs = search needs
 
 add-below-4 : tie.Need-add-below-4
-add-below-4 c = omega (arith, kind-inside (c .before .before .before .before .before .before .pre .0) 17 (c .before .before .match .keys3))
+add-below-4 c = omega (arith, kind-inside (c .before .before .before .before .pre .0) 17 (c .match .keys4))
 
 below-requires-4 : tie.Need-below-requires-4
-below-requires-4 c κs = omega (arith, kind-inside (c .before .before .before .before .before .before .pre .0) 17 (c .before .before .match .keys3))
+below-requires-4 c κs = omega (arith, kind-inside (c .before .before .before .before .pre .0) 17 (c .match .keys4))
 
 both-requires-4 : tie.Need-both-requires-4
 both-requires-4 c κs = search needs
+
+add-below-5 : tie.Need-add-below-5
+add-below-5 c = omega (arith, kind-inside (c .before .before .before .before .before .before .pre .0) 17 (c .before .before .match .keys4))
+
+below-requires-5 : tie.Need-below-requires-5
+below-requires-5 c κs = omega (arith, kind-inside (c .before .before .before .before .before .before .pre .0) 17 (c .before .before .match .keys4))
+
+both-requires-5 : tie.Need-both-requires-5
+both-requires-5 c κs = search needs
 
 returns-2 : tie.Need-returns-2
 returns-2 c =
@@ -80,18 +89,26 @@ returns-3 c =
 
 returns-4 : tie.Need-returns-4
 returns-4 c =
+    let kind = c .before .before in
+    let goes = kind .before .before in
+    let start = goes .before .before in
+    exist-22 (start .pre .0) (start .pre .1) (goes .if1 .left) (start .args .events) (start .args .tally) (kind .before .two-below .ensures)
+    (kind .match .keys3) (c .before .below3 .ensures) (c .both3 .ensures)
+
+returns-5 : tie.Need-returns-5
+returns-5 c =
     let kind = c .before .before .before .before in
     let goes = kind .before .before in
     let start = goes .before .before in
     exist-17 (start .pre .0) (start .pre .1) (goes .if1 .left) (start .args .events) (start .args .tally) (kind .before .two-below .ensures)
-    (kind .match .keys3) (c .before .before .before .below3 .ensures) (c .before .before .both3 .ensures) (c .before .below4 .ensures) (c .both4 .ensures)
+    (kind .match .keys4) (c .before .before .before .below4 .ensures) (c .before .before .both4 .ensures) (c .before .below5 .ensures) (c .both5 .ensures)
 
-returns-5 : tie.Need-returns-5
-returns-5 c =
+returns-6 : tie.Need-returns-6
+returns-6 c =
     let goes = c .before .before in
     let start = goes .before .before in
     exist-two (start .pre .0) (start .pre .1) (goes .if1 .left) (start .args .events) (start .args .tally) (c .before .two-below .ensures)
-    (c .match .rest .0 .0 .1) (c .match .rest .0 .1) (c .match .rest .1)
+    (c .match .rest .0 .0 .0 .1) (c .match .rest .0 .0 .1) (c .match .rest .0 .1) (c .match .rest .1)
 
 pub step-names-exist-spec : {M : Type 1} → statement M
 step-names-exist-spec =
@@ -115,7 +132,11 @@ step-names-exist-spec =
     add-below-4
     below-requires-4
     both-requires-4
+    add-below-5
+    below-requires-5
+    both-requires-5
     returns-2
     returns-3
     returns-4
-    returns-5)
+    returns-5
+    returns-6)

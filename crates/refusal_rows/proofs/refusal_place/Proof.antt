@@ -59,6 +59,9 @@ enum-known-x-15 c = search needs
 enum-known-x-16 : tie.Need-enum-known-x-16
 enum-known-x-16 c = search needs
 
+enum-known-x-17 : tie.Need-enum-known-x-17
+enum-known-x-17 c = search needs
+
 returns : tie.Need-returns
 returns c = sym (ap placeOf (c .before .x .given .1))
 
@@ -113,6 +116,9 @@ returns-17 c = sym (ap placeOf (c .before .x15 .given .1))
 returns-18 : tie.Need-returns-18
 returns-18 c = sym (ap placeOf (c .before .x16 .given .1))
 
+returns-19 : tie.Need-returns-19
+returns-19 c = sym (ap placeOf (c .before .x17 .given .1))
+
 pub refusal-place-spec : {M : Type 1} → statement M
 refusal-place-spec =
     tie.close
@@ -135,6 +141,7 @@ refusal-place-spec =
     enum-known-x-14
     enum-known-x-15
     enum-known-x-16
+    enum-known-x-17
     returns
     returns-2
     returns-3
@@ -152,4 +159,5 @@ refusal-place-spec =
     returns-15
     returns-16
     returns-17
-    returns-18)
+    returns-18
+    returns-19)

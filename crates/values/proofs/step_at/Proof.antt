@@ -77,24 +77,49 @@ returns-3 c =
       sym (read .before .before .byte-at .ensures) ∙ c .before .before .if3 .taken,
     )
 
+add-short-at-6 : tie.Need-add-short-at-6
+add-short-at-6 c = search needs
+
+short-at-requires-6 : tie.Need-short-at-requires-6
+short-at-requires-6 c κs = search needs
+
+add-byte-at-2 : tie.Need-add-byte-at-2
+add-byte-at-2 c = search needs
+
+byte-at-requires-3 : tie.Need-byte-at-requires-3
+byte-at-requires-3 c κs = search needs
+
 returns-4 : tie.Need-returns-4
 unfolding stepAt
 returns-4 c =
-    let read = c .before .before .before .before in
-    simp (read .before .short-at .ensures, sym (read .before .before .byte-at .ensures) ∙ c .if4 .taken)
+    let read = c .before .before .before .before .before .before in
+    simp (
+      read .before .short-at .ensures,
+      read .short-at2 .ensures,
+      c .before .short-at6 .ensures,
+      c .byte-at3 .ensures,
+      sym (read .before .before .byte-at .ensures) ∙ c .before .before .if4 .taken,
+    )
 
 returns-5 : tie.Need-returns-5
 unfolding stepAt
 returns-5 c =
-    let read = c .before .before .before .before in
+    let read = c .before .before .before .before .before in
+    simp (read .before .short-at .ensures, sym (read .before .before .byte-at .ensures) ∙ c .if5 .taken)
+
+returns-6 : tie.Need-returns-6
+unfolding stepAt
+returns-6 c =
+    let read = c .before .before .before .before .before in
     let is = read .before .before .byte-at .ensures in
     simp (
       read .before .short-at .ensures,
       read .short-at2 .ensures,
-      ne-eqb _ _ (λ e. c .before .before .before .if1 .left (is ∙ e)),
-      ne-eqb _ _ (λ e. c .before .before .if2 .left (is ∙ e)),
-      ne-eqb _ _ (λ e. c .before .if3 .left (is ∙ e)),
-      ne-eqb _ _ (λ e. c .if4 .left (is ∙ e)),
+      ne-eqb _ _ (λ e. c .before .before .before .before .if1 .left (is ∙ e)),
+      ne-eqb _ _ (λ e. c .before .before .before .if2 .left (is ∙ e)),
+      ne-eqb _ _ (λ e. c .before .before .if3 .left (is ∙ e)),
+      ne-eqb _ _ (λ e. c .before .if4 .left (is ∙ e)),
+      ne-eqb _ _ (λ e. c .if5 .left (is ∙ e)),
     )
 
 pub step-at-spec : {M : Type 1} → statement M
@@ -118,5 +143,10 @@ step-at-spec =
     add-short-at-5
     short-at-requires-5
     returns-3
+    add-short-at-6
+    short-at-requires-6
+    add-byte-at-2
+    byte-at-requires-3
     returns-4
-    returns-5)
+    returns-5
+    returns-6)

@@ -1,7 +1,7 @@
 -- The laws of the order, with what the functions that are called say of each test.
 use borrow.Author.Needs.{needs}
 use Rattle.format.proofs.Named.{starts-inside}
-use Rattle.names.proofs.Order.{seven, nine, eighteen, twenty-four, fits}
+use Rattle.names.proofs.Order.{seven, nine, eighteen, twenty-four, twenty-six, fits}
 use Rattle.names.proofs.judge.judge.Statement.{statement}
 use Rattle.names.proofs.judge.judge.Tie as tie
 
@@ -51,15 +51,32 @@ returns-4 c =
     (named .before .names-exist .ensures) (named .if1 .left) (first .before .before .is-primitive .ensures) (first .before .both .ensures) (first .if2 .left)
     (outcomes .before .outcomes-fit .ensures) (outcomes .if3 .left) (c .before .owners-fit .ensures) (c .if4 .taken)
 
+channel-fits-requires : tie.Need-channel-fits-requires
+channel-fits-requires c κs = starts-inside (c .before .before .before .before .before .before .before .before .before .before .before .before .pre)
+
 returns-5 : tie.Need-returns-5
 returns-5 c =
-    let outcomes = c .before .before in
+    let owners = c .before .before in
+    let outcomes = owners .before .before in
+    let first = outcomes .before .before in
+    let named = first .before .before .before in
+    let a = named .before .before .before .before .before .args in
+    twenty-six (a .events) (a .s .now) (a .at) (a .kind) (a .first) (a .tally) (a .points .now) (a .methods .now)
+    (named .before .names-exist .ensures) (named .if1 .left) (first .before .before .is-primitive .ensures) (first .before .both .ensures) (first .if2 .left)
+    (outcomes .before .outcomes-fit .ensures) (outcomes .if3 .left) (owners .before .owners-fit .ensures) (owners .if4 .left)
+    (c .before .channel-fits .ensures) (c .if5 .taken)
+
+returns-6 : tie.Need-returns-6
+returns-6 c =
+    let owners = c .before .before in
+    let outcomes = owners .before .before in
     let first = outcomes .before .before in
     let named = first .before .before .before in
     let a = named .before .before .before .before .before .args in
     fits (a .events) (a .s .now) (a .at) (a .kind) (a .first) (a .tally) (a .points .now) (a .methods .now)
     (named .before .names-exist .ensures) (named .if1 .left) (first .before .before .is-primitive .ensures) (first .before .both .ensures) (first .if2 .left)
-    (outcomes .before .outcomes-fit .ensures) (outcomes .if3 .left) (c .before .owners-fit .ensures) (c .if4 .left)
+    (outcomes .before .outcomes-fit .ensures) (outcomes .if3 .left) (owners .before .owners-fit .ensures) (owners .if4 .left)
+    (c .before .channel-fits .ensures) (c .if5 .left)
 
 pub judge-spec : {M : Type 1} → statement M
 judge-spec =
@@ -74,4 +91,6 @@ judge-spec =
     returns-3
     owners-fit-requires
     returns-4
-    returns-5)
+    channel-fits-requires
+    returns-5
+    returns-6)
