@@ -13,7 +13,7 @@ use Rattle.sheet.specs.Kind.{Role, symbol, a-pair, counts, edition, kindOf, sec
 use Rattle.sheet.specs.Record.{byteAt, recordAt}
 use Rattle.sheet.specs.Reading.{Opened, nothing, Reading, tally, startOf, inCondition, wrongItems, isLeaf, full, overLimit, refusalOf, openedPast, pastAt, ReadResult, refusal, ownersFrom}
 use Rattle.sheet_laws.proofs.Take.{next-lt}
-use Rattle.sheet_laws.proofs.Order.{is-4, is-19, is-20, is-5, is-6, all-named, is-9, is-18, is-24, four, five, six, takes}
+use Rattle.sheet_laws.proofs.Order.{is-4, is-19, is-20, is-5, is-6, all-named, is-9, is-18, is-24, is-26, four, five, six, takes}
 use Rattle.sheet_laws.proofs.Editions.{mark-late}
 use Rattle.format.specs.declared.Refusal.{Refusal}
 use Rattle.format.specs.declared.Refusal.the-variants.{WrongSection, Unfinished, EditionNotFirst}
@@ -31,7 +31,7 @@ use Rattle.sections.specs.declared.Section.the-variants.{Done, Refused}
 use Rattle.sections.specs.Sections.{Counts, Comes, Extended, Filled}
 use Rattle.sections.proofs.Comes.{ended, refuses, taken-on}
 use Rattle.sections.proofs.Counted.{at-is, counts-same, grown-same, closed, counts-more, grown-more}
-use Rattle.sections.proofs.Tests.{or-right, and-right, section-is, not-3, in-order, no-mark, no-stop, no-method, no-call, no-join}
+use Rattle.sections.proofs.Tests.{or-right, and-right, section-is, not-3, in-order, no-mark, no-stop, no-method, no-call, no-join, no-channel}
 
 -- what is open is what the code has begun, from the offset `start` on; if nothing is, the next condition would start here
 pub record Matches (o : Opened) (at start : ℕ) (b : Begun) : Type 0 where
@@ -172,6 +172,9 @@ module _ {M : Model} {s : List ℕ} {o : ReadResult} {r : Reading} {at start : �
         not-owned : is-24 M s at u ≡ false
         not-owned = no-join w u (λ e. omega (arith, one)) (λ e. omega (arith, one))
 
+        not-stray : is-26 M s at u ≡ false
+        not-stray = no-channel w u (λ e. omega (arith, one))
+
         -- what the step tells: the record's refusal, or what is open past the record
         abbrev Goes : Begun → Type 0
         Goes b′ = (refusalOf M s at u ≡ 0)
@@ -227,7 +230,7 @@ module _ {M : Model} {s : List ℕ} {o : ReadResult} {r : Reading} {at start : �
               (λ f. cond-by Tells (leafKind (byteAt s at) && leb leafLimit (b .leaves))
               (λ g. (six M s at u (w .not-2) (not-3 w u) not-4 not-19 not-20 (items-is ∙ e) (limit-is ∙ simp (f, g)), refl))
               (λ g. (
-                takes M s at u (w .not-2) (not-3 w u) not-4 not-19 not-20 (items-is ∙ e) (limit-is ∙ simp (f, g)) names no-first not-wrong not-owned,
+                takes M s at u (w .not-2) (not-3 w u) not-4 not-19 not-20 (items-is ∙ e) (limit-is ∙ simp (f, g)) names no-first not-wrong not-owned not-stray,
                 λ true-is. absurd (subst T (sym true-is ∙ ap countsOne role) tt),
                 λ false-is. subst (λ (x : Opened). Matches x q start next-begun) (sym opened-is) (more (omega (arith, ltb-false (b .items) (itemsOfKind (byteAt s at)) e, taken-is))),
               ))))
@@ -249,7 +252,7 @@ module _ {M : Model} {s : List ℕ} {o : ReadResult} {r : Reading} {at start : �
               (λ e. cond-by Tells (leb conditionLimit (countOf t 1))
               (λ f. (six M s at u (w .not-2) (not-3 w u) not-4 not-19 not-20 (one-item-is ∙ ap not e) (full-is ∙ f), refl))
               (λ f. (
-                takes M s at u (w .not-2) (not-3 w u) not-4 not-19 not-20 (one-item-is ∙ ap not e) (full-is ∙ f) names no-first not-wrong not-owned,
+                takes M s at u (w .not-2) (not-3 w u) not-4 not-19 not-20 (one-item-is ∙ ap not e) (full-is ∙ f) names no-first not-wrong not-owned not-stray,
                 λ true-is. (role, refl),
                 λ false-is. absurd (subst T (sym (ap countsOne role) ∙ false-is) tt),
               )))

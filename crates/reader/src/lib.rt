@@ -1,7 +1,7 @@
 // Reading a sheet: section after section, until the sheet is read whole or refused.
 ghost use Prim.Native.Nat.{_≤_};
 ghost use lib.ListN.{length};
-ghost use Rattle.sheet.specs.Model.{large, entry};
+ghost use Rattle.sheet.specs.Model.{entry};
 ghost use Rattle.kinds.specs.Kinds.{lastKind};
 ghost use Rattle.instrument.specs.Model.{modelOf, modelWith};
 ghost use Rattle.sections.specs.Sections.{addressable};
@@ -56,8 +56,8 @@ fn read_with(
     }
 }
 
-// The sheet, as an instrument takes it: whole, or the first refusal of 1 to 9, 18 to 20, 24 and 25. Each table ends with the offsets of what was read in its
-// front, also of a sheet that is refused. The table of points has room for the instrument's.
+// The sheet, as an instrument takes it: whole, or the first refusal of 1 to 9, 18 to 20 and 24 to 26. Each table ends with the offsets of what was read in
+// its front, also of a sheet that is refused. The table of points has room for the instrument's.
 pub fn read_sheet(
     instrument: Instrument,
     s: &[u8],
@@ -92,12 +92,12 @@ fn answer_with(instrument: Instrument, s: &[u8], points: &mut [u32]) -> Read
     )
 }
 
-// On the large instrument.
-fn read_large(s: &[u8]) -> Read
-    ensures { λ r. ⌜ Answered large (now (s .entry)) r ⌝ }
+// With a table for as many points as the largest instruments take.
+fn read_wide(instrument: Instrument, s: &[u8]) -> Read
+    ensures { λ r. ⌜ Answered (modelOf instrument) (now (s .entry)) r ⌝ }
 {
     let mut points: [u32; 512] = [0; 512];
-    answer_with(Instrument::Large, s, &mut points)
+    answer_with(instrument, s, &mut points)
 }
 
 // On the entry instrument.
@@ -113,7 +113,8 @@ pub fn read_on(instrument: Instrument, s: &[u8]) -> Read
     ensures { λ r. ⌜ Answered (modelOf instrument) (now (s .entry)) r ⌝ }
 {
     match instrument {
-        Instrument::Large => read_large(s),
+        Instrument::Large => read_wide(instrument, s),
         Instrument::Entry => read_entry(s),
+        Instrument::Four => read_wide(instrument, s),
     }
 }

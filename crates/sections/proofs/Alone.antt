@@ -11,7 +11,7 @@ use Rattle.sheet.specs.Model.{Model}
 use Rattle.sheet.specs.Kind.{Role, symbol, a-pair, counts, edition, kindOf, sectionOf}
 use Rattle.sheet.specs.Record.{byteAt, recordAt}
 use Rattle.sheet.specs.Reading.{Opened, Counted, Reading, tally, startOf, startsOf, wrongItems, full, overLimit, inCondition, allExist, refusalOf, pastAt, ReadResult}
-use Rattle.sheet_laws.proofs.Order.{is-4, is-19, is-20, is-5, is-6, all-named, is-9, is-18, is-24, twenty, six, seven, nine, eighteen, twenty-four, takes}
+use Rattle.sheet_laws.proofs.Order.{is-4, is-19, is-20, is-5, is-6, all-named, is-9, is-18, is-24, is-26, twenty, six, seven, nine, eighteen, twenty-four, twenty-six, takes}
 use Rattle.format.specs.declared.Refusal.{Refusal}
 use Rattle.format.specs.declared.Refusal.the-variants.{WrongSection, StopInOldSheet, OverLimit}
 use Rattle.kinds.specs.Kinds.{primitiveKind}
@@ -27,15 +27,16 @@ use Rattle.names.specs.declared.judge.Judged.{Judged}
 use Rattle.names.specs.declared.judge.Judged.the-variants.{Fits}
 use Rattle.names.specs.declared.judge.Judged.the-variants as judged
 use Rattle.names.specs.Outcomes.{wrongOutcomesAt}
+use Rattle.names.specs.Channels.{wrongChannelAt}
 use Rattle.names.specs.Judge.{judgedAt}
 use Rattle.sections.specs.declared.Section.{Section}
 use Rattle.sections.specs.declared.Section.the-variants.{Done, Refused}
-use Rattle.sections.specs.Sections.{Counts, Between, Told, overwrittenFrom, Extended, Filled, NamedListed, Alone}
+use Rattle.sections.specs.Sections.{Counts, Between, Told, overwrittenFrom, Extended, Listed, Filled, NamedListed, Alone}
 use Rattle.sections.proofs.Comes.{refuses, taken-on}
 use Rattle.sections.proofs.Overwritten.{none-written}
 use Rattle.sections.proofs.Counted.{closed, counts-more, grown-more}
 use Rattle.sections.proofs.Listed.{listed-more, still-listed}
-use Rattle.sections.proofs.Outcomes.{outcomes-are}
+use Rattle.sections.proofs.Called.{outcomes-are, channels-are}
 use Rattle.sections.proofs.Owners.{owners-are}
 use Rattle.sections.proofs.Tests.{and-left, and-right, section-is, not-3, early, in-order, no-mark, stop-is, names-are, primitive-is}
 
@@ -192,10 +193,14 @@ module _ {l : Limits} {s : List ℕ} {o : ReadResult} {k at limit : ℕ} {t : Ta
                 go false e = sym (and-right (eqb (countOf t k) (countOf t₀ k)) false refl)
 
             module _ (names : all-named M s at u ≡ true) where
+              methods-listed : sectionOf (byteAt s at) ≡ 4 → Listed s ms 3 u
+              methods-listed e = still-listed s ms 3 (h .grown) (λ f. omega (arith, here)) (named .methods-listed (sym here ∙ e))
+
               outcomes-is : is-18 M s at u ≡ wrongOutcomesAt s at kind ms
-              outcomes-is =
-                  outcomes-are (l .events) s at u (subst T (sym names) tt) ms
-                  (λ e. still-listed s ms 3 (h .grown) (λ f. omega (arith, here)) (named .methods-listed (sym here ∙ e))) (w .kind)
+              outcomes-is = outcomes-are (l .events) s at u (subst T (sym names) tt) ms methods-listed (w .kind)
+
+              channels-is : is-26 M s at u ≡ wrongChannelAt s at kind ms
+              channels-is = channels-are (l .events) s at u (subst T (sym names) tt) ms methods-listed (w .kind)
 
               owners-is : is-24 M s at u ≡ not (ownersFit s at kind (t .methods) ps)
               owners-is =
@@ -210,7 +215,7 @@ module _ {l : Limits} {s : List ℕ} {o : ReadResult} {k at limit : ℕ} {t : Ta
             Judges Fits = refusalOf M s at u ≡ 0
             Judges (judged.Refused x) = Refuses M s at u x
 
-            -- 7, 9, 18 and 24
+            -- 7, 9, 18, 24 and 26
             judges : Judges (judgedAt (l .events) s at kind (eqb (countOf t k) (countOf t₀ k)) t ps ms)
             judges =
                 let exist = allExist (l .events) (countOf t) (kindOf kind .fields) (recordAt s at .values) in
@@ -227,8 +232,14 @@ module _ {l : Limits} {s : List ℕ} {o : ReadResult} {k at limit : ℕ} {t : Ta
                       (owners-is names ∙ i),
                   refl,
                 ))
-                (λ i. takes M s at u (w .not-2) (not-3 w u) not-4 not-19 not-20 not-5 under names (first-is ∙ f) (outcomes-is names ∙ g)
-                (owners-is names ∙ i)))))
+                (λ i. cond-by Judges (wrongChannelAt s at kind ms)
+                (λ j. (
+                  twenty-six M s at u (w .not-2) (not-3 w u) not-4 not-19 not-20 not-5 under names (first-is ∙ f) (outcomes-is names ∙ g)
+                      (owners-is names ∙ i) (channels-is names ∙ j),
+                  refl,
+                ))
+                (λ j. takes M s at u (w .not-2) (not-3 w u) not-4 not-19 not-20 not-5 under names (first-is ∙ f) (outcomes-is names ∙ g)
+                (owners-is names ∙ i) (channels-is names ∙ j))))))
 
             module _ {n n₀ : ℕ} {j : Judged} (n-is : n ≡ countOf t k) (n₀-is : n₀ ≡ countOf t₀ k)
                 (is : j ≡ judgedAt (l .events) s at kind (eqb n n₀) t ps ms) where

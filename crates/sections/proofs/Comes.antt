@@ -12,7 +12,7 @@ use Rattle.sheet.specs.Reading.{Reading, refusalOf, pastAt, ReadResult, refusal
 use Rattle.sheet_laws.proofs.Take.{next-lt}
 use Rattle.sheet_laws.proofs.ReadOn.{afterRecord, on-end, on-record, from-is}
 use Rattle.format.specs.declared.Refusal.{Refusal}
-use Rattle.format.specs.declared.Refusal.the-variants.{TooLong, UnknownKind, BodyPastEnd, WrongSection, WrongItems, OverLimit, UnknownName, Unfinished, NoFirstBody, CertificateCount, WordTooLong, StrayEvent, NoSuchCondition, WrongOutcomes, EditionNotFirst, StopInOldSheet, WrongOwner, UnknownOwner}
+use Rattle.format.specs.declared.Refusal.the-variants.{TooLong, UnknownKind, BodyPastEnd, WrongSection, WrongItems, OverLimit, UnknownName, Unfinished, NoFirstBody, CertificateCount, WordTooLong, StrayEvent, NoSuchCondition, WrongOutcomes, EditionNotFirst, StopInOldSheet, WrongOwner, UnknownOwner, WrongChannel}
 use Rattle.format.specs.Refusal.{numberOf}
 use Rattle.format.proofs.Laws.{Stood, Refuses}
 use Rattle.sections.specs.Sections.{Ends, Comes}
@@ -51,6 +51,7 @@ numbered (EditionNotFirst p) = refl
 numbered (StopInOldSheet p) = refl
 numbered (WrongOwner p) = refl
 numbered (UnknownOwner p) = refl
+numbered (WrongChannel p) = refl
 
 module _ {M : Model} {s : List ℕ} {o : ReadResult} {at : ℕ} {r : Reading} (c : Comes M s o at r) where
   -- no record is left

@@ -29,7 +29,7 @@ use Rattle.sections.specs.declared.Read.the-variants.{Refused}
 use Rattle.sections.specs.Sections.{Counts, Comes, Told, Answers, wholeUnless, endOf, Concluded, FirstSheet}
 use Rattle.sections.proofs.Comes.{ended, refuses, taken-on}
 use Rattle.sections.proofs.Counted.{at-is, own-same, counts-same, closed, others, starts, counts-more}
-use Rattle.sections.proofs.Tests.{and-left, section-is, not-3, early, in-order, no-mark, no-stop, no-method, no-call, no-join}
+use Rattle.sections.proofs.Tests.{and-left, section-is, not-3, early, in-order, no-mark, no-stop, no-method, no-call, no-join, no-channel}
 use Rattle.sections.proofs.Listed.{Leads}
 use Rattle.sections.proofs.Owners.{ownersTold, strays-are}
 
@@ -113,7 +113,7 @@ module _ {M : Model} {s : List ℕ} {o : ReadResult} {r : Reading} {from at : �
             takes M s at u (w .not-2) (not-3 w u) not-4 (no-mark w u (λ e. omega (arith, ap sectionOf e, same))) (no-stop w u (λ e. omega (arith, ap sectionOf e, same)))
             (no-limit .0) (no-limit .1)
             (names-nothing (M .events) (tally u) (byteAt s at) (λ low high. omega (arith, here)) (recordAt s at .values)) (no-method w u (λ e. omega (arith, same)))
-            (no-call w u (λ e. omega (arith, same))) (no-join w u (λ e. omega (arith, same)) (λ e. omega (arith, same)))
+            (no-call w u (λ e. omega (arith, same))) (no-join w u (λ e. omega (arith, same)) (λ e. omega (arith, same))) (no-channel w u (λ e. omega (arith, same)))
 
         beyond : Comes M s o q (pastAt s at u)
         beyond = taken-on (h .comes) before w taken

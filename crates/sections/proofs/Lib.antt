@@ -2,7 +2,7 @@ pub mod Overwritten
 pub mod Comes
 pub mod Counted
 pub mod Listed
-pub mod Outcomes
+pub mod Called
 pub mod Owners
 pub mod Tests
 pub mod Alone

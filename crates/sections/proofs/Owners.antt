@@ -1,6 +1,6 @@
 -- 24 and 25 by the table of points: where every name exists, and the table leads to the records of the points, the code's tests are the definition's.
 use mathlib.Core.Path.{_≡_, refl, sym, ap, _∙_}
-use mathlib.Core.Bool.{Bool, true, false, not, cond}
+use mathlib.Core.Bool.{Bool, true, false, not, cond, _&&_}
 use mathlib.Core.Option.{Option, none, some}
 use mathlib.Core.List.{List, [], _∷_}
 use Prim.Native.Nat.{ℕ, _+_, _<_}
@@ -15,8 +15,8 @@ use Rattle.sheet.specs.Reading.{Counted, Reading, tally, allExist, ownerOf, own
 use Rattle.sheet_laws.specs.AtOffset.{shortAt, ownerAt}
 use Rattle.sheet_laws.proofs.Fields.{owner-value, names-then}
 use Rattle.sheet_laws.proofs.Owners.{named-owners}
-use Rattle.kinds.proofs.Table.{by-rows}
-use Rattle.sheet.proofs.Kind.{_and_}
+use Rattle.kinds.proofs.Table.{not-body}
+use Rattle.owners.proofs.Joined.{none-joined}
 use Rattle.owners.specs.Owners.{ownerListed, ownersFit, strayIn}
 use Rattle.sections.specs.Sections.{Listed}
 use Rattle.sections.proofs.Counted.{at-is}
@@ -47,48 +47,32 @@ listed-owner s table u listed p l =
     let (inside, is) = listed p l in
     ap ownerIn is ∙ owner-is s (getD table p 0) ∙ sym (ap (λ (b : Bool). cond b (ownerAt s (getD table p 0)) none) (lt-ltb p (length table) inside))
 
--- no record but a method's and a step's joins points
-pub none-joined : (s : List ℕ) (i number : ℕ) (owner : ℕ → Option ℕ) (k : ℕ) → (sectionOf k ≡ methods → ⊥) → (sectionOf k ≡ steps → ⊥)
-    → ownersJoined number owner (kindOf k) (valuesAt s i (kindOf k .fields)) ≡ []
-unfolding valuesAt
-none-joined s i number owner =
-    by-rows (λ k x. (x .section ≡ methods → ⊥) → (x .section ≡ steps → ⊥) → ownersJoined number owner x (valuesAt s i (x .fields)) ≡ [])
-    (nothing and nothing and nothing and nothing and nothing and nothing and nothing and nothing and a-method and a-method and a-step and a-step and a-step
-    and nothing and nothing and a-method and a-method and a-step and nothing and a-step and nothing and (λ j. nothing))
-  where
-    nothing : {A B : Type 0} → A → B → _≡_ {A = List (Option ℕ)} [] []
-    nothing no-method no-step = refl
-
-    a-method : {A B : Type 0} → (_≡_ {A = ℕ} 3 3 → ⊥) → A → B
-    a-method no-method no-step = absurd (no-method refl)
-
-    a-step : {A B : Type 0} → A → (_≡_ {A = ℕ} 4 4 → ⊥) → B
-    a-step no-method no-step = absurd (no-step refl)
-
 -- the code's test, of a record of points, methods or steps
 module _ (events : ℕ) (s table : List ℕ) (u : Reading) (at : ℕ) {kind number : ℕ} (is : byteAt s at ≡ kind) (counted : tally u methods ≡ number)
     (names : T (allExist events (tally u) (kindOf (byteAt s at) .fields) (recordAt s at .values)))
     (listed : (sectionOf (byteAt s at) ≡ points → ⊥) → Listed s table points u) where
-  abbrev Joined : (ℕ → Option ℕ) → List (Option ℕ)
-  Joined owner = ownersJoined number owner (kindOf (byteAt s at)) (recordAt s at .values)
+  abbrev Joined : (ℕ → Option ℕ) → Bool
+  Joined owner = allAgree (ownersJoined number owner (kindOf (byteAt s at)) (recordAt s at .values))
 
-  of-a-point : sectionOf (byteAt s at) ≡ points → (owner : ℕ → Option ℕ) → Joined owner ≡ []
+  of-a-point : sectionOf (byteAt s at) ≡ points → (owner : ℕ → Option ℕ) → Joined owner ≡ true
   unfolding recordAt
-  of-a-point point owner = none-joined s (at + 1) number owner (byteAt s at) (λ e. omega (arith, point)) (λ e. omega (arith, point))
+  of-a-point point owner =
+      none-joined s (at + 1) number owner (byteAt s at) (not-body (byteAt s at) (λ e. omega (arith, point)))
+      (ap (λ (k : ℕ). eqb k steps && not (eqb (byteAt s at) 19)) point)
 
   joined-are : (b : Bool) → eqb (sectionOf (byteAt s at)) points ≡ b → Joined (pointOwner u) ≡ Joined (ownerListed s table)
   joined-are true e =
       let point = eqb-true (sectionOf (byteAt s at)) points e in
       of-a-point point (pointOwner u) ∙ sym (of-a-point point (ownerListed s table))
   joined-are false e =
-      ap (λ (owners : List (Option ℕ)). (some number ∷ owners) when eqb (sectionOf (byteAt s at)) methods else owners)
+      ap (λ (owners : List (Option ℕ)). allAgree ((some number ∷ owners) when eqb (sectionOf (byteAt s at)) methods else owners))
       (named-owners events u (ownerListed s table) (listed-owner s table u (listed (eqb-false (sectionOf (byteAt s at)) points e)))
       (kindOf (byteAt s at) .fields) (recordAt s at .values) names)
 
   pub owners-are : wrongOwner u (kindOf (byteAt s at)) (recordAt s at) ≡ not (ownersFit s at kind number table)
   owners-are =
       ap (λ (n : ℕ). not (allAgree (ownersJoined n (pointOwner u) (kindOf (byteAt s at)) (recordAt s at .values)))) counted
-      ∙ ap (λ (owners : List (Option ℕ)). not (allAgree owners)) (joined-are (eqb (sectionOf (byteAt s at)) points) refl)
+      ∙ ap not (joined-are (eqb (sectionOf (byteAt s at)) points) refl)
       ∙ ap (λ (k : ℕ). not (ownersFit s at k number table)) is
 
 -- 25 --------------------------------------------------------------------------------------------------------------------

@@ -1,7 +1,6 @@
 -- The tests of a record that stands where reading has come to: what each refusal asks, in the code's terms.
 use mathlib.Core.Path.{_≡_, refl, sym, ap, _∙_, subst}
 use mathlib.Core.Bool.{Bool, true, false, not, cond, _&&_, _||_}
-use mathlib.Core.Option.{Option}
 use mathlib.Core.List.{List}
 use Prim.Native.Nat.{ℕ, _+_, _≤_, _<_}
 use native.Mathlib.Omega.{arith, by-contra}
@@ -11,18 +10,19 @@ use borrow.Author.Tests.{lt-ltb, le-ltb, ne-eqb}
 use Rattle.sheet.specs.Model.{Model}
 use Rattle.sheet.specs.Kind.{kindOf, sectionOf}
 use Rattle.sheet.specs.Record.{byteAt, recordAt, nextAt}
-use Rattle.sheet.specs.Reading.{Reading, tally, inCondition, isNew, allExist, isPrimitive, pointOwner, allAgree}
-use Rattle.sheet_laws.proofs.Order.{is-3, is-4, is-19, is-20, all-named, is-9, is-18, is-24, four}
+use Rattle.sheet.specs.Reading.{Reading, tally, inCondition, isNew, allExist, isPrimitive, pointOwner}
+use Rattle.sheet_laws.proofs.Order.{is-3, is-4, is-19, is-20, all-named, is-9, is-18, is-24, is-26, four}
 use Rattle.sheet_laws.proofs.Outcomes.{never-wrong}
 use Rattle.format.specs.declared.Refusal.the-variants.{WrongSection}
 use Rattle.kinds.specs.Kinds.{primitiveKind}
-use Rattle.kinds.proofs.Table.{not-primitive}
+use Rattle.kinds.proofs.Table.{not-primitive, not-body}
 use Rattle.format.proofs.Laws.{kind-there, Stood, Refuses}
 use Rattle.tally.specs.declared.Tally.{Tally}
 use Rattle.tally.specs.Tally.{countOf}
 use Rattle.refusals.specs.Editions.{stopFits}
 use Rattle.sections.specs.Sections.{Counts}
-use Rattle.sections.proofs.Owners.{none-joined}
+use Rattle.sections.proofs.Called.{never-stray}
+use Rattle.owners.proofs.Joined.{none-joined}
 
 pub or-left : (a b : Bool) → a ≡ true → (a || b) ≡ true
 or-left true b e = refl
@@ -95,16 +95,22 @@ module _ {M : Model} {s : List ℕ} {at kind q : ℕ} (w : Stood M s at kind q) 
     no-method ne =
         and-left (isPrimitive (recordAt s at)) (eqb (length (u .own 3)) 0) (primitive-is ∙ not-primitive kind ne)
 
+    -- of a kind of steps, if it is no step
+    no-step : (sectionOf kind ≡ 4 → ⊥) → (k : ℕ) → sectionOf k ≡ 4 → eqb (byteAt s at) k ≡ false
+    no-step ne k step = ne-eqb (byteAt s at) k (λ (e : byteAt s at ≡ k). ne (sym section-is ∙ ap sectionOf e ∙ step))
+
     -- not 18: no step
     pub no-call : (sectionOf kind ≡ 4 → ⊥) → is-18 M s at u ≡ false
-    no-call ne = never-wrong s at u (ne-eqb (byteAt s at) 11 (other 11 refl)) (ne-eqb (byteAt s at) 17 (other 17 refl))
-      where
-        other : (k : ℕ) → sectionOf k ≡ 4 → byteAt s at ≡ k → ⊥
-        other k step e = ne (sym section-is ∙ ap sectionOf e ∙ step)
+    no-call ne = never-wrong s at u (no-step ne 11 refl) (no-step ne 17 refl)
 
     -- not 24: no method and no step
     pub no-join : (sectionOf kind ≡ 3 → ⊥) → (sectionOf kind ≡ 4 → ⊥) → is-24 M s at u ≡ false
     unfolding recordAt
     no-join no-method no-step =
-        ap (λ (owners : List (Option ℕ)). not (allAgree owners))
-        (none-joined s (at + 1) (tally u 3) (pointOwner u) (byteAt s at) (λ e. no-method (sym section-is ∙ e)) (λ e. no-step (sym section-is ∙ e)))
+        ap not
+        (none-joined s (at + 1) (tally u 3) (pointOwner u) (byteAt s at) (not-body (byteAt s at) (λ e. no-method (sym section-is ∙ e)))
+        (and-left (eqb (sectionOf (byteAt s at)) 4) _ (ne-eqb (sectionOf (byteAt s at)) 4 (λ (e : sectionOf (byteAt s at) ≡ 4). no-step (sym section-is ∙ e)))))
+
+    -- not 26: no step
+    pub no-channel : (sectionOf kind ≡ 4 → ⊥) → is-26 M s at u ≡ false
+    no-channel ne = never-stray s at u (no-step ne 22 refl)

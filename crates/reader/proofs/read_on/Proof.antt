@@ -9,8 +9,8 @@ use Rattle.reader.proofs.read_on.Tie as tie
 enum-told : tie.Need-enum-told
 enum-told c = search needs
 
-read-large-requires : tie.Need-read-large-requires
-read-large-requires c κs = search needs
+read-wide-requires : tie.Need-read-wide-requires
+read-wide-requires c κs = search needs
 
 enum-told-2 : tie.Need-enum-told-2
 enum-told-2 c = search needs
@@ -18,23 +18,33 @@ enum-told-2 c = search needs
 read-entry-requires : tie.Need-read-entry-requires
 read-entry-requires c κs = search needs
 
+enum-told-3 : tie.Need-enum-told-3
+enum-told-3 c = search needs
+
+read-wide-requires-2 : tie.Need-read-wide-requires-2
+read-wide-requires-2 c κs = search needs
+
 returns : tie.Need-returns
-returns c =
-    subst (λ (i : Instrument). Answered (modelOf i) (c .before .before .before .before .args .s .now) (c .read-large .result))
-    (sym (c .before .enum-told .given .1)) (c .read-large .ensures)
+returns c = search needs
 
 returns-2 : tie.Need-returns-2
 returns-2 c =
     subst (λ (i : Instrument). Answered (modelOf i) (c .before .before .before .before .args .s .now) (c .read-entry .result))
     (sym (c .before .enum-told2 .given .1)) (c .read-entry .ensures)
 
+returns-3 : tie.Need-returns-3
+returns-3 c = search needs
+
 pub read-on-spec : {M : Type 1} → statement M
 read-on-spec =
     tie.close
     (tie.spec
     enum-told
-    read-large-requires
+    read-wide-requires
     enum-told-2
     read-entry-requires
+    enum-told-3
+    read-wide-requires-2
     returns
-    returns-2)
+    returns-2
+    returns-3)
