@@ -1,10 +1,11 @@
 -- The rule that a claim of the code stands for, and the claims of a list of rules by their numbers.
-use Prim.Native.Nat.{ℕ, suc}
+use Prim.Native.Nat.{ℕ, suc, _≤_}
 use mathlib.Core.Path.{_≡_}
 use mathlib.Core.Option.{Option, none, some}
 use mathlib.Core.List.{List, [], _∷_}
 use lib.ListN.{drop}
 use Rattle.condition.specs.Condition.{Condition, join}
+use Rattle.sheet.specs.Reading.{lastChannel}
 use Rattle.runs.specs.Rules as runs
 use Rattle.runs.specs.Rules.{_isIn_, holdsEmpty}
 use Rattle.postfix.specs.declared.Part.{Part}
@@ -92,3 +93,8 @@ thenRaised a (some t) = join a t
 abbrev pub raisedThen : Option Condition → Condition → Condition
 raisedThen none a = a
 raisedThen (some t) a = join t a
+
+-- the channel on which a call reads what its method declares, as the code has it: 0 where the call names none
+abbrev pub ChannelIs : Option ℕ → ℕ → Type 0
+ChannelIs none k = k ≡ 0
+ChannelIs (some c) k = (k ≡ c) × (c ≤ lastChannel)

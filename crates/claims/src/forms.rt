@@ -1,12 +1,14 @@
-// The forms of the claims: a word of a condition with what is raised behind it or ahead of it, one condition in another, the empty word.
+// The forms of the claims: a word of a condition with what is raised behind it or ahead of it, one condition in another, the empty word; and a condition
+// as a call reads it.
 ghost use mathlib.Core.List.{List};
 ghost use mathlib.Core.Option.{Option};
 ghost use Prim.Native.Nat.{ℕ};
 ghost use Rattle.condition.specs.Condition.{Condition};
-ghost use Rattle.postfix.specs.Parts.{StandsAt};
+ghost use Rattle.sheet.specs.Sheet.{onChannel};
+ghost use Rattle.postfix.specs.Parts.{StandsAt, PartIs};
 ghost use Rattle.runs.specs.Rules as runs;
 ghost use Rattle.runs.specs.Rules.{_isIn_};
-ghost use Rattle.claims.specs.Claims.{_says_, Asks, RaisedIs, thenRaised, raisedThen};
+ghost use Rattle.claims.specs.Claims.{_says_, Asks, RaisedIs, thenRaised, raisedThen, ChannelIs};
 use crate::Asked;
 use crate::Claim;
 use crate::Left;
@@ -47,11 +49,29 @@ pub fn backward(rule: Rule, raised: Raised, after: u32, before: u32) -> Asked
     Asked::Claim(Claim::Inclusion { rule, left, right })
 }
 
+// The condition at an offset, as a call reads it: on channel 0 it is as it is.
+pub fn on_channel(at: u32, channel: u32) -> Part
+    ensures { λ x. ⌜ ((s : List ℕ) (r : Condition) (o : Option ℕ) → StandsAt s at r → ChannelIs o channel → PartIs s x (onChannel o r)) ⌝ }
+{
+    if channel == 0 {
+        return Part::Condition(at as usize);
+    }
+    Part::Exchanged { at, channel }
+}
+
+// The words of a condition are in a part.
+pub fn within(rule: Rule, left: u32, right: Part) -> Asked
+    ensures { λ r. ⌜ ((s : List ℕ) (a b : Condition) → StandsAt s left a → PartIs s right b → Asks s r (rule says a isIn b)) ⌝ }
+{
+    let left = Left::One(Part::Condition(left as usize));
+    Asked::Claim(Claim::Inclusion { rule, left, right })
+}
+
 // The words of a condition are in another.
 pub fn inclusion(rule: Rule, left: u32, right: u32) -> Asked
     ensures { λ r. ⌜ ((s : List ℕ) (a b : Condition) → StandsAt s left a → StandsAt s right b → Asks s r (rule says a isIn b)) ⌝ }
 {
-    forward(rule, left, Raised::Nothing, right)
+    within(rule, left, Part::Condition(right as usize))
 }
 
 // A condition holds the empty word.

@@ -11,7 +11,7 @@ use Rattle.sheet.specs.Each.{Each}
 use Rattle.sheet.specs.Model.{stepLimit}
 use Rattle.sheet.specs.Sheet.{Outcome, normal, failed, Point, Declared, Body, Method, Step, Sheet, isSome, conditionNamed, declaredFor, declaredIn, bodyIn, body, entryIn}
 use Rattle.sheet_laws.specs.AtOffset.{methodAt, stepAt}
-use Rattle.sheet_laws.specs.Names.{PointNamed, BodyNamed, DeclaredNamed, MethodNamed, StepNamed, TargetsFit, EventBelow}
+use Rattle.sheet_laws.specs.Names.{PointNamed, BodyNamed, DeclaredNamed, MethodNamed, StepNamed, TargetsFit, StepOnChannel, EventBelow}
 use Rattle.sheet.proofs.Each.{each-get}
 use Rattle.runs.specs.Rules.{entryAsked}
 use Rattle.index.specs.Indexed.{Indexes, ConditionIn, PointIn, DeclaredIn, MethodIn, FailedIn, CalledIn}
@@ -117,12 +117,15 @@ module _ {S : Sheet} {s conditions points methods steps : List ℕ} (x : Indexes
     pub step-is : getElem? (S .steps) i ≡ some (stepAt s (getD steps i 0))
     step-is = x .steps-tabled .is i l
 
-    -- its names exist, its target and its event fit
+    -- its names exist, its target, its channel and its event fit
     pub step-named : (t : Step) → stepAt s (getD steps i 0) ≡ t → StepNamed (length (S .points)) (length (S .methods)) t
     step-named t e = each-some (StepNamed (length (S .points)) (length (S .methods))) (x .names-exist .steps-named) i t (step-is ∙ ap (λ (t : Step). some t) e)
 
     pub target-fits : (t : Step) → stepAt s (getD steps i 0) ≡ t → TargetsFit S t
     target-fits t e = each-some (TargetsFit S) (x .outcomes-fit .targets-fit) i t (step-is ∙ ap (λ (t : Step). some t) e)
+
+    pub channel-fits : (t : Step) → stepAt s (getD steps i 0) ≡ t → StepOnChannel S t
+    channel-fits t e = each-some (StepOnChannel S) (x .channels-fit) i t (step-is ∙ ap (λ (t : Step). some t) e)
 
     pub event-fits : (t : Step) → stepAt s (getD steps i 0) ≡ t → EventBelow 64 t
     event-fits t e = each-some (EventBelow 64) (x .events-fit) i t (step-is ∙ ap (λ (t : Step). some t) e)

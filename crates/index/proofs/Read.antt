@@ -12,6 +12,7 @@ use Rattle.sheet.specs.Decode.{sheetOf}
 use Rattle.sheet_laws.specs.Names.{HasBody, EventBelow}
 use Rattle.sheet.proofs.Each.{each-map}
 use Rattle.sheet_laws.proofs.Located.{Found, Located, located}
+use Rattle.sheet_laws.proofs.Channels.{channels-fit}
 use Rattle.index.specs.Indexed.{Tabled, ConditionsIn, Indexes}
 
 -- a table has these offsets, and behind them whatever it has
@@ -66,6 +67,7 @@ module _ (M : Model) (s : List ℕ) (r : Reading) (h : readSheet M s ≡ whole r
         steps-tabled = tabled _ s _ t (x .steps-counted) (x .few-steps) (x .step-found);
         names-exist = x .names;
         outcomes-fit = x .outcomes;
+        channels-fit = channels-fit M s r h;
         events-fit = each-map (fits (M .events) events) (x .events);
         a-method = has-one (sheetOf M s .methods) (x .first);
         edition-is = x .edition;

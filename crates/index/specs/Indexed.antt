@@ -10,7 +10,7 @@ use Rattle.sheet.specs.Model.{conditionLimit, methodLimit, stepLimit}
 use Rattle.sheet_laws.specs.AtOffset.{pointAt, methodAt, stepAt}
 use Rattle.sheet.specs.Reading.{isNew}
 use Rattle.sheet.specs.Sheet.{Outcome, normal, failed, Declared, Sheet, condition, past, own, due, pre, trace, future}
-use Rattle.sheet_laws.specs.Names.{NamesExist, OutcomesFit, EventBelow}
+use Rattle.sheet_laws.specs.Names.{NamesExist, OutcomesFit, ChannelsFit, EventBelow}
 use Rattle.postfix.specs.Parts.{StandsAt}
 use Rattle.index.specs.declared.PointConditions.{PointConditions}
 use Rattle.index.specs.declared.OutcomeConditions.{OutcomeConditions}
@@ -34,7 +34,7 @@ pub record ConditionIn (s conditions : List ℕ) (c : ℕ) (r : Condition) : Typ
 abbrev pub ConditionsIn : Sheet → (s conditions : List ℕ) → Type 0
 ConditionsIn S s conditions = (c : ℕ) → c < length (S .conditions) → ConditionIn s conditions c (condition S c)
 
--- the tables lead to the sheet S in the bytes s; its names exist, its outcomes and events fit, it has a method, and the bytes tell its edition
+-- the tables lead to the sheet S in the bytes s; its names exist, its outcomes, channels and events fit, it has a method, and the bytes tell its edition
 pub record Indexes (S : Sheet) (s conditions points methods steps : List ℕ) : Type 0 where
   pub conditions-in : ConditionsIn S s conditions
   pub points-tabled : Tabled pointAt s (length points) points (S .points)
@@ -42,6 +42,7 @@ pub record Indexes (S : Sheet) (s conditions points methods steps : List ℕ) : 
   pub steps-tabled : Tabled stepAt s stepLimit steps (S .steps)
   pub names-exist : NamesExist S
   pub outcomes-fit : OutcomesFit S
+  pub channels-fit : ChannelsFit S
   pub events-fit : Each (EventBelow 64) (S .steps)
   pub a-method : 0 < length (S .methods)
   pub edition-is : S .new ≡ isNew s

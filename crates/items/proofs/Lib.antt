@@ -1,3 +1,4 @@
 pub mod Behind
 pub mod Items
 pub mod Turns
+pub mod Channels

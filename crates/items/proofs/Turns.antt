@@ -35,12 +35,12 @@ turned-none room rows = record { room = room; rows = rows; turned = λ rs rs′ 
 
 -- Tables that agree at the first d items and the first m leaves ---------------------------------------------------------
 
-record Agree (N N′ : List Bool) (A A′ L L′ F F′ S S′ : List ℕ) (d m : ℕ) : Type 0 where
-  nulls : (k : ℕ) → k < d → getD N′ k false ≡ getD N k false
-  firsts : (k : ℕ) → k < d → getD A′ k 0 ≡ getD A k 0
-  lasts : (k : ℕ) → k < d → getD L′ k 0 ≡ getD L k 0
-  rows : (p : ℕ) → p ≤ m → getD F′ p 0 ≡ getD F p 0
-  sets : (p : ℕ) → p ≤ m → getD S′ p 0 ≡ getD S p 0
+pub record Agree (N N′ : List Bool) (A A′ L L′ F F′ S S′ : List ℕ) (d m : ℕ) : Type 0 where
+  pub nulls : (k : ℕ) → k < d → getD N′ k false ≡ getD N k false
+  pub firsts : (k : ℕ) → k < d → getD A′ k 0 ≡ getD A k 0
+  pub lasts : (k : ℕ) → k < d → getD L′ k 0 ≡ getD L k 0
+  pub rows : (p : ℕ) → p ≤ m → getD F′ p 0 ≡ getD F p 0
+  pub sets : (p : ℕ) → p ≤ m → getD S′ p 0 ≡ getD S p 0
 
 module _ {N N′ : List Bool} {A A′ L L′ F F′ S S′ : List ℕ} where
   fewer : {d d′ m m′ : ℕ} → d′ ≤ d → m′ ≤ m → Agree N N′ A A′ L L′ F F′ S S′ d m → Agree N N′ A A′ L L′ F F′ S S′ d′ m′
@@ -52,7 +52,7 @@ module _ {N N′ : List Bool} {A A′ L L′ F F′ S S′ : List ℕ} where
     sets = λ p l. g .sets p (omega arith);
   }
 
-  agree : {d m : ℕ} {rs : List Condition} → Agree N N′ A A′ L L′ F F′ S S′ d m → Stacked N A L F S d m rs → Stacked N′ A′ L′ F′ S′ d m rs
+  pub agree : {d m : ℕ} {rs : List Condition} → Agree N N′ A A′ L L′ F F′ S S′ d m → Stacked N A L F S d m rs → Stacked N′ A′ L′ F′ S′ d m rs
   agree g (bottom e f) = bottom e f
   agree g (above {d} {m} t e f i w) =
       above (agree (fewer (omega arith) (omega arith) g) t) e f

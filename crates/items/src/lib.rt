@@ -6,8 +6,10 @@ ghost use mathlib.Core.List.{List};
 ghost use Prim.Native.Nat.{ℕ, _<_, _≤_};
 ghost use lib.Bits.{bitOr};
 ghost use lib.ListN.{length};
+ghost use Rattle.condition.specs.Exchange.{exchangeSet};
 ghost use Rattle.format.specs.declared.symbols.Symbol.the-variants.{Leaf, Empty, Join, Either, Star};
 ghost use Rattle.items.specs.Stack.{Roomy, Rows, Turned};
+ghost use Rattle.items.specs.Channels.{SetsExchanged};
 use bits::bit;
 use bits::both;
 use bits::chosen;
@@ -122,4 +124,26 @@ pub fn ends_of(nullable: bool, last: u64) -> u64
     ensures { λ r. ⌜ r ≡ bitOr last (cond nullable 1 0) ⌝ }
 {
     last | chosen(nullable, 1)
+}
+
+// The set of a leaf with the events of channel 0 and of the channel exchanged: each bit in which the two differ is turned over in both.
+pub fn exchanged(set: u64, channel: usize) -> u64
+    requires { ⌜ channel ≤ 3 ⌝ }
+    ensures { λ r. ⌜ r ≡ exchangeSet channel set ⌝ }
+{
+    let shift = 16 * channel;
+    let differing = (set ^ (set >> shift)) % 65536;
+    set ^ differing ^ (differing << shift)
+}
+
+// The sets of the leaves behind the first `from`, up to leaf `to`, with the events of channel 0 and of the channel exchanged.
+pub fn exchange_sets(from: usize, to: usize, channel: usize, sets: &mut [u64; 64])
+    requires { ⌜ (to < 64) × (channel ≤ 3) × (length (now sets) ≡ 64) ⌝ }
+    ensures { λ _. ⌜ SetsExchanged from to channel (now (sets .entry)) (now (sets .exit)) ⌝ }
+{
+    let mut q = from;
+    while q < to {
+        q += 1;
+        sets[q] = exchanged(sets[q], channel);
+    }
 }

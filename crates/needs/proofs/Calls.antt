@@ -6,7 +6,7 @@ use Prim.Native.Nat.{ℕ, _+_, _<_}
 use native.Mathlib.Omega.{arith}
 use lib.ListN.{length, length-append, getD}
 use Rattle.sheet.specs.Sheet as sheet
-use Rattle.sheet.specs.Sheet.{normal, failed, CallStep, event-step, call-step, pass-step, stop-step, Sheet, past, pre}
+use Rattle.sheet.specs.Sheet.{normal, failed, CallStep, event-step, call-step, pass-step, stop-step, Sheet, past, pre, onChannel}
 use Rattle.sheet_laws.specs.AtOffset.{stepAt}
 use Rattle.sheet_laws.specs.Names.{StepNamed}
 use Rattle.runs.specs.Rules.{Rule, _of_says_, _isIn_, ifAny, returnRules, entryAsked, entryRules, stepRules, howMany, total}
@@ -46,7 +46,7 @@ module _ (S : Sheet) (i : ℕ) (t : CallStep) where
   -- 10 to 14, and 18 to 21 if there is a failed target
   abbrev pub others : List Rule
   others =
-      (10 of i says past S (t .from) isIn pre S (t .method))
+      (10 of i says past S (t .from) isIn onChannel (t .channel) (pre S (t .method)))
       ∷ (returnRules S 11 i t normal (t .to) ++ ifAny (t .failed-to) (returnRules S 18 i t failed))
 
   -- all rules of the call
@@ -54,7 +54,10 @@ module _ (S : Sheet) (i : ℕ) (t : CallStep) where
       → Needed (stepRules S i (call-step t)) n
   call-needed {n = n} is h = subst (λ (e : Option ℕ). Needed (others ++ ifAny e (entryRules S i t)) n) is h
 
--- a step that may be a call, by its variant
+-- a step by its variant: its needs, and the method that it calls, if it is a call
+pub step-needed : (S : Sheet) (i : ℕ) {v w : Step} {n : Needs} → v ≡ w → Needed (stepRules S i (stepValue w)) n → Needed (stepRules S i (stepValue v)) n
+step-needed S i is h = needed-as (ap (λ (v : Step). stepRules S i (stepValue v)) is) h
+
 pub call-told : (S : Sheet) (s methods : List ℕ) {v w : Step} → v ≡ w → CallIn S s methods (stepValue v) → CallIn S s methods (stepValue w)
 call-told S s methods is h = subst (λ (v : Step). CallIn S s methods (stepValue v)) is h
 

@@ -77,6 +77,7 @@ fn step_needs(s: &[u8], methods: &[u32; 64], step: Step) -> Needs
             certificates: 3,
         },
         Step::Call(call) => call_needs(5, entry_asked(s, methods, call.method)),
+        Step::ChannelCall(call, _) => call_needs(5, entry_asked(s, methods, call.method)),
         Step::TwoOutcomeCall(call, _) => call_needs(9, entry_asked(s, methods, call.method)),
         Step::Pass { .. } => Needs {
             rules: 3,

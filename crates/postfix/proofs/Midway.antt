@@ -11,12 +11,13 @@ use lib.Dec.{ltb, leb}
 use borrow.Author.Tests.{le-leb, lt-leb, leb-true, ltb-true, ltb-false}
 use Rattle.bits.proofs.Tests.{and-out, T-true}
 use Rattle.condition.specs.Condition.{Condition}
+use Rattle.sheet.specs.Record.{nextAt}
 use Rattle.sheet_laws.specs.AtOffset.{Symbol, leaf-symbol, empty-symbol, join-symbol, either-symbol, star-symbol}
 use Rattle.sheet_laws.specs.AtOffset.{symbolAt}
 use Rattle.sheet_laws.specs.AtOffset.{symbolsOn, symbolsAt, postfix}
 use Rattle.format.specs.declared.symbols.Symbol as value
 use Rattle.format.specs.declared.symbols.Symbol.the-variants.{None, Leaf, Empty, Join, Either, Star}
-use Rattle.format.specs.Symbols.{valueOf, isSymbol, itemsTaken, leavesIn, bytesOf, IsSymbolAt}
+use Rattle.format.specs.Symbols.{valueOf, isSymbol, itemsTaken, leavesIn, IsSymbolAt, IsBehind}
 use Rattle.items.specs.Stack.{Stacked, Roomy, Rows, Makes, a-leaf, an-empty, a-join, an-either, a-star, Turned}
 use Rattle.postfix.specs.Parts.{StandsAt, Pushed}
 use Rattle.postfix.proofs.Reducing.{total, made, Reduces, reduces-postfix, reduces-leaves, reduces-items, first-taken, done-taken, symbol-first, no-symbols}
@@ -33,7 +34,7 @@ pub record ToCome (s : List ℕ) (r : Condition) (items : List Condition) (at n 
 record First (s : List ℕ) (r : Condition) (items : List Condition) (y : value.Symbol) (at n : ℕ) : Type 0 where
   past : List Condition
   makes : Makes y items past
-  others : ToCome s r past (at + bytesOf y) (n + 1)
+  others : ToCome s r past (nextAt s at) (n + 1)
 
 symbol-is-one : (y : Symbol) → isSymbol (valueOf (some y)) ≡ true
 symbol-is-one (leaf-symbol t) = refl
@@ -57,7 +58,6 @@ look {s} {r} {items} {at} {n} {y} here g = go (symbolAt s at) refl
     go (some z) e =
         let is : y ≡ valueOf (some z) = here .symbol-is ∙ ap (λ (o : Option Symbol). valueOf o) e in
         let one : isSymbol y ≡ true = ap (λ (y : value.Symbol). isSymbol y) is ∙ symbol-is-one z in
-        let next = here .next-is one in
         let on = symbol-first s at (g .fuel) e (here .inside one) (g .enough) in
         let long = ap length (on .symbols-are) in
         let few = g .steps in
@@ -67,9 +67,7 @@ look {s} {r} {items} {at} {n} {y} here g = go (symbolAt s at) refl
           record {
             past = taken .items;
             makes = subst (λ (y : value.Symbol). Makes y items (taken .items)) (sym is) (taken .makes);
-            others =
-                subst (λ (next : ℕ). ToCome s r (taken .items) next (n + 1)) next
-                (record { fuel = on .fuel; reduces = taken .reduced; enough = on .enough; steps = omega arith });
+            others = record { fuel = on .fuel; reduces = taken .reduced; enough = on .enough; steps = omega arith };
           },
         )
 
@@ -126,14 +124,6 @@ going-start s from floor base room rows = record {
       };
 }
 
-pub few-bytes : (y : value.Symbol) → bytesOf y ≤ 5
-few-bytes None = omega arith
-few-bytes (Leaf set) = omega arith
-few-bytes Empty = omega arith
-few-bytes Join = omega arith
-few-bytes Either = omega arith
-few-bytes Star = omega arith
-
 -- the test that a symbol fits: it is one, its items are there, and neither its leaf nor its item is one too many
 abbrev pub fitting : value.Symbol → ℕ → ℕ → ℕ → ℕ → Bool
 fitting y floor d m most =
@@ -188,7 +178,7 @@ module _ {s : List ℕ} {from : ℕ} {Entry : List Condition → Type 0} {N : Li
     (g : Going s from Entry N A L F S floor base d m at n) {y : value.Symbol} (here : IsSymbolAt s at y) (f : Fit y floor d m (base + 31)) where
   -- the symbol at the offset, pushed
   on : {N′ : List Bool} {A′ L′ F′ S′ : List ℕ} → Turned y N A L F S N′ A′ L′ F′ S′ d m
-      → Going s from Entry N′ A′ L′ F′ S′ floor base (d + 1 - itemsTaken y) (m + leavesIn y) (at + bytesOf y) (n + 1)
+      → Going s from Entry N′ A′ L′ F′ S′ floor base (d + 1 - itemsTaken y) (m + leavesIn y) (nextAt s at) (n + 1)
   on {N′} {A′} {L′} {F′} {S′} t =
       record {
         above-floor = let h = f .taken in omega arith;
@@ -202,7 +192,7 @@ module _ {s : List ℕ} {from : ℕ} {Entry : List Condition → Type 0} {N : Li
     where
       go : (r : Condition) (v : Midway s r Entry N A L F S floor base d m at n)
           → ((isSymbol y ≡ false) × (v .items ≡ r ∷ [])) ⊎ ((isSymbol y ≡ true) × First s r (v .items) y at n)
-          → Midway s r Entry N′ A′ L′ F′ S′ floor base (d + 1 - itemsTaken y) (m + leavesIn y) (at + bytesOf y) (n + 1)
+          → Midway s r Entry N′ A′ L′ F′ S′ floor base (d + 1 - itemsTaken y) (m + leavesIn y) (nextAt s at) (n + 1)
       go r v (inl x) = absurd (true≢false (sym (f .one) ∙ x .0))
       go r v (inr x) =
           let first = x .1 in
@@ -218,9 +208,12 @@ module _ {s : List ℕ} {from : ℕ} {Entry : List Condition → Type 0} {N : Li
             stacked = λ rs x. t .turned (v .items ++ rs) (first .past ++ rs) (makes-above rs (first .makes)) (v .stacked rs x);
           }
 
-  pub going-on : {N′ : List Bool} {A′ L′ F′ S′ : List ℕ} {d′ m′ b : ℕ} → d′ ≡ d + 1 - itemsTaken y → m′ ≡ m + leavesIn y → b ≡ bytesOf y
+  pub going-on : {N′ : List Bool} {A′ L′ F′ S′ : List ℕ} {d′ m′ b : ℕ} → d′ ≡ d + 1 - itemsTaken y → m′ ≡ m + leavesIn y → IsBehind s at b
       → Turned y N A L F S N′ A′ L′ F′ S′ d m → Going s from Entry N′ A′ L′ F′ S′ floor base d′ m′ (at + b) (n + 1)
-  going-on height more long t = rw (height, more, long) (on t)
+  going-on {N′} {A′} {L′} {F′} {S′} {d′} {m′} height more behind t =
+      subst (λ (next : ℕ). Going s from Entry N′ A′ L′ F′ S′ floor base d′ m′ next (n + 1))
+      (behind .next-is (sym (ap (λ (y : value.Symbol). isSymbol y) (here .symbol-is)) ∙ f .one))
+      (rw (height, more) (on t))
 
 -- Ways out: at the end of the records, and where no condition can stand -------------------------------------------------
 

@@ -1,5 +1,5 @@
--- Conditions that are pushed: a leaf, and a part of a side.
-use mathlib.Core.Path.{_≡_, subst}
+-- Conditions that are pushed: a leaf, one with two channels exchanged, and a part of a side.
+use mathlib.Core.Path.{_≡_, subst, _∙_}
 use mathlib.Core.Bool.{Bool}
 use mathlib.Core.List.{List, _∷_}
 use Prim.Native.Nat.{ℕ, _+_, _-_, _^_, _<_}
@@ -7,9 +7,16 @@ use native.Mathlib.Omega.{arith}
 use Rattle.condition.specs.Condition.{Condition, leaf}
 use Rattle.format.specs.declared.symbols.Symbol.the-variants.{Leaf}
 use Rattle.postfix.specs.declared.Part.{Part}
-use Rattle.postfix.specs.declared.Part.the-variants.{Condition as ConditionAt, Event}
-use Rattle.items.specs.Stack.{Stacked, a-leaf, Turned}
-use Rattle.postfix.specs.Parts.{StandsAt, PartIs, Pushed}
+use Rattle.postfix.specs.declared.Part.the-variants.{Condition as ConditionAt, Event, Exchanged}
+use Rattle.items.specs.Stack.{Stacked, Roomy, Rows, a-leaf, Turned}
+use Rattle.items.specs.Channels.{SetsExchanged}
+use Rattle.items.proofs.Channels.{stacked-exchanged}
+use Rattle.postfix.specs.Parts.{StandsAt, ExchangedAt, PartIs, Pushed}
+
+-- where there is no such condition, nothing need be pushed
+pub nothing-pushed : {Is : Condition → Type 0} {N : List Bool} {A L F S : List ℕ} {d m : ℕ} → Roomy N A L → Rows F S → ((r : Condition) → Is r → ⊥)
+    → Pushed Is N A L F S N A L F S d m m
+nothing-pushed room rows none = record { few = omega arith; room = room; rows = rows; pushed = λ r h rs t. absurd (none r h) }
 
 module _ {N : List Bool} {A L F S : List ℕ} {N′ : List Bool} {A′ L′ F′ S′ : List ℕ} {d m : ℕ} where
   pub pushed-as : {Is Is′ : Condition → Type 0} {m′ : ℕ}
@@ -26,8 +33,21 @@ module _ {N : List Bool} {A L F S : List ℕ} {N′ : List Bool} {A′ L′ F′
         rw e (subst (λ (k : ℕ). Stacked N′ A′ L′ F′ S′ k (m + 1) (leaf x ∷ rs)) one (t .turned rs (leaf x ∷ rs) a-leaf h));
   }
 
+  -- the condition at an offset, and then the sets of its leaves exchanged
+  pub exchanged-pushed : {s S″ : List ℕ} {at c m′ : ℕ} → Pushed (StandsAt s at) N A L F S N′ A′ L′ F′ S′ d m m′ → SetsExchanged m m′ c S′ S″
+      → Pushed (ExchangedAt s at c) N A L F S N′ A′ L′ F′ S″ d m m′
+  exchanged-pushed p x = record {
+    few = p .few;
+    room = p .room;
+    rows = record { rows-follow = p .rows .rows-follow; rows-sets = x .rows ∙ p .rows .rows-sets };
+    pushed = λ r h rs t. rw (h .exchanged-is) (stacked-exchanged x t (p .pushed (h .plain) (h .stands) rs t));
+  }
+
 pub condition-part : (s : List ℕ) {part : Part} {at : ℕ} → part ≡ ConditionAt at → (r : Condition) → PartIs s part r → StandsAt s at r
 condition-part s e r h = rw e at h
 
 pub event-part : (s : List ℕ) {part : Part} {e : ℕ} → part ≡ Event e → (r : Condition) → PartIs s part r → (r ≡ leaf (2 ^ e)) × (e < 64)
 event-part s e r h = rw e at h
+
+pub exchanged-part : (s : List ℕ) {part : Part} {at c : ℕ} → part ≡ Exchanged at c → (r : Condition) → PartIs s part r → ExchangedAt s at c r
+exchanged-part s e r h = rw e at h

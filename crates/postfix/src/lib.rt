@@ -9,9 +9,10 @@ ghost use Rattle.postfix.specs.Parts.{StandsAt, PartIs, Pushed};
 use bits::bit;
 use bits::both;
 use format::symbols::Symbol;
-use format::symbols::bytes_of;
 use format::symbols::symbol_at;
+use format::symbols::symbol_bytes;
 use items::either_top;
+use items::exchange_sets;
 use items::join_top;
 use items::push_empty;
 use items::push_leaf;
@@ -21,10 +22,12 @@ use kinds::JOIN;
 use kinds::STAR;
 use kinds::items_taken;
 
-// A part of a side: the condition whose records stand at an offset, or one event.
+// A part of a side: the condition whose records stand at an offset, one event, or the condition at an offset with the events of channel 0 and of a
+// channel exchanged.
 pub enum Part {
     Condition(usize),
     Event(usize),
+    Exchanged { at: u32, channel: u32 },
 }
 
 // How high a stack is: its items and their leaves.
@@ -136,7 +139,7 @@ pub fn push_condition(
             return top.leaves;
         }
         n += 1;
-        at += bytes_of(symbol);
+        at += symbol_bytes(s, at);
         top = push_symbol(symbol, top, nullable, first, last, follow, sets);
     }
     top.leaves
@@ -169,6 +172,15 @@ pub fn push_part(
             }
             push_leaf(bit(e), depth, leaves, nullable, first, last, follow, sets);
             leaves + 1
+        }
+        Part::Exchanged { at, channel } => {
+            if 3 < channel {
+                return leaves;
+            }
+            let from = at as usize;
+            let n = push_condition(s, from, depth, leaves, nullable, first, last, follow, sets);
+            exchange_sets(leaves, n, channel as usize, sets);
+            n
         }
     }
 }

@@ -7,13 +7,13 @@ use lib.ListN.{length, getD}
 use Rattle.sheet.specs.Sheet as sheet
 use Rattle.sheet.specs.Sheet.{Sheet, body}
 use Rattle.sheet_laws.specs.AtOffset.{methodAt, stepAt}
-use Rattle.sheet_laws.specs.Names.{BodyNamed, StepNamed, TargetsFit, EventBelow}
+use Rattle.sheet_laws.specs.Names.{BodyNamed, StepNamed, TargetsFit, StepOnChannel, EventBelow}
 use Rattle.runs.specs.Rules.{methodRules, stepRules}
 use Rattle.values.specs.declared.Method.{Method}
 use Rattle.values.specs.declared.Step.{Step}
 use Rattle.values.specs.Values.{methodValue, stepValue}
 use Rattle.index.specs.Indexed.{Indexes, FailedIn}
-use Rattle.index.proofs.Indexed.{failed-in, body-is, body-named, step-named, target-fits, event-fits}
+use Rattle.index.proofs.Indexed.{failed-in, body-is, body-named, step-named, target-fits, channel-fits, event-fits}
 
 module _ {S : Sheet} {s conditions points methods steps : List ℕ} (x : Indexes S s conditions points methods steps) where
   module _ {m : ℕ} (l : m < length (S .methods)) {v w : Method} (is : v ≡ w) (read : methodValue v ≡ methodAt s (getD methods m 0)) where
@@ -42,6 +42,9 @@ module _ {S : Sheet} {s conditions points methods steps : List ℕ} (x : Indexes
 
     pub target : TargetsFit S (stepValue w)
     target = target-fits x i l _ step-read
+
+    pub on-channel : StepOnChannel S (stepValue w)
+    on-channel = channel-fits x i l _ step-read
 
     pub fits : EventBelow 64 (stepValue w)
     fits = event-fits x i l _ step-read

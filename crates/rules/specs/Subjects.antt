@@ -15,6 +15,7 @@ use Rattle.index.specs.declared.ways.Way.{Way}
 use Rattle.index.specs.declared.ways.Failing.{Failing}
 use Rattle.index.specs.declared.ways.Entered.{Entered}
 use Rattle.index.specs.Ways.{WayIs, FailingIs, EnteredIs}
+use Rattle.claims.specs.Claims.{ChannelIs}
 use Rattle.rules.specs.declared.subjects.Subject.{Subject}
 use Rattle.rules.specs.declared.subjects.Subject.the-variants.{First, Body, Event, Call, Pass, Stop, None}
 
@@ -43,10 +44,11 @@ pub record EventIs (s : List ℕ) (S : Sheet) (i : ℕ) (p q : PointConditions) 
   pub fits : a < 64
   pub rules-are : xs ≡ stepRules S i (event-step from to a)
 
--- the call step i, by the pre of its method, its from, its ways of returning and what it enters, and its rules
-pub record CallIs (s : List ℕ) (S : Sheet) (i pre : ℕ) (p : PointConditions) (q : Way) (failing : Failing) (entered : Entered) (xs : List Rule) : Type 0 where
+-- the call step i, by the pre of its method, its channel, its from, its ways of returning and what it enters, and its rules
+pub record CallIs (s : List ℕ) (S : Sheet) (i pre channel : ℕ) (p : PointConditions) (q : Way) (failing : Failing) (entered : Entered) (xs : List Rule) : Type 0 where
   pub call : CallStep
   pub pre-is : StandsAt s pre (sheet.pre S (call .method))
+  pub channel-is : ChannelIs (call .channel) channel
   pub from-is : PointIs s S (call .from) p
   pub to-is : WayIs s S (call .method) normal (call .to) q
   pub failing-is : FailingIs s S (call .method) (call .failed-to) failing
@@ -72,7 +74,7 @@ abbrev pub SubjectIs : List ℕ → Sheet → Subject → List Rule → Type 0
 SubjectIs s S (First m d) xs = FirstIs s S m d xs
 SubjectIs s S (Body m pre entry exit failing first) xs = BodyIs s S m pre entry exit failing first xs
 SubjectIs s S (Event i p q a) xs = EventIs s S i p q a xs
-SubjectIs s S (Call i pre p q failing entered) xs = CallIs s S i pre p q failing entered xs
+SubjectIs s S (Call i pre channel p q failing entered) xs = CallIs s S i pre channel p q failing entered xs
 SubjectIs s S (Pass i p q) xs = PassIs s S i p q xs
 SubjectIs s S (Stop i d) xs = StopIs s S i d xs
 SubjectIs s S None xs = xs ≡ []

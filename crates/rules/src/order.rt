@@ -11,7 +11,7 @@ ghost use Rattle.runs.specs.Rules.{isAmong, methodRules, entryAsked, stepRules}
 ghost use Rattle.values.specs.Values.{bodyValue, callValue};
 ghost use Rattle.index.specs.Indexed.{Indexes, PointIn, FailedIn, OutcomeIs};
 ghost use Rattle.index.specs.Ways.{WayIs, FailingIs, EnteredIs};
-ghost use Rattle.claims.specs.Claims.{NthIs};
+ghost use Rattle.claims.specs.Claims.{NthIs, ChannelIs};
 ghost use Rattle.rules.specs.Subjects.{SubjectIs};
 ghost use Rattle.rules.specs.Order.{SheetIn, groups};
 use crate::subjects::Subject;
@@ -156,7 +156,7 @@ fn entered_by(
     }
 }
 
-// The call step i with its failed way.
+// The call step i with its channel, 0 where it names none, and its failed way.
 fn call_subject(
     s: &[u8],
     conditions: &[u32; 256],
@@ -164,13 +164,15 @@ fn call_subject(
     methods: &[u32; 64],
     i: usize,
     call: CallStep,
+    channel: u32,
     failed: Failing,
 ) -> Subject
     requires { ⌜ ((S : Sheet) × (steps : List ℕ) × Indexes S (now s) (now conditions) (now points) (now methods) steps × (call .method < length (S .methods)) ×
         (call .from < length (S .points)) × (call .to < length (S .points))) ⌝ }
-    ensures { λ r. ⌜ ((S : Sheet) (steps : List ℕ) (f : Option ℕ) → Indexes S (now (s .entry)) (now (conditions .entry)) (now (points .entry)) (now (methods .entry)) steps →
+    ensures { λ r. ⌜ ((S : Sheet) (steps : List ℕ) (f c : Option ℕ) → Indexes S (now (s .entry)) (now (conditions .entry)) (now (points .entry)) (now (methods .entry)) steps →
         call .method < length (S .methods) → call .from < length (S .points) → call .to < length (S .points) →
-        FailingIs (now (s .entry)) S (call .method) f failed → SubjectIs (now (s .entry)) S r (stepRules S i (call-step (callValue call f)))) ⌝ }
+        FailingIs (now (s .entry)) S (call .method) f failed → ChannelIs c channel →
+        SubjectIs (now (s .entry)) S r (stepRules S i (call-step (callValue call f c)))) ⌝ }
 {
     let declared = method_of(s, conditions, methods, call.method);
     let to = way_of(s, conditions, points, call.to, declared.normal);
@@ -178,6 +180,7 @@ fn call_subject(
     Subject::Call {
         step: i,
         pre: declared.pre,
+        channel,
         from: point_of(s, conditions, points, call.from),
         to,
         failed,
@@ -206,10 +209,16 @@ fn step_subject(
             to: point_of(s, conditions, points, to),
             event,
         },
-        Step::Call(call) => call_subject(s, conditions, points, methods, i, call, Failing::Never),
+        Step::Call(call) => {
+            call_subject(s, conditions, points, methods, i, call, 0, Failing::Never)
+        }
         Step::TwoOutcomeCall(call, to) => {
             let way = failed_way(s, conditions, points, methods, call.method, to);
-            call_subject(s, conditions, points, methods, i, call, way)
+            call_subject(s, conditions, points, methods, i, call, 0, way)
+        }
+        Step::ChannelCall(call, channel) => {
+            let c = channel as u32;
+            call_subject(s, conditions, points, methods, i, call, c, Failing::Never)
         }
         Step::Pass { from, to } => Subject::Pass {
             step: i,

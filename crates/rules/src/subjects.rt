@@ -41,6 +41,7 @@ pub enum Subject {
     Call {
         step: usize,
         pre: u32,
+        channel: u32,
         from: PointConditions,
         to: Way,
         failed: Failing,
@@ -81,11 +82,12 @@ pub fn claim_of(subject: Subject, k: usize) -> Asked
         Subject::Call {
             step,
             pre,
+            channel,
             from,
             to,
             failed,
             entered,
-        } => call_claim(step, pre, from, to, failed, entered, k),
+        } => call_claim(step, pre, channel, from, to, failed, entered, k),
         Subject::Pass { step, from, to } => pass_claim(step, from, to, k),
         Subject::Stop { step, due } => stop_claim(step, due, k),
         Subject::None => Asked::NoMore,

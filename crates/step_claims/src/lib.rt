@@ -9,7 +9,7 @@ ghost use Rattle.runs.specs.Rules.{ifAny, returnRules, entryAsked, entryRules, 
 ghost use Rattle.postfix.specs.Parts.{StandsAt};
 ghost use Rattle.index.specs.Indexed.{PointIs};
 ghost use Rattle.index.specs.Ways.{WayIs, FailingIs, EnteredIs};
-ghost use Rattle.claims.specs.Claims.{Kth};
+ghost use Rattle.claims.specs.Claims.{Kth, ChannelIs};
 ghost use Rattle.step_claims.specs.Returns.{ReturnRulesAre};
 use answers::Rule;
 use claims::Asked;
@@ -18,6 +18,8 @@ use claims::forms::backward;
 use claims::forms::forward;
 use claims::forms::holds_empty;
 use claims::forms::inclusion;
+use claims::forms::on_channel;
+use claims::forms::within;
 use index::PointConditions;
 use index::ways::Entered;
 use index::ways::Failing;
@@ -46,21 +48,22 @@ pub fn event_claim(i: usize, p: PointConditions, q: PointConditions, a: usize, k
     }
 }
 
-// 11 past(p)T in past(q); 12 own(p)T in own(q); 13 due(q) in future; 14 T due(q) in due(p), T the trace; and 18 to 21 of the failed way.
-fn return_claim(rules: ReturnRules, p: PointConditions, q: Way, k: usize) -> Asked
-    ensures { λ r. ⌜ ((s : List ℕ) (S : Sheet) (n i to : ℕ) (t : sheet.CallStep) (o : sheet.Outcome) → ReturnRulesAre rules n i → PointIs s S (t .from) p →
-        WayIs s S (t .method) o to q → Kth s (returnRules S n i t o to) k r) ⌝ }
+// 11 past(p)T in past(q); 12 own(p)T in own(q); 13 due(q) in future; 14 T due(q) in due(p), T the trace; and 18 to 21 of the failed way. What the method
+// declares is read on the call's channel.
+fn return_claim(rules: ReturnRules, channel: u32, p: PointConditions, q: Way, k: usize) -> Asked
+    ensures { λ r. ⌜ ((s : List ℕ) (S : Sheet) (n i to : ℕ) (t : sheet.CallStep) (o : sheet.Outcome) → ReturnRulesAre rules n i → ChannelIs (t .channel) channel →
+        PointIs s S (t .from) p → WayIs s S (t .method) o to q → Kth s (returnRules S n i t o to) k r) ⌝ }
 {
     let past = rules.past;
     let own = rules.own;
     let future = rules.future;
     let due = rules.due;
-    let trace = q.declared.trace;
-    let raised = Raised::Word(Part::Condition(trace as usize));
+    let declared = q.declared;
+    let raised = Raised::Word(on_channel(declared.trace, channel));
     match k {
         0 => forward(past, p.past, raised, q.point.past),
         1 => forward(own, p.own, raised, q.point.own),
-        2 => inclusion(future, q.point.due, q.declared.future),
+        2 => within(future, q.point.due, on_channel(declared.future, channel)),
         3 => backward(due, raised, q.point.due, p.due),
         _ => Asked::NoMore,
     }
@@ -85,13 +88,14 @@ fn entry_claim(i: usize, p: PointConditions, entered: Entered, k: usize) -> Aske
 // The rules of a call behind those of its normal return: 18 to 21, if it has a failed target, and 26.
 fn later_call_claim(
     i: usize,
+    channel: u32,
     p: PointConditions,
     failed: Failing,
     entered: Entered,
     k: usize,
 ) -> Asked
-    ensures { λ r. ⌜ ((s : List ℕ) (S : Sheet) (t : sheet.CallStep) → PointIs s S (t .from) p → FailingIs s S (t .method) (t .failed-to) failed →
-        EnteredIs s S (entryAsked S (t .method)) entered →
+    ensures { λ r. ⌜ ((s : List ℕ) (S : Sheet) (t : sheet.CallStep) → ChannelIs (t .channel) channel → PointIs s S (t .from) p →
+        FailingIs s S (t .method) (t .failed-to) failed → EnteredIs s S (entryAsked S (t .method)) entered →
         Kth s (ifAny (t .failed-to) (returnRules S 18 i t sheet.failed) ++ ifAny (entryAsked S (t .method)) (entryRules S i t)) k r) ⌝ }
 {
     let rules = ReturnRules {
@@ -104,7 +108,7 @@ fn later_call_claim(
         Failing::Never => entry_claim(i, p, entered, k),
         Failing::By(q) => {
             if k < 4 {
-                return return_claim(rules, p, q, k);
+                return return_claim(rules, channel, p, q, k);
             }
             entry_claim(i, p, entered, k - 4)
         }
@@ -115,18 +119,19 @@ fn later_call_claim(
 pub fn call_claim(
     i: usize,
     pre: u32,
+    channel: u32,
     p: PointConditions,
     q: Way,
     failed: Failing,
     entered: Entered,
     k: usize,
 ) -> Asked
-    ensures { λ r. ⌜ ((s : List ℕ) (S : Sheet) (t : sheet.CallStep) → StandsAt s pre (sheet.pre S (t .method)) → PointIs s S (t .from) p →
-        WayIs s S (t .method) sheet.normal (t .to) q → FailingIs s S (t .method) (t .failed-to) failed →
+    ensures { λ r. ⌜ ((s : List ℕ) (S : Sheet) (t : sheet.CallStep) → StandsAt s pre (sheet.pre S (t .method)) → ChannelIs (t .channel) channel →
+        PointIs s S (t .from) p → WayIs s S (t .method) sheet.normal (t .to) q → FailingIs s S (t .method) (t .failed-to) failed →
         EnteredIs s S (entryAsked S (t .method)) entered → Kth s (stepRules S i (call-step t)) k r) ⌝ }
 {
     if k == 0 {
-        return inclusion(Rule::CallPre(i), p.past, pre);
+        return within(Rule::CallPre(i), p.past, on_channel(pre, channel));
     }
     if k < 5 {
         let rules = ReturnRules {
@@ -135,9 +140,9 @@ pub fn call_claim(
             future: Rule::CallFuture(i),
             due: Rule::CallDue(i),
         };
-        return return_claim(rules, p, q, k - 1);
+        return return_claim(rules, channel, p, q, k - 1);
     }
-    later_call_claim(i, p, failed, entered, k - 5)
+    later_call_claim(i, channel, p, failed, entered, k - 5)
 }
 
 // 15 past(p) in past(q); 16 own(p) in own(q); 17 due(q) in due(p).

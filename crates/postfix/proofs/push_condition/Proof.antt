@@ -4,7 +4,7 @@ use Prim.Native.Nat.{_+_, _-_}
 use mathlib.Core.Path.{sym, _∙_}
 use borrow.Author.Tests.{not-true, not-false}
 use Rattle.items.specs.Stack.{Stacked}
-use Rattle.postfix.proofs.Midway.{Going, going-start, Fit, fit, few-bytes, going-on, out-full, out-unfit}
+use Rattle.postfix.proofs.Midway.{Going, going-start, Fit, fit, going-on, out-full, out-unfit}
 use borrow.Author.Needs.{needs}
 use Rattle.postfix.proofs.push_condition.Statement.{statement}
 use Rattle.postfix.proofs.push_condition.Tie as tie
@@ -40,14 +40,13 @@ symbol-fits c = fit _ _ _ _ _ (sym (c .before .fits2 .ensures) ∙ not-false _ (
 add-n : tie.Need-add-n Inv-loop μ-loop
 add-n c = search needs
 
-bytes-of-requires : tie.Need-bytes-of-requires Inv-loop μ-loop
-bytes-of-requires c κs = search needs
+symbol-bytes-requires : tie.Need-symbol-bytes-requires Inv-loop μ-loop
+symbol-bytes-requires c κs = search needs
 
 add-at : tie.Need-add-at Inv-loop μ-loop
 add-at c = let k = c .before in
     let h = k .before .before .symbol-at .ensures .inside (symbol-fits k .one) in
-    let few = few-bytes (k .before .before .symbol-at .result) in
-    let e = c .bytes-of .ensures in
+    let few = c .symbol-bytes .ensures .few in
     search needs
 
 push-symbol-requires : tie.Need-push-symbol-requires Inv-loop μ-loop
@@ -63,7 +62,7 @@ loop-again : tie.Need-loop-again Inv-loop μ-loop
 loop-again c = let k = c .before .before .before .before .before .before .before in
     let p = c .push-symbol .ensures in
     let (height, more) = p .0 (symbol-fits k .one) in
-    going-on (k .before .before .before .before .loop .inv) (k .before .before .symbol-at .ensures) (symbol-fits k) height more (c .before .before .before .before .before .before .bytes-of .ensures) (p .1)
+    going-on (k .before .before .before .before .loop .inv) (k .before .before .symbol-at .ensures) (symbol-fits k) height more (c .before .before .before .before .before .before .symbol-bytes .ensures) (p .1)
 
 returns-2 : tie.Need-returns-2 Inv-loop μ-loop
 returns-2 c = out-full (c .before .loop .inv) (c .loop-test .left)
@@ -80,7 +79,7 @@ push-condition-spec =
     fits-requires
     returns
     add-n
-    bytes-of-requires
+    symbol-bytes-requires
     add-at
     push-symbol-requires
     loop-less

@@ -28,22 +28,22 @@ return-claim-requires : tie.Need-return-claim-requires
 return-claim-requires c κs = search needs
 
 returns : tie.Need-returns
-returns c = λ s S t p is e.
+returns c = λ s S t on p is e.
     let x = fails-by s S (t .failed-to) _ (c .before .before .before .failed .given .1) is in
     kth-as (ap (later S (c .before .before .before .before .before .args .i) t) (x .is))
     (kth-upto refl (c .before .if1 .taken)
-    (c .return-claim .ensures s S 18 _ (x .point) t failed (record { past-is = named; own-is = named; future-is = named; due-is = named }) p (x .has)))
+    (c .return-claim .ensures s S 18 _ (x .point) t failed (record { past-is = named; own-is = named; future-is = named; due-is = named }) on p (x .has)))
 
 entry-claim-requires-2 : tie.Need-entry-claim-requires-2
 entry-claim-requires-2 c κs = search needs
 
 returns-2 : tie.Need-returns-2
-returns-2 c = λ s S t p is e.
+returns-2 c = λ s S t on p is e.
     kth-as (ap (later S (c .before .before .before .args .i) t) (never s S (t .failed-to) _ (c .before .enum-told .given .1) is))
     (c .entry-claim .ensures s S t (entryAsked S (t .method)) p e)
 
 returns-3 : tie.Need-returns-3
-returns-3 c = λ s S t p is e.
+returns-3 c = λ s S t on p is e.
     let x = fails-by s S (t .failed-to) _ (c .before .before .before .failed .given .1) is in
     kth-as (ap (later S (c .before .before .before .before .before .args .i) t) (x .is))
     (kth-from 4 refl (omega (arith, c .before .if1 .left)) (c .entry-claim2 .ensures s S t (entryAsked S (t .method)) p e))

@@ -18,11 +18,12 @@ point-of-requires : tie.Need-point-of-requires
 point-of-requires c κs = let (S, steps, x, l, from, to) = c .before .before .before .before .before .pre in (S, point-in x _ from)
 
 returns : tie.Need-returns
-returns c = λ S steps f x l from to failing.
+returns c = λ S steps f k x l from to failing on.
     let declared = c .before .before .before .method-of .ensures S (method-in x _ l) in
     record {
-      call = callValue (c .before .before .before .before .before .before .args .call) f;
+      call = callValue (c .before .before .before .before .before .before .args .call) f k;
       pre-is = declared .pre-stands;
+      channel-is = on;
       from-is = c .point-of .ensures S (point-in x _ from);
       to-is = c .before .before .way-of .ensures S _ normal (point-in x _ to) (declared .normal-is);
       failing-is = failing;

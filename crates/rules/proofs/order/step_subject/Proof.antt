@@ -1,7 +1,8 @@
+use mathlib.Core.Path.{refl}
 use mathlib.Core.Option.{none, some}
 use native.Mathlib.Omega.{arith}
 use Rattle.index.proofs.Indexed.{point-in, fails-in, step-inside}
-use Rattle.rules.proofs.Decoded.{step-rules, named, target, fits}
+use Rattle.rules.proofs.Decoded.{step-rules, named, target, on-channel, fits}
 use Rattle.rules.proofs.Told.{told-rules}
 use borrow.Author.Needs.{needs}
 use Rattle.rules.proofs.order.step_subject.Statement.{statement}
@@ -58,23 +59,35 @@ call-subject-requires-2 c κs = let (S, x, l) = c .before .before .before .befor
 enum-known-step-4 : tie.Need-enum-known-step-4
 enum-known-step-4 c = search needs
 
-point-of-requires-3 : tie.Need-point-of-requires-3
-point-of-requires-3 c κs =
-    let (S, x, l) = c .before .before .before .before .before .before .before .pre in
-    (S, point-in x _ (named x l (c .before .step4 .given .1) (c .before .before .before .step-at .ensures) .0))
+cast-c : tie.Need-cast-c
+cast-c c = let (S, x, l) = c .before .before .before .before .before .before .before .pre in
+    omega (arith, on-channel x l (c .before .step4 .given .1) (c .before .before .before .step-at .ensures) .2)
 
-point-of-requires-4 : tie.Need-point-of-requires-4
-point-of-requires-4 c κs =
-    let (S, x, l) = c .before .before .before .before .before .before .before .before .pre in
-    (S, point-in x _ (named x l (c .before .before .step4 .given .1) (c .before .before .before .before .step-at .ensures) .1))
+call-subject-requires-3 : tie.Need-call-subject-requires-3
+call-subject-requires-3 c κs = let (S, x, l) = c .before .before .before .before .before .before .before .pre in
+    let names = named x l (c .before .step4 .given .1) (c .before .before .before .step-at .ensures) in
+    (S, _, x, names .3, names .0, names .1)
 
 enum-known-step-5 : tie.Need-enum-known-step-5
 enum-known-step-5 c = search needs
 
+point-of-requires-3 : tie.Need-point-of-requires-3
+point-of-requires-3 c κs =
+    let (S, x, l) = c .before .before .before .before .before .before .before .pre in
+    (S, point-in x _ (named x l (c .before .step5 .given .1) (c .before .before .before .step-at .ensures) .0))
+
+point-of-requires-4 : tie.Need-point-of-requires-4
+point-of-requires-4 c κs =
+    let (S, x, l) = c .before .before .before .before .before .before .before .before .pre in
+    (S, point-in x _ (named x l (c .before .before .step5 .given .1) (c .before .before .before .before .step-at .ensures) .1))
+
+enum-known-step-6 : tie.Need-enum-known-step-6
+enum-known-step-6 c = search needs
+
 point-of-requires-5 : tie.Need-point-of-requires-5
 point-of-requires-5 c κs =
     let (S, x, l) = c .before .before .before .before .before .before .before .pre in
-    (S, point-in x _ (named x l (c .before .step5 .given .1) (c .before .before .before .step-at .ensures)))
+    (S, point-in x _ (named x l (c .before .step6 .given .1) (c .before .before .before .step-at .ensures)))
 
 returns : tie.Need-returns
 returns c = λ S x l.
@@ -94,7 +107,8 @@ returns-2 c = λ S x l.
     let is = c .before .before .step2 .given .1 in
     let read = c .before .before .before .before .step-at .ensures in
     let names = named x l is read in
-    told-rules _ S (c .call-subject .result) (step-rules x l is read) (c .call-subject .ensures S _ none x (names .3) (names .0) (names .1) tt)
+    told-rules _ S (c .call-subject .result) (step-rules x l is read)
+    (c .call-subject .ensures S _ none none x (names .3) (names .0) (names .1) tt refl)
 
 returns-3 : tie.Need-returns-3
 returns-3 c = λ S x l.
@@ -103,11 +117,20 @@ returns-3 c = λ S x l.
     let names = named x l is read in
     let failing = c .before .failed-way .ensures S (point-in x _ (names .2)) (fails-in x _ (names .3) (target x l is read)) in
     told-rules _ S (c .call-subject2 .result) (step-rules x l is read)
-    (c .call-subject2 .ensures S _ (some _) x (names .3) (names .0) (names .1) failing)
+    (c .call-subject2 .ensures S _ (some _) none x (names .3) (names .0) (names .1) failing refl)
 
 returns-4 : tie.Need-returns-4
 returns-4 c = λ S x l.
-    let is = c .before .before .before .step4 .given .1 in
+    let is = c .before .before .step4 .given .1 in
+    let read = c .before .before .before .before .step-at .ensures in
+    let names = named x l is read in
+    let channel = c .before .before .step4 .given .0 .1 .0 in
+    told-rules _ S (c .call-subject3 .result) (step-rules x l is read)
+    (c .call-subject3 .ensures S _ none (some channel) x (names .3) (names .0) (names .1) tt (refl, on-channel x l is read .2))
+
+returns-5 : tie.Need-returns-5
+returns-5 c = λ S x l.
+    let is = c .before .before .before .step5 .given .1 in
     let read = c .before .before .before .before .before .step-at .ensures in
     record {
       from = _;
@@ -117,9 +140,9 @@ returns-4 c = λ S x l.
       rules-are = step-rules x l is read;
     }
 
-returns-5 : tie.Need-returns-5
-returns-5 c = λ S x l.
-    let is = c .before .before .step5 .given .1 in
+returns-6 : tie.Need-returns-6
+returns-6 c = λ S x l.
+    let is = c .before .before .step6 .given .1 in
     let read = c .before .before .before .before .step-at .ensures in
     record { from = _; due-is = c .point-of5 .ensures S (point-in x _ (named x l is read)) .due-stands; rules-are = step-rules x l is read }
 
@@ -140,12 +163,16 @@ step-subject-spec =
     failed-way-requires
     call-subject-requires-2
     enum-known-step-4
+    cast-c
+    call-subject-requires-3
+    enum-known-step-5
     point-of-requires-3
     point-of-requires-4
-    enum-known-step-5
+    enum-known-step-6
     point-of-requires-5
     returns
     returns-2
     returns-3
     returns-4
-    returns-5)
+    returns-5
+    returns-6)

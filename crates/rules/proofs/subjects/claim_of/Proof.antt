@@ -62,7 +62,7 @@ returns-3 c = λ s S xs is.
 returns-4 : tie.Need-returns-4
 returns-4 c = λ s S xs is.
     let h = told s S xs (c .before .before .subject4 .given .1) is in
-    kth-as (h .rules-are) (c .call-claim .ensures s S (h .call) (h .pre-is) (h .from-is) (h .to-is) (h .failing-is) (h .entered-is))
+    kth-as (h .rules-are) (c .call-claim .ensures s S (h .call) (h .pre-is) (h .channel-is) (h .from-is) (h .to-is) (h .failing-is) (h .entered-is))
 
 returns-5 : tie.Need-returns-5
 returns-5 c = λ s S xs is.
