@@ -83,6 +83,8 @@ fn instrument_at(i: usize) -> Named {
         Named::Known(Instrument::Large)
     } else if is_argument(i, b"entry") {
         Named::Known(Instrument::Entry)
+    } else if is_argument(i, b"four") {
+        Named::Known(Instrument::Four)
     } else {
         Named::Unknown
     }
@@ -101,7 +103,7 @@ pub fn chosen_instrument(program: &[u8]) -> Choice
     }
     let named = instrument_at(2);
     if let Named::Unknown = named {
-        wrong_argument(program, 2, b"an instrument, large or entry");
+        wrong_argument(program, 2, b"an instrument, large, entry or four");
     }
     Choice { named, next: 3 }
 }

@@ -39,13 +39,14 @@ fn print_answer(instrument: Instrument, i: usize) {
 fn print_help() {
     let written = io::write_all(
         STDOUT_FILENO,
-        b"usage: load [--instrument large|entry] [FILE]\n\
+        b"usage: load [--instrument large|entry|four] [FILE]\n\
           \n\
           Loads the sheet in FILE, or on standard input, and prints one line:\n\
           \x20 accepted N          all N rules of the sheet are met\n\
           \x20 refused N at P      the bytes are no well formed sheet, by refusal N, at the place P\n\
           \x20 unproved rule R ..  the sheet is well formed, and this is the first fault\n\
-          The large instrument takes 65,536 bytes and 512 points, the entry instrument 8,192 bytes and 64 points.\n\
+          The large and the four-channel instrument take 65,536 bytes and 512 points, the entry instrument 8,192 bytes and 64 points.\n\
+          The four-channel instrument has the events 0 to 63, the others 0 to 31.\n\
           Where none is named, the sheet is loaded on the large one.\n\
           What is wrong with an argument, and what cannot be read or written, is said on standard error.\n\
           The exit status is always 0.\n",
@@ -62,7 +63,7 @@ fn run(instrument: Instrument, next: usize)
     if next + 1 < os::arg_count() {
         io::write_all(
             STDERR_FILENO,
-            b"load: more than one argument\nusage: load [--instrument large|entry] [FILE]\n",
+            b"load: more than one argument\nusage: load [--instrument large|entry|four] [FILE]\n",
         );
     } else if is_argument(next, b"--help") {
         print_help();

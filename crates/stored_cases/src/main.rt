@@ -1,5 +1,5 @@
 // Runs the stored cases and prints a line for each: sheets that are read, sheets that are loaded, and words that are tested, on the large
-// instrument and then on the entry instrument.
+// instrument, then on the entry instrument and then on the four-channel one.
 use answers::Verdict;
 use cases::Number;
 use cases::next_bytes;
@@ -114,4 +114,7 @@ fn main() {
     print_cases(Instrument::Entry, Kind::Reading, b"entry_reading");
     print_cases(Instrument::Entry, Kind::Loading, b"entry_sheets");
     print_cases(Instrument::Entry, Kind::Words, b"entry_words");
+    print_cases(Instrument::Four, Kind::Reading, b"four_reading");
+    print_cases(Instrument::Four, Kind::Loading, b"four_sheets");
+    print_cases(Instrument::Four, Kind::Words, b"four_words");
 }

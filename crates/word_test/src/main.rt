@@ -23,6 +23,15 @@ fn wrong(i: usize, expected: &[u8]) {
     wrong_argument(b"word_test", i, expected);
 }
 
+// That argument i is no event of the instrument.
+fn wrong_event(instrument: Instrument, i: usize) {
+    match instrument {
+        Instrument::Large => wrong(i, b"an event, a number from 0 to 31"),
+        Instrument::Entry => wrong(i, b"an event, a number from 0 to 31"),
+        Instrument::Four => wrong(i, b"an event, a number from 0 to 63"),
+    }
+}
+
 // The answer on the word of the events from argument `from` on. There is room for one event more than a word may have; what follows it is not
 // read.
 fn print_test(instrument: Instrument, sheet: &[u8], condition: usize, from: usize) {
@@ -34,7 +43,7 @@ fn print_test(instrument: Instrument, sheet: &[u8], condition: usize, from: usiz
                 cannot_write(b"word_test");
             }
         }
-        Events::WrongAt(i) => wrong(i, b"an event, a number from 0 to 31"),
+        Events::WrongAt(i) => wrong_event(instrument, i),
     }
 }
 
@@ -57,16 +66,17 @@ fn print_line(instrument: Instrument, i: usize)
 fn print_help() {
     let written = io::write_all(
         STDOUT_FILENO,
-        b"usage: word_test [--instrument large|entry] SHEET CONDITION EVENT...\n\
+        b"usage: word_test [--instrument large|entry|four] SHEET CONDITION EVENT...\n\
           \n\
           Tests whether a condition of the sheet in the file SHEET holds the word of the events, and prints one line.\n\
-          CONDITION is the condition's number, counted from 0; each EVENT is a number from 0 to 31.\n\
+          CONDITION is the condition's number, counted from 0; each EVENT is a number, one of the instrument's events.\n\
           \x20 yes, no             the condition holds the word, or not\n\
           \x20 refused N at P      the bytes are no well formed sheet, by refusal N, at the place P\n\
           \x20 refused 12          the word is longer than 4,096 events\n\
-          \x20 refused 13 at I     the event at the index I is above 31\n\
+          \x20 refused 13 at I     the event at the index I is above the instrument's last\n\
           \x20 refused 14          there is no such condition\n\
-          The large instrument takes 65,536 bytes and 512 points, the entry instrument 8,192 bytes and 64 points.\n\
+          The large and the four-channel instrument take 65,536 bytes and 512 points, the entry instrument 8,192 bytes and 64 points.\n\
+          The four-channel instrument has the events 0 to 63, the others 0 to 31.\n\
           Where none is named, the sheet is one of the large one.\n\
           What is wrong with an argument, and what cannot be read or written, is said on standard error.\n\
           The exit status is always 0.\n",
@@ -80,7 +90,7 @@ fn misused(i: usize, expected: &[u8]) {
     wrong(i, expected);
     io::write_all(
         STDERR_FILENO,
-        b"usage: word_test [--instrument large|entry] SHEET CONDITION EVENT...\n",
+        b"usage: word_test [--instrument large|entry|four] SHEET CONDITION EVENT...\n",
     );
 }
 

@@ -2,7 +2,7 @@
 ghost use mathlib.Core.Path.{_≡_};
 ghost use Prim.Native.Nat.{_≤_};
 ghost use lib.ListN.{length};
-ghost use Rattle.sheet.specs.Model.{large, entry};
+ghost use Rattle.sheet.specs.Model.{large, entry, four};
 ghost use Rattle.sheet.specs.Decode.{sheetOf};
 ghost use Rattle.verdict.specs.WordTest.{wordTest};
 ghost use Rattle.verdict.specs.Promise.{TestsWord};
@@ -98,12 +98,26 @@ fn test_with(
     }
 }
 
+// The word test of an instrument, with a table for as many points as the largest ones take.
+fn test_wide(instrument: Instrument, s: &[u8], condition: usize, word: &[u8]) -> WordAnswer
+    ensures { λ r. ⌜ TestsWord (modelOf instrument) (now (s .entry)) condition (now (word .entry)) (answerOf r) ⌝ }
+{
+    let mut points: [u32; 512] = [0; 512];
+    test_with(instrument, s, &mut points, condition, word)
+}
+
 // The word test of the large instrument.
 pub fn word_test(s: &[u8], condition: usize, word: &[u8]) -> WordAnswer
     ensures { λ r. ⌜ TestsWord large (now (s .entry)) condition (now (word .entry)) (answerOf r) ⌝ }
 {
-    let mut points: [u32; 512] = [0; 512];
-    test_with(Instrument::Large, s, &mut points, condition, word)
+    test_wide(Instrument::Large, s, condition, word)
+}
+
+// The word test of the four-channel instrument.
+pub fn word_test_four(s: &[u8], condition: usize, word: &[u8]) -> WordAnswer
+    ensures { λ r. ⌜ TestsWord four (now (s .entry)) condition (now (word .entry)) (answerOf r) ⌝ }
+{
+    test_wide(Instrument::Four, s, condition, word)
 }
 
 // The word test of the entry instrument.
@@ -121,5 +135,6 @@ pub fn word_test_on(instrument: Instrument, s: &[u8], condition: usize, word: &[
     match instrument {
         Instrument::Large => word_test(s, condition, word),
         Instrument::Entry => word_test_entry(s, condition, word),
+        Instrument::Four => word_test_four(s, condition, word),
     }
 }

@@ -19,6 +19,12 @@ enum-told-2 c = search needs
 load-entry-requires : tie.Need-load-entry-requires
 load-entry-requires c κs = search needs
 
+enum-told-3 : tie.Need-enum-told-3
+enum-told-3 c = search needs
+
+load-four-requires : tie.Need-load-four-requires
+load-four-requires c κs = search needs
+
 returns : tie.Need-returns
 returns c =
     subst (λ (i : Instrument). Loads (modelOf i) (c .before .before .before .before .args .s .now) (reportOf (c .load .result)))
@@ -29,6 +35,11 @@ returns-2 c =
     subst (λ (i : Instrument). Loads (modelOf i) (c .before .before .before .before .args .s .now) (reportOf (c .load-entry .result)))
     (sym (c .before .enum-told2 .given .1)) (c .load-entry .ensures)
 
+returns-3 : tie.Need-returns-3
+returns-3 c =
+    subst (λ (i : Instrument). Loads (modelOf i) (c .before .before .before .before .args .s .now) (reportOf (c .load-four .result)))
+    (sym (c .before .enum-told3 .given .1)) (c .load-four .ensures)
+
 pub load-on-spec : {M : Type 1} → statement M
 load-on-spec =
     tie.close
@@ -37,5 +48,8 @@ load-on-spec =
     load-requires
     enum-told-2
     load-entry-requires
+    enum-told-3
+    load-four-requires
     returns
-    returns-2)
+    returns-2
+    returns-3)

@@ -19,6 +19,12 @@ enum-told-2 c = search needs
 word-test-entry-requires : tie.Need-word-test-entry-requires
 word-test-entry-requires c κs = search needs
 
+enum-told-3 : tie.Need-enum-told-3
+enum-told-3 c = search needs
+
+word-test-four-requires : tie.Need-word-test-four-requires
+word-test-four-requires c κs = search needs
+
 returns : tie.Need-returns
 returns c =
     let given = c .before .before .before .before .before .args in
@@ -31,6 +37,12 @@ returns-2 c =
     subst (λ (i : Instrument). TestsWord (modelOf i) (given .s .now) (given .condition) (given .word .now) (answerOf (c .word-test-entry .result)))
     (sym (c .before .enum-told2 .given .1)) (c .word-test-entry .ensures)
 
+returns-3 : tie.Need-returns-3
+returns-3 c =
+    let given = c .before .before .before .before .before .args in
+    subst (λ (i : Instrument). TestsWord (modelOf i) (given .s .now) (given .condition) (given .word .now) (answerOf (c .word-test-four .result)))
+    (sym (c .before .enum-told3 .given .1)) (c .word-test-four .ensures)
+
 pub word-test-on-spec : {M : Type 1} → statement M
 word-test-on-spec =
     tie.close
@@ -39,5 +51,8 @@ word-test-on-spec =
     word-test-requires
     enum-told-2
     word-test-entry-requires
+    enum-told-3
+    word-test-four-requires
     returns
-    returns-2)
+    returns-2
+    returns-3)
