@@ -1,8 +1,8 @@
 """Random runs of accepted sheets, also of those in which calls may fail (document
-02, Ask 2), of those that stop (Ask 4) and of those with owners (Ask 9), checked against
-demand 3 of document 01 and against Asks 9 and 12 of document 02, by the languages of
-the conditions. Then runs of sheets that are read whole, accepted or not, checked
-against Ask 9.
+02, Ask 2), of those that stop (Ask 4), of those with owners (Ask 9) and of those with
+calls on channels (Ask 11), checked against demand 3 of document 01 and against Asks 9
+and 12 of document 02, by the languages of the conditions. Then runs of sheets that are
+read whole, accepted or not, checked against Ask 9.
 
     python3 simulate.py [SEED [SHEETS]]
 
@@ -13,19 +13,21 @@ import sys
 from collections import Counter
 from typing import NamedTuple
 
-from generate import outcomes, owners, stops
+from generate import channels, exchanges, outcomes, owners, stops
 from generate.draws import Draws
 from generate.faults import changed_bytes, changed_conditions
 from generate.plans import FAILING_SHAPES, STOPPING_SHAPES, repeated_calls
 from generate.special import examples
 from generate.true_sheets import true_sheets
 from generate.words import derived
+from reference.channels import exchanged_word
+from reference.instruments import FOUR_CHANNEL, LARGE
 from reference.loader import Accepted, verdict
-from reference.reading import (CALL_STEP, EVENT_STEP, STOP_STEP, Refusal,
-                               read_sheet)
-from reference.runs import (FAIL, RETURN, Move, all_owned, callers, first_break,
-                            first_owed_break, first_owner_break, in_caller,
-                            in_condition, make_move, missing, start)
+from reference.reading import (CALL_STEP, CHANNEL_CALL, EVENT_STEP, STOP_STEP,
+                               Refusal, read_sheet)
+from reference.runs import (FAIL, RETURN, Move, all_owned, callers, channel_of,
+                            first_break, first_owed_break, first_owner_break,
+                            in_caller, in_condition, make_move, missing, start)
 from sheets.records import encode, with_certificates
 
 RUNS = 12
@@ -43,12 +45,15 @@ class Totals:
         self.stopped = Counter()   # runs that stopped, by the number of open calls
         self.due_at_stop = self.due_above = 0
         self.owned = Counter()     # states in which all points have owners, by calls
+        self.on_channel = Counter()  # calls by channel, if that is not 0
+        self.exchanged = Counter()   # parts of these in which the exchange counts
 
-    def count_owed(self, run):
+    def count_owed(self, sheet, run):
         """Count the returned calls whose future is owed in a state."""
         for call in run.returned_calls:
             if in_caller(run, call):
                 self.owed += 1
+                self.exchanged["owed"] += channel_of(sheet, call) > 0
                 self.owed_by_failed += call.failed
                 self.past_maker += call.maker is not run.active
             else:
@@ -69,6 +74,25 @@ class Totals:
             self.failed_ends += 1
         else:
             self.failed_bodies += 1
+
+    def count_channel(self, sheet, before, after):
+        """Count a call on a channel other than 0 that a move has made, and whether the
+        exchange changes what it began with and what it raised."""
+        if len(after.returned_calls) == len(before.returned_calls):
+            return
+        call = after.returned_calls[-1]
+        channel = channel_of(sheet, call)
+        if channel:
+            self.on_channel[channel] += 1
+            for part, word in (("pre", call.begun), ("trace", call.raised)):
+                self.exchanged[part] += exchanged_word(word, channel) != word
+
+    def count_ended(self, sheet, run):
+        """Count the calls on a channel other than 0 whose future, at the end of a run,
+        has a word that the exchange changes."""
+        for call in run.returned_calls:
+            channel, after = channel_of(sheet, call), run.history[len(call.returned):]
+            self.exchanged["future"] += exchanged_word(after, channel) != after
 
     def count_owned(self, sheet, run):
         """Count a state with an open call in which the point's owner must be the active
@@ -96,6 +120,11 @@ def in_like_of_caller(run, call):
                                           for caller in callers(call))
 
 
+def uses_channels(sheet):
+    """Whether a sheet has calls on channels."""
+    return any(step.channel is not None for step in sheet.steps)
+
+
 class Break(NamedTuple):
     sheet: int
     moves: list
@@ -110,19 +139,20 @@ class Walker:
         self.draws = draws
         self.sheet = sheet
         self.known = {}
+        self.events = (FOUR_CHANNEL if uses_channels(sheet) else LARGE).events
 
-    def test(self, sheet, number, word):
+    def test(self, sheet, number, word, channel=0):
         """in_condition, remembered."""
-        key = number, word
+        key = number, word, channel
         if key not in self.known:
-            self.known[key] = in_condition(sheet, number, word)
+            self.known[key] = in_condition(sheet, number, word, channel)
         return self.known[key]
 
-    def find(self, sheet, due, future, since):
+    def find(self, sheet, due, future, since, channel=0):
         """missing, remembered."""
-        key = due, future, since
+        key = due, future, since, channel
         if key not in self.known:
-            self.known[key] = missing(sheet, due, future, since)
+            self.known[key] = missing(sheet, due, future, since, channel)
         return self.known[key]
 
     def demand_3(self, run):
@@ -152,8 +182,10 @@ class Walker:
         method = self.sheet.methods[step.operand]
         failed = self.fails(method.may_fail)
         trace = (method.outcome(failed) or method.outcome(False)).trace
-        return Move(number, derived(self.draws, self.sheet.conditions[trace],
-                                    self.draws.below(5)), failed)
+        word = derived(self.draws, self.sheet.conditions[trace], self.draws.below(5))
+        if step.channel and word and self.draws.chance(0.95):
+            word = exchanged_word(word, step.channel)
+        return Move(number, word, failed)
 
     def return_move(self, run):
         """A return, with an outcome that has its exit here if there is one."""
@@ -179,7 +211,7 @@ class Walker:
         failed = self.draws.chance(0.3)
         if self.draws.chance(0.3):
             return Move(failed=failed)
-        word = tuple(self.draws.below(34)
+        word = tuple(self.draws.below(self.events + 2)
                      for _ in range(self.draws.below(4)))
         return Move(self.draws.below(len(self.sheet.steps) + 3) - 1,
                     word if self.draws.chance(0.6) else None, failed)
@@ -202,7 +234,7 @@ def must_stay(sheet, run, move):
     step = sheet.steps[move.step]
     return (step.source != run.point
             or step.kind == STOP_STEP and not sheet.new
-            or step.kind == CALL_STEP and move.failed
+            or step.kind in (CALL_STEP, CHANNEL_CALL) and move.failed
             and not sheet.methods[step.operand].has_body)
 
 
@@ -241,7 +273,7 @@ def walk(walker, totals, number, check=Walker.any_break):
     totals.runs += 1
     while len(moves) < MOVES and late < 3 and len(run.history) < MAX_HISTORY:
         totals.states += 1
-        totals.count_owed(run)
+        totals.count_owed(sheet, run)
         totals.count_owned(sheet, run)
         found = check(walker, run)
         if found:
@@ -251,17 +283,20 @@ def walk(walker, totals, number, check=Walker.any_break):
         after = make_move(sheet, run, move)
         check_move(sheet, run, move, after)
         totals.count_failed(sheet, run, move, after)
+        totals.count_channel(sheet, run, after)
         totals.moves += 1
         totals.made += after != run
         late += run.ended
         totals.after_end += run.ended
-        totals.ended += after.ended and not run.ended
+        if after.ended and not run.ended:
+            totals.ended += 1
+            totals.count_ended(sheet, after)
         if after.stopped and not run.stopped:
             totals.count_stop(after)
         totals.deepest = max(totals.deepest, len(after.open_calls))
         run = after
     totals.states += 1
-    totals.count_owed(run)
+    totals.count_owed(sheet, run)
     totals.count_owned(sheet, run)
     found = check(walker, run)
     return Break(number, moves, *found) if found else None
@@ -269,7 +304,8 @@ def walk(walker, totals, number, check=Walker.any_break):
 
 def accepted_sheets(seed, count):
     """Accepted examples, random true sheets, also of those that may fail, of those that
-    stop and of those with owners, and changed ones still accepted."""
+    stop, of those with owners and of those with calls on channels, and changed ones
+    still accepted."""
     sheets = [sheet for _, sheet in true_sheets(seed, count)]
     sheets += failing_sheets(seed + 4, count)
     sheets += stopping_sheets(seed + 5, count)
@@ -278,6 +314,7 @@ def accepted_sheets(seed, count):
     yield from accepted_among(outcomes.accepted_cases())
     yield from accepted_among(stops.accepted_cases())
     yield from accepted_among(owners.accepted_cases())
+    yield from channel_sheets(seed + 8, count)
     yield from sheets
     for _, sheet in true_sheets(seed + 3, count // 4, shapes=[repeated_calls]):
         yield sheet
@@ -295,10 +332,21 @@ def stopping_sheets(seed, count):
     return [sheet for _, sheet in true_sheets(seed, count, shapes=STOPPING_SHAPES)]
 
 
-def accepted_among(cases):
+def channel_sheets(seed, count):
+    """Accepted sheets with calls on channels: single ones, random true ones, and
+    changed ones still accepted."""
+    sheets = channels.channel_sheets(seed, count)
+    yield from sheets
+    for cases in (exchanges.whole_cases(), exchanges.site_cases(),
+                  exchanges.channel_changes(seed + 1, sheets, 2),
+                  changed_conditions(seed + 2, sheets)):
+        yield from accepted_among(cases, FOUR_CHANNEL)
+
+
+def accepted_among(cases, instrument=LARGE):
     for case in cases:
-        if isinstance(verdict(case.data), Accepted):
-            yield read_sheet(case.data)
+        if isinstance(verdict(case.data, instrument), Accepted):
+            yield read_sheet(case.data, instrument)
 
 
 def sheets_read_whole(seed, count):
@@ -306,8 +354,8 @@ def sheets_read_whole(seed, count):
     unproved."""
     draws = Draws(seed)
     for number in range(count):
-        sheet = owners.random_sheet(draws, number % 4 * 0.01)
-        sheet = read_sheet(encode(with_certificates(sheet)))
+        sheet = owners.random_sheet(draws, number % 4 * 0.01, number % 2 == 1)
+        sheet = read_sheet(encode(with_certificates(sheet)), FOUR_CHANNEL)
         if not isinstance(sheet, Refusal):
             yield sheet
 
@@ -346,6 +394,16 @@ def print_totals(totals):
           f"had made")
 
 
+def print_channels(totals):
+    print(f"{sum(totals.on_channel.values())} calls on channels, "
+          + ", ".join(f"{channel}: {calls}" for channel, calls
+                      in sorted(totals.on_channel.items()))
+          + "; the exchange changed what "
+          f"{totals.exchanged['pre']} began with, what {totals.exchanged['trace']} "
+          f"raised and what followed {totals.exchanged['future']}; "
+          f"{totals.exchanged['owed']} futures owed by such calls")
+
+
 def print_owned(totals):
     print(f"{totals.owned['outermost'] + totals.owned['inside']} states with owners at "
           f"all points, {totals.owned['inside']} of them in calls that were made, "
@@ -360,6 +418,7 @@ def main(arguments):
     found = simulate(seed, accepted_sheets(seed, count), totals)
     print_totals(totals)
     print_owned(totals)
+    print_channels(totals)
     found = found or simulate(seed, sheets_read_whole(seed + 7, 2 * count), whole,
                               Walker.ask_9)
     print(f"{whole.sheets} sheets that are read whole, accepted or not:")

@@ -59,7 +59,8 @@ class Limits(unittest.TestCase):
         self.check(data, line, line, line_of)
 
     def test_values(self):
-        self.assertEqual((LARGE, ENTRY), ((65536, 512, 20), (8192, 64, 20)))
+        self.assertEqual((LARGE, ENTRY),
+                         ((65536, 512, 20, 32), (8192, 64, 20, 32)))
 
     def test_bytes(self):
         for size in (8191, 8192):
@@ -393,12 +394,13 @@ class Programs(unittest.TestCase):
             self.assertEqual(chosen_instrument(["--instrument", name, "x"]),
                              (instrument, ["x"]))
         for words in ([], [""], ["small", "x"], ["Entry"], ["entry "]):
-            with self.assertRaisesRegex(ValueError, "large or entry"):
+            with self.assertRaisesRegex(ValueError, "large, entry or four"):
                 chosen_instrument(["--instrument", *words])
 
     def test_wrong_arguments(self):
         for program in (loader, wordtest):
-            self.assertIn("large or entry", program.main(["--instrument", "x"]))
+            self.assertIn("large, entry or four",
+                          program.main(["--instrument", "x"]))
         self.assertIn("usage", loader.main(["--instrument", "entry", "sheet"]))
         self.assertIn("usage", wordtest.main(["--instrument", "entry", "sheet"]))
 

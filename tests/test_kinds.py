@@ -7,11 +7,11 @@ from unittest.mock import patch
 
 import test_outcomes
 import test_reference
-from generate import kinds, owners
+from generate import channels, kinds, owners
 from generate.kinds import LENGTHS
 from generate.refusals import positions
 from reference import reading
-from reference.instruments import INSTRUMENTS, LARGE
+from reference.instruments import FOUR_CHANNEL, INSTRUMENTS, LARGE
 from reference.reading import BODY_LENGTHS, Refusal, read_sheet, reading_line
 from test_reference import CRATES
 
@@ -45,23 +45,26 @@ class Lengths(unittest.TestCase):
         return sum(short)
 
     def test_first_byte(self):
-        """Each of the 256 kinds, on instruments of 14, 17, 19 and 20 kinds."""
+        """Each of the 256 kinds, on instruments of 14, 17, 19, 20 and 22 kinds."""
         self.assertEqual(sorted(LENGTHS), list(range(1, 21)))
+        self.assertEqual(sorted(channels.LENGTHS), list(range(1, 23)))
         for instrument in INSTRUMENTS.values():
-            for last in (14, 17, 19, 20):
+            for last in (14, 17, 19, 20, 22):
                 on = instrument._replace(kinds=last)
                 for kind in range(256):
-                    length = LENGTHS[kind] if 1 <= kind <= last else None
+                    length = channels.LENGTHS[kind] if 1 <= kind <= last else None
                     self.assertEqual(self.found(b"", kind, on), length, (kind, last))
 
     def test_every_place(self):
         """The same behind every record of a sheet of each edition, since 2 and 3 come
         before all that depends on the records in front."""
-        for base in (owners.OLD_BASE, owners.BASE):
-            for _, before, _ in positions(base):
-                for kind in (0, *range(1, 22), 128, 255):
-                    self.assertEqual(self.found(before, kind, LARGE),
-                                     LENGTHS.get(kind), (kind, before.hex()))
+        for instrument, lengths, bases in (
+                (LARGE, LENGTHS, (owners.OLD_BASE, owners.BASE)),
+                (FOUR_CHANNEL, channels.LENGTHS, (channels.OLD_BASE, channels.BASE))):
+            for _, before, _ in chain.from_iterable(map(positions, bases)):
+                for kind in (0, *range(1, 24), 128, 255):
+                    self.assertEqual(self.found(before, kind, instrument),
+                                     lengths.get(kind), (kind, before.hex()))
 
 
 class Cases(unittest.TestCase):

@@ -82,7 +82,7 @@ class Reading(unittest.TestCase):
             "failed_trace": 6, "failed_future": 7, "failed_exit": 8})
         self.assertEqual(sheet.steps[0]._asdict(), {
             "kind": 17, "source": 1, "target": 2, "failed_target": 3,
-            "operand": 0})
+            "operand": 0, "channel": None})
 
     def test_refusal_18(self):
         """Each kind of call with each kind of method."""
@@ -552,8 +552,8 @@ class Texts(unittest.TestCase):
         bodies = ("expected: method NAME pre .. trace .. future .. entry .. exit .., "
                   "then all or none of failed trace .. failed future .. "
                   "failed exit ..")
-        ends = ("a step ends with: event EVENT, call METHOD, "
-                "call METHOD failing to POINT, or pass")
+        ends = ("a step ends with: event EVENT, call METHOD, call METHOD failing to "
+                "POINT, call METHOD channel NUMBER, or pass")
         for line, message in (
                 ("primitive h pre a trace a future a failed trace a", both),
                 ("primitive h pre a trace a future a failed future a", both),
@@ -645,7 +645,7 @@ def uses_later(data, instrument, kinds):
     while offset < len(data) <= instrument.bytes:
         if kinds < data[offset] <= instrument.kinds:
             return True
-        record = read_record(data, offset)
+        record = read_record(data, offset, instrument.kinds)
         if isinstance(record, Refusal) or reader.refusal_at(record):
             return False
         reader.add(record)

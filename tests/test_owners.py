@@ -15,7 +15,8 @@ from generate.special import EXAMPLES, M
 from generate.stops import END, NEW, PAIR
 from generate.true_sheets import true_sheets
 from reference import reading
-from reference.instruments import ENTRY, INSTRUMENTS, LARGE, Instrument
+from reference.instruments import (ENTRY, FOUR_CHANNEL, INSTRUMENTS, LARGE,
+                                   TWO_CHANNEL, Instrument)
 from reference.loader import line_of, load_line, verdict, word_line
 from reference.reading import (BODY_LENGTHS, SECTIONS, Point, Reader, Refusal,
                                named_fields, read_sheet, reading_line)
@@ -110,8 +111,8 @@ class Reading(unittest.TestCase):
 
     def test_kinds(self):
         """Length, section, and no kind above the instrument's."""
-        self.assertEqual((BODY_LENGTHS[19:], SECTIONS[19:]), ((8,), (2,)))
-        for instrument in INSTRUMENTS.values():
+        self.assertEqual((BODY_LENGTHS[19:20], SECTIONS[19:20]), ((8,), (2,)))
+        for instrument in TWO_CHANNEL.values():
             self.assertEqual(instrument.kinds, 20)
             for kind in (0, *range(21, 256)):
                 self.assertEqual(reading_line(bytes([kind]) + bytes(20), instrument),
@@ -456,7 +457,7 @@ class Runs(unittest.TestCase):
         """Random runs of any sheets that are read whole; most are not accepted."""
         totals, draws, found = Totals(), Draws(511), Counter()
         for sheet in sheets_read_whole(512, 150):
-            found[line_of(verdict(r.encode(sheet))).split()[0]] += 1
+            found[line_of(verdict(r.encode(sheet), FOUR_CHANNEL)).split()[0]] += 1
             walker = Walker(draws, sheet)
             for _ in range(6):
                 self.assertIsNone(walk(walker, totals, 0, Walker.ask_9))

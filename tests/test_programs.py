@@ -5,6 +5,11 @@ import subprocess
 import tempfile
 import unittest
 
+from generate import exchanges
+from reference.instruments import FOUR_CHANNEL
+from sheets.assemble import assemble
+from sheets.records import channel_call, method, point
+
 ROOT = os.path.dirname(os.path.dirname(os.path.abspath(__file__)))
 LOAD = os.path.join(ROOT, 'target', 'bin', 'load')
 WORD_TEST = os.path.join(ROOT, 'target', 'bin', 'word_test')
@@ -13,9 +18,12 @@ LONG_WALK = os.path.join(ROOT, 'examples', 'long_walk.sheet')
 CONDITION = os.path.join(ROOT, 'crates', 'word_test', 'data', 'condition.sheet')
 FULL = '/dev/full'
 OPTION = '--instrument'
-LOAD_USAGE = 'usage: load [--instrument large|entry] [FILE]'
-WORD_USAGE = 'usage: word_test [--instrument large|entry] SHEET CONDITION EVENT...'
-NO_INSTRUMENTS = ['small', '', 'Entry', 'LARGE', 'entry ', 'entr', 'entryy', '1', '2', '--help', MINIMAL]
+LOAD_USAGE = 'usage: load [--instrument large|entry|four] [FILE]'
+WORD_USAGE = 'usage: word_test [--instrument large|entry|four] SHEET CONDITION EVENT...'
+NO_INSTRUMENTS = ['small', '', 'Entry', 'LARGE', 'entry ', 'entr', 'entryy', 'Four', 'four ', 'fou', 'fourr', '1', '2', '3', '4',
+                  '--help', MINIMAL]
+INSTRUMENTS = ['large', 'entry', 'four']
+OPTIONS = [[], *([OPTION, name] for name in INSTRUMENTS)]
 
 
 def run(program, *arguments, input=b'', **kinds):
@@ -36,7 +44,7 @@ class Programs(unittest.TestCase):
 
     def wants_an_instrument(self, name, program, *rest):
         """A word behind the option that names none, or no word, gets a line on standard error only."""
-        expected = 'expected an instrument, large or entry'
+        expected = 'expected an instrument, large, entry or four'
         for word in NO_INSTRUMENTS:
             self.says(f'{name}: argument 2 is `{word}`: {expected}', program, OPTION, word)
             self.says(f'{name}: argument 2 is `{word}`: {expected}', program, OPTION, word, *rest)
@@ -66,7 +74,7 @@ class Load(Programs):
                 self.prints(line, LOAD, file.name)
 
     def test_instruments(self):
-        for words in [[], [OPTION, 'large'], [OPTION, 'entry']]:
+        for words in OPTIONS:
             self.prints('accepted 6', LOAD, *words, MINIMAL)
             self.prints('refused 9 at 0', LOAD, *words)
             with open(MINIMAL, 'rb') as sheet:
@@ -80,11 +88,22 @@ class Load(Programs):
         for size, line in [(8191, 'refused 2 at 0'), (8192, 'refused 2 at 0'), (8193, 'refused 1 at 8192'),
                            (65536, 'refused 1 at 8192'), (65537, 'refused 1 at 8192'), (1 << 20, 'refused 1 at 8192')]:
             self.prints(line, LOAD, OPTION, 'entry', input=bytes(size))
-            self.prints('refused 1 at 65536' if size > 65536 else 'refused 2 at 0', LOAD, OPTION, 'large', input=bytes(size))
+            for name in ['large', 'four']:
+                self.prints('refused 1 at 65536' if size > 65536 else 'refused 2 at 0', LOAD, OPTION, name, input=bytes(size))
             with tempfile.NamedTemporaryFile() as file:
                 file.write(bytes(size))
                 file.flush()
                 self.prints(line, LOAD, OPTION, 'entry', file.name)
+
+    def test_channels(self):
+        """Kinds 21 and 22, and refusal 26, on the four-channel instrument; the others give 2."""
+        for channel, line in [(2, 'accepted 21'), (4, 'refused 26 at {}')]:
+            text = exchanges.whole_text(2).replace('channel 2', f'channel {channel}')
+            sheet = assemble(text, FOUR_CHANNEL)
+            at, leaf = sheet.index(channel_call(1, 2, 2, channel)), sheet.index(b'\x15')
+            self.prints(line.format(at), LOAD, OPTION, 'four', input=sheet)
+            for words in OPTIONS[:3]:
+                self.prints(f'refused 2 at {leaf}', LOAD, *words, input=sheet)
 
     def test_no_instrument(self):
         self.wants_an_instrument('load', LOAD, MINIMAL)
@@ -105,7 +124,7 @@ class Load(Programs):
         self.assertEqual(load.communicate()[0], b'accepted 6\n')
 
     def test_help(self):
-        for words in [[], [OPTION, 'entry'], [OPTION, 'large']]:
+        for words in OPTIONS:
             out, err = run(LOAD, *words, '--help')
             self.assertTrue(out.startswith(LOAD_USAGE + '\n'))
             self.assertEqual(err, '')
@@ -122,7 +141,7 @@ class Load(Programs):
         self.says('load: cannot read standard input: Bad file descriptor', LOAD, stdin=None, preexec_fn=lambda: os.close(0))
 
     def test_too_many_arguments(self):
-        for words in [[], [OPTION, 'entry'], [OPTION, 'large']]:
+        for words in OPTIONS:
             for rest in [(MINIMAL, MINIMAL), (MINIMAL, '--help'), ('--help', MINIMAL)]:
                 self.says('load: more than one argument\n' + LOAD_USAGE, LOAD, *words, *rest)
 
@@ -144,13 +163,13 @@ class WordTest(Programs):
         self.prints('refused 9 at 0', WORD_TEST, '/dev/null', '0')
 
     def test_instruments(self):
-        for words in [[], [OPTION, 'large'], [OPTION, 'entry']]:
+        for words in OPTIONS:
             for condition, word, line in [
-                    (0, [], 'yes'), (0, [2, 0], 'yes'), (0, [0, 2], 'no'), (1, [2], 'refused 14'), (0, [2, 32], 'refused 13 at 1'),
+                    (0, [], 'yes'), (0, [2, 0], 'yes'), (0, [0, 2], 'no'), (1, [2], 'refused 14'), (0, [2, 64], 'refused 13 at 1'),
                     (0, [2] + 4095 * [0], 'yes'), (0, [2] + 4096 * [0], 'refused 12')]:
                 self.prints(line, WORD_TEST, *words, CONDITION, str(condition), *map(str, word))
             for condition, word, line in [
-                    (1, [], 'yes'), (1, [2, 2], 'yes'), (1, [2, 0], 'no'), (2, [2], 'refused 14'), (1, [2, 32], 'refused 13 at 1'),
+                    (1, [], 'yes'), (1, [2, 2], 'yes'), (1, [2, 0], 'no'), (2, [2], 'refused 14'), (1, [2, 64], 'refused 13 at 1'),
                     (1, 4097 * [2], 'refused 12')]:
                 self.prints('refused 6 at 457' if 'entry' in words else line,
                             WORD_TEST, *words, LONG_WALK, str(condition), *map(str, word))
@@ -165,22 +184,43 @@ class WordTest(Programs):
                 self.prints('refused 1 at 8192' if size > 8192 else 'yes', WORD_TEST, OPTION, 'entry', file.name, '0')
                 self.prints('refused 1 at 65536' if size > 65536 else 'yes', WORD_TEST, OPTION, 'large', file.name, '0')
 
+    def test_channels(self):
+        """Events up to 63 on the four-channel instrument; a leaf of kind 1 has none above 31, and one of kind 21 any."""
+        tail = b'\x06' + point(0, 0, 0) + method(0, 0, 0, 0, 0)
+        both = b'\x01\xff\xff\xff\xff\x05\x06\x15' + b'\xff' * 8 + b'\x05' + tail
+        with tempfile.NamedTemporaryFile() as file, tempfile.NamedTemporaryFile() as small:
+            file.write(both)
+            small.write(both[:6] + tail)
+            file.flush()
+            small.flush()
+            for condition, word, line in [
+                    (0, [31], 'yes'), (0, [32], 'no'), (0, [31, 63], 'no'), (1, [0, 31, 32, 63], 'yes'), (1, [63, 64], 'refused 13 at 1'),
+                    (1, [255], 'refused 13 at 0'), (1, [256], 'refused 13 at 0'), (1, 4096 * [63], 'yes'), (1, 4097 * [64], 'refused 12'),
+                    (2, [64], 'refused 14')]:
+                self.prints(line, WORD_TEST, OPTION, 'four', file.name, str(condition), *map(str, word))
+                for words in OPTIONS[:3]:
+                    self.prints('refused 2 at 7', WORD_TEST, *words, file.name, str(condition), *map(str, word))
+            self.prints('no', WORD_TEST, OPTION, 'four', small.name, '0', '32')
+            for words in OPTIONS[:3]:
+                self.prints('refused 13 at 0', WORD_TEST, *words, small.name, '0', '32')
+
     def test_no_instrument(self):
         self.wants_an_instrument('word_test', WORD_TEST, CONDITION, '0', '2')
 
     def test_help(self):
-        for words in [[], [OPTION, 'entry'], [OPTION, 'large']]:
+        for words in OPTIONS:
             out, err = run(WORD_TEST, *words, '--help')
             self.assertTrue(out.startswith(WORD_USAGE + '\n'))
             self.assertEqual(err, '')
 
     def test_wrong_arguments_behind_the_option(self):
         """The numbers of the arguments go on from the option's."""
-        for word in ['large', 'entry']:
+        for word in INSTRUMENTS:
             self.says("word_test: argument 3 is missing: expected the sheet's file\n" + WORD_USAGE, WORD_TEST, OPTION, word)
             self.says("word_test: argument 4 is missing: expected the condition's number\n" + WORD_USAGE, WORD_TEST, OPTION, word, CONDITION)
             self.says("word_test: argument 4 is `x`: expected the condition's number", WORD_TEST, OPTION, word, CONDITION, 'x', '2')
-            self.says('word_test: argument 6 is `x`: expected an event, a number from 0 to 31',
+            events = 63 if word == 'four' else 31
+            self.says(f'word_test: argument 6 is `x`: expected an event, a number from 0 to {events}',
                       WORD_TEST, OPTION, word, CONDITION, '0', '2', 'x')
             self.says(f"word_test: argument 2 is `{OPTION}`: expected the condition's number", WORD_TEST, CONDITION, OPTION, word)
 

@@ -22,7 +22,7 @@ from reference.certificates import (Fault, first_fault, is_included, moves,
 from reference.conditions import (ANY, EITHER, EMPTY, JOIN, LEAF, STAR, holds,
                                   parse_postfix, places_of, postfix, step)
 from reference.inclusion import missing_word
-from reference.instruments import ENTRY, INSTRUMENTS, LARGE
+from reference.instruments import ENTRY, FOUR_CHANNEL, INSTRUMENTS, LARGE
 from reference.loader import load_line, verdict, word_line, word_line_of
 from reference.reading import Refusal, read_sheet, reading_line
 from reference.rules import all_rules, certificates_needed, rule_count
@@ -864,7 +864,9 @@ class Vectors(unittest.TestCase):
     """The stored vectors are what the reference says."""
 
     FILES = {"reading": LARGE, "sheets": LARGE, "words": LARGE,
-             "entry_reading": ENTRY, "entry_sheets": ENTRY, "entry_words": ENTRY}
+             "entry_reading": ENTRY, "entry_sheets": ENTRY, "entry_words": ENTRY,
+             "four_reading": FOUR_CHANNEL, "four_sheets": FOUR_CHANNEL,
+             "four_words": FOUR_CHANNEL}
 
     @classmethod
     def setUpClass(cls):
@@ -915,33 +917,33 @@ class Vectors(unittest.TestCase):
                          set(self.FILES))
 
     def test_reading(self):
-        for name in ("reading", "entry_reading"):
+        for name in ("reading", "entry_reading", "four_reading"):
             self.assertEqual([reading_line(data, self.FILES[name])
                               for data in self.cases(name)], self.lines[name])
 
     def test_sheets(self):
-        for name in ("sheets", "entry_sheets"):
+        for name in ("sheets", "entry_sheets", "four_sheets"):
             self.assertEqual([load_line(data, self.FILES[name])
                               for data in self.cases(name)], self.lines[name])
 
     def test_examples(self):
         """Every sheet of examples/ is a stored case, with its line."""
-        for name in ("sheets", "entry_sheets"):
+        for name in ("sheets", "entry_sheets", "four_sheets"):
             stored = dict(zip(self.cases(name), self.lines[name]))
             for case in listed_examples(self.FILES[name]):
                 self.assertEqual(stored.get(case.data), case.line, case.label)
 
     def test_words(self):
-        for name in ("words", "entry_words"):
-            lines = []
+        for name in ("words", "entry_words", "four_words"):
+            lines, instrument = [], self.FILES[name]
             for data, words in self.groups(name):
-                sheet = read_sheet(data, self.FILES[name])
-                lines += [word_line_of(sheet, *one) for one in words]
+                sheet = read_sheet(data, instrument)
+                lines += [word_line_of(sheet, *one, instrument) for one in words]
             self.assertEqual(lines, self.lines[name])
 
     def test_refusals_agree(self):
         """The loader gives refusals 1 to 9 as reading does."""
-        for name in ("reading", "entry_reading"):
+        for name in ("reading", "entry_reading", "four_reading"):
             for data in self.cases(name):
                 result = read_sheet(data, self.FILES[name])
                 if isinstance(result, Refusal):

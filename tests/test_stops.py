@@ -92,7 +92,7 @@ class Reading(unittest.TestCase):
         self.assertEqual(sheet.counts, [2, 300, 1, 1, 0])
         self.assertEqual(sheet.steps[0]._asdict(), {
             "kind": 19, "source": 299, "target": None, "operand": None,
-            "failed_target": None})
+            "failed_target": None, "channel": None})
         self.assertEqual((sheet.steps[0].is_call, sheet.steps[0].outcomes),
                          (False, ()))
         self.assertFalse(read_sheet(front[1:]).new)
@@ -714,7 +714,7 @@ class Texts(unittest.TestCase):
                 ("step p stop p", step), ("step p", step), ("step stop", step),
                 ("step q stop", "unknown point 'q'"),
                 ("step p -> p stop", "a step ends with: event EVENT, call METHOD, "
-                 "call METHOD failing to POINT, or pass")):
+                 "call METHOD failing to POINT, call METHOD channel NUMBER, or pass")):
             with self.assertRaises(TextError) as caught:
                 assemble("\n".join(self.HEAD + (line,)))
             self.assertEqual((caught.exception.line, str(caught.exception)),

@@ -4,6 +4,7 @@ A case's line is the whole line, the line's beginning if it ends in a blank,
 or None where only the reference says it.
 """
 from reference.conditions import bits, places_of
+from reference.instruments import FOUR_CHANNEL, LARGE
 from reference.loader import load_line
 from reference.reading import FIELD_NAMES, FIELDS, read_record
 from reference.rules import all_rules, rule_count, subject_kind
@@ -19,7 +20,8 @@ ALL_RIGHTS = (1 << 32) - 1
 # The rules that have no certificate.
 UNCERTIFIED = (1, 2, 4, 24, 25)
 # The kinds of steps that have a rule, by the last rule; 26 is of calls of bodies.
-STEP_KINDS = {9: (10,), 14: (11, 17), 17: (12,), 21: (17,), 25: (19,), 26: (11, 17)}
+STEP_KINDS = {9: (10,), 14: (11, 17, 22), 17: (12,), 21: (17,), 25: (19,),
+              26: (11, 17)}
 
 
 def certified(sheet):
@@ -107,7 +109,7 @@ FAILURES = {1: fail_clause_1, 2: fail_clause_2, 3: fail_clause_3,
             4: fail_clause_4}
 
 
-def certificate_faults(seed, sheets, each, numbers=range(1, 27)):
+def certificate_faults(seed, sheets, each, numbers=range(1, 27), instrument=LARGE):
     """For each rule with a certificate and each clause, sheets that fail there.
 
     Few sheets may not have a clause: place 0 alone cannot fail clause 4.
@@ -129,7 +131,8 @@ def certificate_faults(seed, sheets, each, numbers=range(1, 27)):
                     continue
                 data = encode(with_certificate(sheet, index, result[0]))
                 # Clause 4: a pair may be missed by nothing.
-                if clause == 4 and not load_line(data).startswith(result[1]):
+                if clause == 4 and not load_line(
+                        data, instrument).startswith(result[1]):
                     continue
                 yield Case(f"rule {number} clause {clause}", data, result[1])
                 made += 1
@@ -161,10 +164,12 @@ def subjects(plan, number):
             and (number != 26 or step.operand in bodies)]
 
 
-def broken_rule(draws, number, shapes):
-    """A sheet that keeps every rule but one, or None."""
+def broken_rule(draws, number, shapes, kinds):
+    """A sheet that keeps every rule but one, or None; a step that has the rule is of
+    these kinds."""
     plan = random_plan(draws, draws.pick(shapes))
-    choice = subjects(plan, number)
+    choice = [one for one in subjects(plan, number)
+              if subject_kind(number) == "method" or plan.steps[one].kind in kinds]
     if not choice:
         return None
     subject = draws.pick(choice)
@@ -178,17 +183,18 @@ def broken_rule(draws, number, shapes):
                    f" clause {clause} ")
 
 
-def broken_rules(seed, each, numbers=range(1, 18), shapes=SHAPES):
+def broken_rules(seed, each, numbers=range(1, 18), shapes=SHAPES, instrument=LARGE,
+                 kinds=range(23)):
     """For each of the rules, sheets on which just that rule is false."""
     draws = Draws(seed)
     for number in numbers:
         made = 0
         while made < each:
-            result = broken_rule(draws, number, shapes)
+            result = broken_rule(draws, number, shapes, kinds)
             if result is None:
                 continue
             data = encode(result[0])
-            if load_line(data).startswith("accepted"):
+            if load_line(data, instrument).startswith("accepted"):
                 continue
             yield Case(f"rule {number} false", data, result[1])
             made += 1
@@ -343,7 +349,7 @@ def records_of(data):
     """The records of a sheet that reading takes."""
     records, offset = [], 0
     while offset < len(data):
-        record = read_record(data, offset)
+        record = read_record(data, offset, FOUR_CHANNEL.kinds)
         records.append(data[offset:record.end])
         offset = record.end
     return records

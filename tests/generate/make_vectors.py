@@ -2,27 +2,33 @@
 
 What the program stored_cases reads (data/reading, data/sheets, data/words for the
 large instrument, data/entry_reading, data/entry_sheets, data/entry_words for the
-entry instrument) and what it must print (stdout), below FOLDER, its crate. The files
-are the same byte for byte each time. A case whose line the documents give by
+entry instrument, data/four_reading, data/four_sheets, data/four_words for the
+four-channel instrument) and what it must print (stdout), below FOLDER, its crate. The
+files are the same byte for byte each time. A case whose line the documents give by
 construction must get that line from the reference. The cases of document 02, Ask 2,
 stand behind those of document 01 and Ask 8 in each file, those of Ask 4 behind these,
-then those of Ask 7, which are only read, and those of Ask 9 last.
+then those of Ask 7, which are only read, those of Ask 9, and those of Ask 11 last. The
+files for the four-channel instrument have the cases of Ask 11, and behind them a part
+of the others, whose line is that of the large instrument where they use nothing of Ask
+11.
 """
 import sys
 import time
+from functools import lru_cache, partial
+from itertools import islice
 from pathlib import Path
 
-from reference.instruments import ENTRY, LARGE
+from reference.instruments import ENTRY, FOUR_CHANNEL, LARGE
 from reference.loader import load_line, word_line_of
 from reference.reading import read_sheet, reading_line
 from reference.rules import rule_count
 from sheets.records import encode
 
-from . import entry, faults, kinds, outcomes, owners, stops
+from . import channels, entry, exchanges, faults, kinds, outcomes, owners, stops
 from .refusals import Case, reading_cases, without_repeats
 from .special import last_cases, special_cases, wide_sides
 from .true_sheets import large_true_sheets, true_sheets
-from .words import word_groups
+from .words import Group, word_groups
 
 FOLDER = Path(__file__).resolve().parent.parent.parent / "crates" / "stored_cases"
 
@@ -87,8 +93,8 @@ def write_words(path, groups, instrument):
         sheet = read_sheet(group.sheet, instrument)
         parts += [u32(len(group.sheet)), group.sheet, u32(len(group.cases))]
         for condition, word, expected in group.cases:
-            line = word_line_of(sheet, condition, word)
-            if line != expected:
+            line = word_line_of(sheet, condition, word, instrument)
+            if expected not in (None, line):
                 raise AssertionError(f"{word}: {expected}, found {line}")
             parts += [condition.to_bytes(2, "little"),
                       len(word).to_bytes(2, "little"), bytes(word)]
@@ -97,27 +103,72 @@ def write_words(path, groups, instrument):
     return lines
 
 
+# The cases of the large instrument without those of Ask 11.
+FORMER = {
+    "reading": (all_reading_cases, outcomes.reading_cases, stops.reading_cases,
+                kinds.reading_cases, owners.reading_cases),
+    "sheets": (all_sheet_cases, outcomes.sheet_cases, stops.sheet_cases,
+               owners.sheet_cases),
+    "words": (word_groups, outcomes.word_groups, stops.word_groups,
+              owners.word_groups)}
+# Of these, the longest that are read by the four-channel instrument too.
+MOST_BYTES = 3000
+
+
+@lru_cache(maxsize=None)
+def former(name):
+    """The cases of a file without those of Ask 11."""
+    return [case for part in FORMER[name] for case in part()]
+
+
+def same_cases(name, line_of, every):
+    """A part of these, with the line of the large instrument if they use nothing of Ask
+    11."""
+    for case in islice(former(name), 0, None, every):
+        if len(case.data) <= MOST_BYTES:
+            uses = channels.first_later(case.data) is not None
+            yield Case(case.label, case.data,
+                       None if uses else line_of(case.data, LARGE))
+
+
+def same_groups(every):
+    """A part of the groups of words, likewise; a word may have an event above 31."""
+    for group in islice(former("words"), 0, None, every):
+        if len(group.sheet) <= MOST_BYTES:
+            uses = channels.first_later(group.sheet) is not None
+            yield Group(group.sheet, [
+                (number, word, None if uses or any(31 < event < 64 for event in word)
+                 else line) for number, word, line in group.cases])
+
+
 # The files in the order of their lines: what writes one, and from what.
 FILES = {
-    "reading": (write_cases, (all_reading_cases, outcomes.reading_cases,
-                              stops.reading_cases, kinds.reading_cases,
-                              owners.reading_cases), reading_line, LARGE),
-    "sheets": (write_cases, (all_sheet_cases, outcomes.sheet_cases,
-                             stops.sheet_cases, owners.sheet_cases),
+    "reading": (write_cases, (partial(former, "reading"), channels.reading_cases),
+                reading_line, LARGE),
+    "sheets": (write_cases, (partial(former, "sheets"), exchanges.sheet_cases),
                load_line, LARGE),
-    "words": (write_words, (word_groups, outcomes.word_groups, stops.word_groups,
-                            owners.word_groups), LARGE),
+    "words": (write_words, (partial(former, "words"), channels.word_groups), LARGE),
     "entry_reading": (write_cases, (entry.reading_cases,
                                     outcomes.entry_reading_cases,
                                     stops.entry_reading_cases,
                                     kinds.entry_reading_cases,
-                                    owners.entry_reading_cases), reading_line, ENTRY),
+                                    owners.entry_reading_cases,
+                                    channels.entry_reading_cases),
+                      reading_line, ENTRY),
     "entry_sheets": (write_cases, (entry.sheet_cases, outcomes.entry_sheet_cases,
-                                   stops.entry_sheet_cases,
-                                   owners.entry_sheet_cases), load_line, ENTRY),
+                                   stops.entry_sheet_cases, owners.entry_sheet_cases,
+                                   exchanges.entry_sheet_cases), load_line, ENTRY),
     "entry_words": (write_words, (entry.word_groups, outcomes.entry_word_groups,
-                                  stops.entry_word_groups,
-                                  owners.entry_word_groups), ENTRY),
+                                  stops.entry_word_groups, owners.entry_word_groups,
+                                  channels.entry_word_groups), ENTRY),
+    "four_reading": (write_cases, (channels.four_reading_cases,
+                                   partial(same_cases, "reading", reading_line, 5)),
+                     reading_line, FOUR_CHANNEL),
+    "four_sheets": (write_cases, (exchanges.four_sheet_cases,
+                                  partial(same_cases, "sheets", load_line, 4)),
+                    load_line, FOUR_CHANNEL),
+    "four_words": (write_words, (channels.four_word_groups, partial(same_groups, 6)),
+                   FOUR_CHANNEL),
 }
 
 

@@ -11,8 +11,9 @@ from itertools import chain, cycle, islice, product
 
 from reference.conditions import LEAF
 from reference.instruments import ENTRY, LARGE
-from reference.reading import (CALL_STEP, EVENT_STEP, FAILING_CALL, PASS_STEP,
-                               STOP_STEP, Method, Point, Sheet, Step, read_sheet)
+from reference.reading import (CALL_STEP, CHANNEL_CALL, EVENT_STEP, FAILING_CALL,
+                               PASS_STEP, STOP_STEP, Method, Point, Sheet, Step,
+                               read_sheet)
 from reference.rules import rule_count
 from sheets import records as r
 from sheets.assemble import assemble
@@ -676,10 +677,11 @@ def entry_word_groups():
     yield from owned_groups(true_sheet_groups(461, 3, ALL_SHAPES[1::9]))
 
 
-def random_sheet(draws, astray=0.0):
+def random_sheet(draws, astray=0.0, on_channels=False):
     """A sheet with owners at all points and random methods and steps, whose conditions
     are any. The points of methods and steps are those of the method, or, in the share
-    that goes astray, any. It has no certificates."""
+    that goes astray, any. Calls of primitives may be on channels. It has no
+    certificates."""
     bodies = [True] + [draws.chance(0.7) for _ in range(draws.below(4))]
     owners = draws.shuffled([number for number, has_body in enumerate(bodies)
                              for _ in range(draws.between(1, 3) * has_body)])
@@ -704,6 +706,10 @@ def random_sheet(draws, astray=0.0):
     new = draws.chance(0.6)
     steps = [random_step(draws, methods, partial(point, draws.pick(owners)), new)
              for _ in range(draws.between(2, 14))]
+    if on_channels:
+        steps = [step._replace(kind=CHANNEL_CALL, channel=draws.below(4))
+                 if step.kind == CALL_STEP and not methods[step.operand].has_body
+                 else step for step in steps]
     return Sheet([special.EMPTY_TREE, special.ANY_STAR, (LEAF, 3)], points, methods,
                  steps, [], new)
 

@@ -1,11 +1,13 @@
 """Control graphs for sheets of document 01: points, methods and steps; with
-methods that may fail, of document 02, Ask 2; of the new edition, with stops, Ask 4."""
+methods that may fail, of document 02, Ask 2; of the new edition, with stops, Ask 4;
+with calls on channels, Ask 11."""
 from typing import NamedTuple
 
-from reference.reading import (CALL_STEP, EVENT_STEP, FAILING_CALL, PASS_STEP,
-                               STOP_STEP, Step)
+from reference.conditions import ANY, WIDE_ANY
+from reference.reading import (CALL_STEP, CHANNEL_CALL, EVENT_STEP, FAILING_CALL,
+                               PASS_STEP, STOP_STEP, Step)
 
-from .trees import Language, measured, random_tree
+from .trees import Language, changed_leaves, measured, random_tree
 
 
 class Body(NamedTuple):
@@ -49,6 +51,7 @@ class Plan:
         self.methods = []
         self.steps = []
         self.new = False    # the edition
+        self.any = ANY      # all events
 
     def point(self):
         self.points += 1
@@ -333,6 +336,62 @@ def stopping(shape):
 
 STOPPING_SHAPES = tuple(map(stopping, SHAPES + (repeated_calls, two_call_sites)
                             + FAILING_SHAPES + (failing(two_call_sites),)))
+
+
+def channel_alphabet(draws):
+    """A few events, some of which have the same place on several channels."""
+    places = draws.some(range(16), draws.pick((1, 1, 2)))
+    channels = draws.some(range(4), draws.pick((1, 2, 2, 3)))
+    return sorted(16 * channel + place for channel in channels for place in places)
+
+
+def wider(draws, language):
+    """A language that may have the leaf any, mostly with all 64 events for it."""
+    any_ = WIDE_ANY if draws.chance(0.7) else ANY
+    return measured(changed_leaves(language.tree,
+                                   lambda held: any_ if held == ANY else held))
+
+
+def add_channel_calls(draws, plan):
+    """Calls on channels, at least one: some of those of primitives of one outcome, and
+    others among the steps anywhere."""
+    single = [number for number, method in enumerate(plan.methods)
+              if isinstance(method, Language)]
+    if not single:
+        single = [len(plan.methods)]
+        plan.methods.append(measured(random_tree(draws, draws.between(1, 3),
+                                                 plan.alphabet)))
+    for number in single:
+        plan.methods[number] = wider(draws, plan.methods[number])
+    more = draws.pick((0, 1, 1, 2))
+    for index, step in enumerate(plan.steps):
+        if step.kind == CALL_STEP and step.operand in single and draws.chance(0.7):
+            plan.steps[index] = step._replace(kind=CHANNEL_CALL,
+                                              channel=draws.below(4))
+            more -= 1
+    for _ in range(max(more, all(step.channel is None for step in plan.steps))):
+        target = plan.point() if draws.chance(0.4) else draws.below(plan.points)
+        plan.steps.insert(draws.between(0, len(plan.steps)), Step(
+            CHANNEL_CALL, draws.below(plan.points), target, draws.pick(single),
+            channel=draws.below(4)))
+
+
+def on_channels(shape):
+    """The shape with calls on channels, over events of several channels."""
+    def changed(draws, _):
+        plan = shape(draws, channel_alphabet(draws))
+        plan.any = WIDE_ANY
+        for number, method in enumerate(plan.methods):
+            if isinstance(method, Traces):
+                plan.methods[number] = Traces(*(wider(draws, one) for one in method))
+        add_channel_calls(draws, plan)
+        return plan
+    changed.__name__ = f"{shape.__name__} on channels"
+    return changed
+
+
+CHANNEL_SHAPES = tuple(map(on_channels, SHAPES + (repeated_calls, two_call_sites)
+                           + FAILING_SHAPES[::3] + STOPPING_SHAPES[1::4]))
 
 
 def random_plan(draws, shape):

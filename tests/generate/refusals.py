@@ -7,7 +7,7 @@ from typing import NamedTuple
 
 from reference.conditions import EMPTY, JOIN, LEAF, STAR
 from reference.instruments import LARGE
-from reference.reading import BODY_LENGTHS, FIELDS, SECTIONS
+from reference.reading import BODY_LENGTHS, FIELDS, SECTIONS, is_item, width_of
 from sheets import records as r
 
 from .draws import Draws
@@ -50,7 +50,7 @@ def positions(base=BASE):
 def is_out_of_order(kind, before_kind):
     """Whether a kind is refused with 4 behind a record of the other."""
     return (SECTIONS[kind - 1] < SECTIONS[before_kind - 1]
-            or before_kind < 6 < kind)
+            or is_item(before_kind) and kind != 6 and not is_item(kind))
 
 
 def kind_cases():
@@ -141,7 +141,7 @@ def item_cases():
                               front + items, record, after)
 
 
-def name_cases(base=BASE, kinds=tuple(FIELDS)):
+def name_cases(base=BASE, kinds=tuple(FIELDS), events=LARGE.events):
     """Refusal 7: each field at the count, above, and one below (no refusal)."""
     for index, record in enumerate(base):
         if record[0] not in kinds:
@@ -149,8 +149,8 @@ def name_cases(base=BASE, kinds=tuple(FIELDS)):
         before, after = b"".join(base[:index]), b"".join(base[index + 1:])
         at = 1
         for letter in FIELDS[record[0]]:
-            width = 1 if letter == "e" else 2
-            count = counts_before(base, index)[letter]
+            width = width_of(letter)
+            count = counts_before(base, index, events)[letter]
             for value in (count - 1, count, count + 1, 256 ** width - 1):
                 if not 0 <= value < 256 ** width:
                     continue
@@ -165,12 +165,13 @@ def name_cases(base=BASE, kinds=tuple(FIELDS)):
             at += width
 
 
-def counts_before(base, index):
-    """How many of each there are before a record of a base; an owner may be any."""
+def counts_before(base, index, events):
+    """How many of each there are before a record of a base; an owner and a channel may
+    be any."""
     kinds = [record[0] for record in base[:index]]
     sections = [SECTIONS[kind - 1] for kind in kinds]
     return {"c": kinds.count(6), "p": sections.count(2),
-            "m": sections.count(3), "e": 32, "o": 65536}
+            "m": sections.count(3), "e": events, "o": 65536, "h": 256}
 
 
 def first_name_cases():

@@ -3,7 +3,7 @@ import re
 from pathlib import Path
 
 from reference.conditions import ANY, EITHER, EMPTY, JOIN, LEAF, STAR
-from reference.instruments import ENTRY, LARGE
+from reference.instruments import ENTRY, FOUR_CHANNEL, LARGE
 from reference.reading import (CALL_STEP, EVENT_STEP, PASS_STEP, Method, Point,
                                Sheet, Step, read_sheet)
 from reference.rules import rule_count
@@ -31,33 +31,48 @@ M = bytes.fromhex("0206" "07000000000000" "0900000000000000000000"
                   + "0d00010000000e" * 3)
 
 
+def header_lines(path):
+    """The answers that a text of examples/ begins with: the first line has the loader's,
+    the next ones those of the other instruments where they are others. A text for the
+    four-channel instrument has its answer."""
+    text = path.read_text(encoding="utf-8")
+    return dict(re.findall(
+        r"^# (loader|entry instrument|four-channel instrument): (.*)$", text, re.M))
+
+
+def channel_examples():
+    """The examples for the four-channel instrument, which document 02, Ask 11, has."""
+    return {path.stem for path in EXAMPLES.glob("*.txt")
+            if "four-channel instrument" in header_lines(path)}
+
+
 def examples(instrument=LARGE):
-    """The texts of examples/; each one's first line has its answer, and the second
-    the answer of the entry instrument where that is another."""
+    """The texts of examples/, with the answer of the instrument."""
+    keys = {ENTRY: "entry instrument", FOUR_CHANNEL: "four-channel instrument"}
     for path in sorted(EXAMPLES.glob("*.txt")):
-        text = path.read_text(encoding="utf-8")
-        found = dict(re.findall(r"^# (loader|entry instrument): (.*)$", text, re.M))
-        line = found["loader"]
-        if instrument == ENTRY:
-            line = found.get("entry instrument", line)
-        yield Case(path.stem, assemble(text), line)
+        found = header_lines(path)
+        of = FOUR_CHANNEL if path.stem in channel_examples() else LARGE
+        yield Case(path.stem, assemble(path.read_text(encoding="utf-8"), of),
+                   found.get(keys.get(instrument), found["loader"]))
 
 
 def listed_examples(instrument=LARGE):
-    """The sheets that the table of examples/README.md lists, with its lines; below
-    it stand the lines of the entry instrument that are others."""
+    """The sheets that the table of examples/README.md lists, with its lines; below it
+    stand the lines of the entry instrument that are others, and then those of the
+    four-channel instrument."""
     readme = (EXAMPLES / "README.md").read_text(encoding="utf-8")
     lines = dict(re.findall(r"^\| (\w+) \|.*\| `(.*)` \|$", readme, re.M))
-    if instrument == ENTRY:
-        lines |= dict(re.findall(r"^- (\w+): `(.*)`$", readme, re.M))
+    entry, _, four = readme.partition("\nThe four-channel instrument")
+    other = {ENTRY: entry, FOUR_CHANNEL: four}.get(instrument, "")
+    lines |= dict(re.findall(r"^- (\w+): `(.*)`$", other, re.M))
     for name, line in lines.items():
         yield Case(name, (EXAMPLES / f"{name}.sheet").read_bytes(), line)
 
 
 def former_examples(instrument=LARGE):
-    """The listed ones but those of document 02, Asks 2, 4 and 9."""
-    return (case for case in listed_examples(instrument)
-            if case.label not in REQUESTED_EXAMPLES)
+    """The listed ones but those of document 02, Asks 2, 4, 9 and 11."""
+    later = REQUESTED_EXAMPLES | channel_examples()
+    return (case for case in listed_examples(instrument) if case.label not in later)
 
 
 def listed_among(names, instrument=LARGE):
@@ -177,9 +192,9 @@ def truncations():
             yield Case(f"beginning of {length} bytes", data[:length])
 
 
-def event_edges():
-    """Event steps of the events 0 and 31, with exact conditions."""
-    for event in (0, 1, 30, 31):
+def event_edges(events=(0, 1, 30, 31)):
+    """Event steps of these events, with exact conditions."""
+    for event in events:
         word = (LEAF, 1 << event)
         trees = [EMPTY_TREE, word, (STAR, word), ANY_STAR]
         points = [Point(0, 0, 1), Point(1, 1, 0)]
@@ -243,7 +258,7 @@ def special_cases():
     yield from starred()
     yield from (case for case in examples()
                 if case.label not in (LATER_EXAMPLES | ENTRY_EXAMPLES
-                                      | REQUESTED_EXAMPLES))
+                                      | REQUESTED_EXAMPLES | channel_examples()))
     yield full_limits()
     yield many_calls()
     yield from wide_sides()

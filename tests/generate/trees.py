@@ -1,6 +1,7 @@
 """Conditions of document 01 as languages: simplifying builders, random trees."""
 from typing import NamedTuple
 
+from reference.channels import exchanged
 from reference.conditions import ANY, EITHER, EMPTY, JOIN, LEAF, STAR
 
 VOID = (LEAF, 0)
@@ -77,6 +78,18 @@ def reverse(tree):
     return tree
 
 
+def on_channel(language, channel):
+    """The language with the events of channel 0 and that channel exchanged."""
+    return language._replace(tree=exchanged(language.tree, channel))
+
+
+def changed_leaves(tree, change):
+    """The tree with the set of each leaf changed."""
+    if tree[0] == LEAF:
+        return (LEAF, change(tree[1]))
+    return (tree[0], *(changed_leaves(item, change) for item in tree[1:]))
+
+
 def events_of(tree):
     """All events of the leaves of a tree, as a set."""
     if tree[0] == LEAF:
@@ -87,24 +100,24 @@ def events_of(tree):
     return result
 
 
-def random_leaf(draws, alphabet, void_share=0.0):
+def random_leaf(draws, alphabet, void_share=0.0, any_=ANY):
     if draws.chance(void_share):
         return VOID
     if draws.chance(0.1):
-        return (LEAF, ANY)
+        return (LEAF, any_)
     return (LEAF, draws.events(alphabet, draws.pick((0.2, 0.5))))
 
 
-def random_tree(draws, leaves, alphabet, void_share=0.0):
+def random_tree(draws, leaves, alphabet, void_share=0.0, any_=ANY):
     """A random tree with about that many leaves."""
     if leaves <= 1:
-        tree = random_leaf(draws, alphabet, void_share)
+        tree = random_leaf(draws, alphabet, void_share, any_)
         if draws.chance(0.1):
             tree = EMPTY_TREE
         return (STAR, tree) if draws.chance(0.2) else tree
     part = draws.between(1, leaves - 1)
-    first = random_tree(draws, part, alphabet, void_share)
-    second = random_tree(draws, leaves - part, alphabet, void_share)
+    first = random_tree(draws, part, alphabet, void_share, any_)
+    second = random_tree(draws, leaves - part, alphabet, void_share, any_)
     tree = (JOIN if draws.chance(0.55) else EITHER, first, second)
     return (STAR, tree) if draws.chance(0.25) else tree
 

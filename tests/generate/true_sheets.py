@@ -4,6 +4,8 @@ A control graph is drawn first; then conditions are computed for which the
 rules hold, exact ones or wider ones.
 """
 from reference.certificates import first_fault, reachable_pairs
+from reference.conditions import LEAF, STAR
+from reference.instruments import LARGE
 from reference.loader import Accepted, verdict
 from reference.reading import (EVENT_STEP, FIELD_NAMES, FIELDS, PASS_STEP,
                                STOP_STEP, Method, Point, Sheet)
@@ -14,8 +16,8 @@ from .draws import Draws
 from .equations import (TooLarge, fits, least_solution, reversed_edges,
                         reversed_solution, widened_solution)
 from .plans import SHAPES, Body, given_trace, outcomes, random_plan
-from .trees import (ANY_STAR, EMPTY_TREE, NOTHING, ONLY_EMPTY, either,
-                    events_of, measured, random_tree, star)
+from .trees import (EMPTY_TREE, NOTHING, ONLY_EMPTY, either, events_of, measured,
+                    on_channel, random_tree, star)
 
 
 PAST_RULES = {EVENT_STEP: 7, PASS_STEP: 15}
@@ -39,14 +41,14 @@ class Solver:
         self.extra_share = draws.pick((0, 0, 0.2))
         self.traces = {}
         self.used = self.used_events()
-        everything = measured(ANY_STAR)
+        self.everything = measured((STAR, (LEAF, plan.any)))
         few = star(measured((1, self.used)))
-        fitting = few if self.used and not self.uses_any() else everything
-        self.wide = fitting if draws.chance(0.6) else everything
+        fitting = few if self.used and not self.uses_any() else self.everything
+        self.wide = fitting if draws.chance(0.6) else self.everything
         self.own_extras = self.extras(range(plan.points))
 
     def uses_any(self):
-        return self.used == events_of(ANY_STAR)
+        return self.used == self.plan.any
 
     def used_events(self):
         """All events of the plan."""
@@ -57,7 +59,15 @@ class Solver:
             if not isinstance(method, Body):
                 for failed in outcomes(method):
                     used |= events_of(given_trace(method, failed).tree)
+        for step in self.channel_calls().values():
+            used |= events_of(on_channel(self.plan.methods[step.operand],
+                                         step.channel).tree)
         return used
+
+    def channel_calls(self):
+        """The calls on channels, by number."""
+        return {number: step for number, step in enumerate(self.plan.steps)
+                if step.channel is not None}
 
     def extras(self, unknowns):
         """Random small languages that some unknowns hold beside the least."""
@@ -75,7 +85,7 @@ class Solver:
         if step.kind == EVENT_STEP:
             return measured((1, 1 << step.operand))
         if step.is_call:
-            return self.trace(step.operand, failed)
+            return on_channel(self.trace(step.operand, failed), step.channel or 0)
         return ONLY_EMPTY
 
     def edges(self, steps, later):
@@ -196,7 +206,8 @@ class Solver:
             [(3, number, (("outer", number), ONLY_EMPTY, body.entry))
              for number, body in self.plan.bodies()]
             + [(10, number, (step.source, ONLY_EMPTY, ("outer", step.operand)))
-               for number, step in enumerate(self.plan.steps) if step.is_call])
+               for number, step in enumerate(self.plan.steps)
+               if step.is_call and step.channel is None])
 
     def return_edges(self):
         """From each method's futures to its exits, and from the targets of each
@@ -207,7 +218,8 @@ class Solver:
              for number, body in self.plan.bodies() for failed in outcomes(body)]
             + [(RETURN_RULES[failed][2], number,
                 (step.leads_to(failed), ONLY_EMPTY, (OUTER[failed], step.operand)))
-               for number, step in enumerate(self.plan.steps) if step.is_call
+               for number, step in enumerate(self.plan.steps)
+               if step.is_call and step.channel is None
                for failed in step.outcomes])
 
     def entered_edges(self):
@@ -228,15 +240,28 @@ class Solver:
     def pasts(self):
         """past by point, and pre by ("outer", method)."""
         edges = self.edges(self.plan.steps, 0) + self.entry_edges()
-        return self.outer_solution(edges, {False: 1})
+        return self.with_channel_calls(10, self.outer_solution(edges, {False: 1}))
 
     def dues(self):
         """due by point, and the futures by ("outer", method) and, where a method
         may fail, ("failed", method)."""
         edges = (reversed_edges(self.edges(self.plan.steps, 2))
                  + self.return_edges() + self.entered_edges())
-        return reversed_solution(self.outer_solution(edges, END_RULE,
-                                                     self.stop_points()))
+        return self.with_channel_calls(13, reversed_solution(
+            self.outer_solution(edges, END_RULE, self.stop_points())))
+
+    def with_channel_calls(self, rule, solution):
+        """The solution, with the past of each call on a channel, or the due of its
+        target, exchanged, in the primitive's pre, or future; a primitive's pre and
+        future are in nothing else."""
+        for number, step in self.channel_calls().items():
+            if (rule, number) != self.left_out:
+                point = step.source if rule == 10 else step.target
+                both = either(solution["outer", step.operand],
+                              on_channel(solution[point], step.channel))
+                solution["outer", step.operand] = (
+                    both if fits(both, self.leaves) else self.everything)
+        return solution
 
     def outer_solution(self, edges, rules, ends=()):
         """Solve for the points and one more unknown for each method and outcome;
@@ -327,14 +352,14 @@ def true_sheet(draws, shape, max_pairs=150):
         return None
 
 
-def true_sheets(seed, count, max_pairs=150, shapes=SHAPES):
+def true_sheets(seed, count, max_pairs=150, shapes=SHAPES, instrument=LARGE):
     """That many true sheets, of every shape in turn."""
     draws, made = Draws(seed), 0
     while made < count:
         shape = shapes[made % len(shapes)]
         sheet = true_sheet(draws, shape, max_pairs)
         if sheet is not None:
-            yield shape.__name__, checked(sheet)
+            yield shape.__name__, checked(sheet, instrument)
             made += 1
 
 
@@ -349,9 +374,9 @@ def large_true_sheets(seed, count, min_pairs=200, max_pairs=900):
             made += 1
 
 
-def checked(sheet):
+def checked(sheet, instrument=LARGE):
     """The sheet, which must be accepted."""
-    result = verdict(encode(sheet))
+    result = verdict(encode(sheet), instrument)
     if not isinstance(result, Accepted):
         raise AssertionError(f"not accepted: {result}")
     return sheet

@@ -9,6 +9,7 @@ from typing import NamedTuple
 
 from reference.conditions import (ANY, EITHER, EMPTY, JOIN, LEAF, STAR, bits,
                                   holds)
+from reference.instruments import LARGE
 from sheets import records as r
 
 from .draws import Draws
@@ -152,15 +153,15 @@ def derived_star(draws, item, target):
     return tuple(event for word in parts for event in word)
 
 
-def changed(draws, word, alphabet):
-    """A word near the given one."""
+def changed(draws, word, alphabet, events):
+    """A word near the given one, of that many events."""
     word = list(word)
     way = draws.below(5)
     at = draws.below(len(word) + 1)
     if way == 0 or not word:
         word.insert(at, draws.pick(alphabet))
     elif way == 1:
-        word[at % len(word)] = draws.below(32)
+        word[at % len(word)] = draws.below(events)
     elif way == 2:
         del word[at % len(word)]
     elif way == 3:
@@ -170,11 +171,11 @@ def changed(draws, word, alphabet):
     return tuple(word)
 
 
-def nested_stars(draws, leaves, alphabet):
+def nested_stars(draws, leaves, alphabet, any_):
     """A tree with stars in stars."""
-    tree = random_leaf(draws, alphabet)
+    tree = random_leaf(draws, alphabet, any_=any_)
     for _ in range(leaves - 1):
-        other = random_leaf(draws, alphabet, 0.05)
+        other = random_leaf(draws, alphabet, 0.05, any_)
         order = (tree, other) if draws.chance(0.5) else (other, tree)
         tree = (JOIN if draws.chance(0.6) else EITHER, *order)
         if draws.chance(0.6):
@@ -182,18 +183,19 @@ def nested_stars(draws, leaves, alphabet):
     return tree
 
 
-def random_condition(draws):
-    """A condition and its alphabet."""
-    alphabet = sorted(draws.some(range(32), draws.between(1, 4)))
+def random_condition(draws, events=LARGE.events):
+    """A condition and its alphabet, among that many events."""
+    alphabet = sorted(draws.some(range(events), draws.between(1, 4)))
+    any_ = (1 << events) - 1
     leaves = draws.pick((1, 1, 2, 2, 3, 3, 4, 5, 6, 8, 10, 16, 31))
     way = draws.below(20)
     if way == 0:
         tree = draws.pick((VOID, EMPTY_TREE, (STAR, VOID), (STAR, EMPTY_TREE),
-                           (STAR, (LEAF, ANY)), (LEAF, ANY)))
+                           (STAR, (LEAF, any_)), (LEAF, any_)))
     elif way < 7:
-        tree = nested_stars(draws, leaves, alphabet)
+        tree = nested_stars(draws, leaves, alphabet, any_)
     else:
-        tree = random_tree(draws, leaves, alphabet, draws.pick((0, 0, 0.1)))
+        tree = random_tree(draws, leaves, alphabet, draws.pick((0, 0, 0.1)), any_)
     return tree, alphabet
 
 
@@ -210,13 +212,13 @@ def answer(tree, word):
     return "yes" if said else "no"
 
 
-def condition_cases(draws, tree, alphabet, each):
+def condition_cases(draws, tree, alphabet, each, events=LARGE.events):
     """Up to that many words of the condition and as many others."""
     words = {"yes": [], "no": []}
     for _ in range(12 * each):
         word = derived(draws, tree, draws.pick(SHORT_LENGTHS))
         if word is None or len(words["yes"]) == each or draws.chance(0.3):
-            word = changed(draws, word or (), alphabet)
+            word = changed(draws, word or (), alphabet, events)
         if len(word) > MAX_WORD or not is_light(tree, word, SHORT_WORK):
             continue
         line = answer(tree, word)
@@ -233,16 +235,16 @@ def sheet_of(trees):
     return b"".join(r.condition(tree) for tree in trees) + TAIL
 
 
-def short_groups(seed, groups, conditions=8, each=4):
+def short_groups(seed, groups, conditions=8, each=4, events=LARGE.events):
     """Groups of short words over random conditions."""
     draws = Draws(seed)
     for _ in range(groups):
         trees, cases = [], []
         while len(trees) < conditions:
-            tree, alphabet = random_condition(draws)
+            tree, alphabet = random_condition(draws, events)
             if not fits_limits(tree):
                 continue
-            words = condition_cases(draws, tree, alphabet, each)
+            words = condition_cases(draws, tree, alphabet, each, events)
             number = len(trees)
             trees.append(tree)
             cases += [(number, word, line) for line in ("yes", "no")
@@ -357,13 +359,13 @@ def refused_sheet_groups(cases):
             yield Group(case.data, cases)
 
 
-def true_sheet_groups(seed, count, shapes=SHAPES):
+def true_sheet_groups(seed, count, shapes=SHAPES, instrument=LARGE):
     """Whole sheets, also with wrong certificates: 10 and 11 are not applied."""
-    draws = Draws(seed)
-    for _, sheet in true_sheets(seed, count, shapes=shapes):
+    draws, events = Draws(seed), instrument.events
+    for _, sheet in true_sheets(seed, count, shapes=shapes, instrument=instrument):
         cases = []
         for number, tree in enumerate(sheet.conditions):
-            words = condition_cases(draws, tree, [0, 1, 31], 2)
+            words = condition_cases(draws, tree, [0, 1, events - 1], 2, events)
             cases += [(number, word, line) for line in ("yes", "no")
                       for word in words[line]]
         ways = (sheet.certificates, [], [[]] * len(sheet.certificates))

@@ -5,7 +5,7 @@ set of places of the right side. Sides are given as trees.
 """
 from typing import NamedTuple
 
-from .conditions import EVENTS, bits, followers, places_of
+from .conditions import bits, followers, places_of
 
 START = (0, 1)
 
@@ -41,8 +41,8 @@ def moves(left, right, place, rights):
     """Each event, follower and stepped set of a pair, in the order of clause 4."""
     left_next = left.follow[place]
     right_next = followers(right, rights)
-    for event in range(EVENTS):
-        stepped = right_next & right.holding[event]
+    for event in left.holding:
+        stepped = right_next & right.holding.get(event, 0)
         for follower in bits(left_next & left.holding[event]):
             yield event, follower, stepped
 

@@ -1,16 +1,19 @@
 """Document 01, "Events and conditions" and the places of "Places and certificates".
 
 A condition is a tree of tuples: (LEAF, set), (EMPTY,), (JOIN, a, b),
-(EITHER, a, b), (STAR, a). The tags are the kinds of the records.
-Sets of events and sets of places are ints used as bit sets.
+(EITHER, a, b), (STAR, a). The tags are the kinds of the records; a leaf of kind 21
+(document 02, Ask 11) is the leaf with its set. Sets of events and sets of places are
+ints used as bit sets. Nothing depends on how many events an instrument has: a leaf
+holds no others.
 """
 from functools import lru_cache
 from typing import NamedTuple
 
-LEAF, EMPTY, JOIN, EITHER, STAR = 1, 2, 3, 4, 5
-EVENTS = 32
-ANY = (1 << EVENTS) - 1
-ITEMS = {LEAF: 0, EMPTY: 0, JOIN: 2, EITHER: 2, STAR: 1}
+LEAF, EMPTY, JOIN, EITHER, STAR, WIDE_LEAF = 1, 2, 3, 4, 5, 21
+# The set of all events of an instrument with 32, and with 64.
+ANY, WIDE_ANY = (1 << 32) - 1, (1 << 64) - 1
+ITEMS = {LEAF: 0, EMPTY: 0, JOIN: 2, EITHER: 2, STAR: 1, WIDE_LEAF: 0}
+LEAVES = LEAF, WIDE_LEAF
 
 
 class Places(NamedTuple):
@@ -21,7 +24,7 @@ class Places(NamedTuple):
     follow: tuple    # follow[k]: the places that follow place k
     sets: tuple      # sets[k]: the events of leaf k; sets[0] is 0
     ending: int      # the places that end a word
-    holding: tuple   # holding[e]: the places whose leaf holds e
+    holding: dict    # by event, ascending: the places whose leaf holds it
 
     @property
     def leaves(self):
@@ -37,13 +40,13 @@ def bits(number):
 
 
 def apply_record(stack, kind, events=0):
-    """Apply a record of kinds 1 to 5 to a stack of items. False: items lack."""
+    """Apply a record of kinds 1 to 5 or 21 to a stack of items. False: items lack."""
     needed = ITEMS[kind]
     if len(stack) < needed:
         return False
     items = stack[len(stack) - needed:]
     del stack[len(stack) - needed:]
-    stack.append((LEAF, events) if kind == LEAF else (kind, *items))
+    stack.append((LEAF, events) if kind in LEAVES else (kind, *items))
     return True
 
 
@@ -100,10 +103,12 @@ def places_of(tree):
     sets, follow = [0], [0]
     nullable, first, last = _visit(tree, sets, follow)
     follow[0] = first
-    holding = tuple(sum(1 << place for place, events in enumerate(sets)
-                        if events >> event & 1) for event in range(EVENTS))
+    holding = {}
+    for place, events in enumerate(sets):
+        for event in bits(events):
+            holding[event] = holding.get(event, 0) | 1 << place
     return Places(nullable, first, last, tuple(follow), tuple(sets),
-                  last | nullable, holding)
+                  last | nullable, dict(sorted(holding.items())))
 
 
 def followers(places, from_set):
@@ -116,11 +121,11 @@ def followers(places, from_set):
 
 def step(places, from_set, event):
     """A set of places stepped by an event."""
-    return followers(places, from_set) & places.holding[event]
+    return followers(places, from_set) & places.holding.get(event, 0)
 
 
 def holds(tree, word):
-    """Whether the word, of events 0 to 31, is in the condition."""
+    """Whether the word is in the condition."""
     places = places_of(tree)
     current = 1
     for event in word:

@@ -4,9 +4,10 @@ A partial derivative of a condition by an event is one way to go on after that
 event (Antimirov); a condition has finitely many. No places, no certificates.
 """
 from collections import deque
-from functools import lru_cache
+from functools import lru_cache, reduce
+from operator import or_
 
-from .conditions import EITHER, EMPTY, EVENTS, JOIN, LEAF, STAR
+from .conditions import EITHER, EMPTY, JOIN, LEAF, STAR, bits
 
 
 def holds_empty(tree):
@@ -55,10 +56,11 @@ def leaf_sets(tree):
 
 
 def distinct_events(trees):
-    """One event of each class that no leaf of the trees tells apart."""
+    """One event of each class that no leaf of the trees tells apart; what no leaf holds
+    is in no word."""
     sets = sorted(set().union(*map(leaf_sets, trees)))
     classes = {}
-    for event in range(EVENTS):
+    for event in bits(reduce(or_, sets, 0)):
         classes.setdefault(tuple(one >> event & 1 for one in sets), event)
     return sorted(classes.values())
 

@@ -1,18 +1,18 @@
 """Document 01, "What the loader returns": verdicts, their lines, the word test.
 
-    python3 -m reference.loader [--instrument large|entry] < sheet
+    python3 -m reference.loader [--instrument large|entry|four] < sheet
 """
 import sys
 from typing import NamedTuple
 
 from .certificates import Fault, first_fault
-from .conditions import EVENTS, holds, places_of
-from .instruments import LARGE, chosen_instrument
+from .conditions import holds, places_of
+from .instruments import CHOICE, LARGE, chosen_instrument
 from .reading import Refusal, read_sheet
 from .rules import Rule, all_rules, certificates_needed, rule_count
 
 MAX_WORD = 4096
-USAGE = "usage: python3 -m reference.loader [--instrument large|entry] < sheet"
+USAGE = f"usage: python3 -m reference.loader [--instrument {CHOICE}] < sheet"
 
 
 class Accepted(NamedTuple):
@@ -25,7 +25,7 @@ class Unproved(NamedTuple):
 
 
 def well_formed(data, instrument=LARGE):
-    """The sheet, or the first of refusals 1 to 10, 18 to 20, 24 and 25."""
+    """The sheet, or the first of refusals 1 to 10, 18 to 20 and 24 to 26."""
     sheet = read_sheet(data, instrument)
     if isinstance(sheet, Refusal):
         return sheet
@@ -72,8 +72,8 @@ def load_line(data, instrument=LARGE):
     return line_of(verdict(data, instrument))
 
 
-def word_line_of(sheet, condition, word):
-    """The word test's line for what read_sheet returned."""
+def word_line_of(sheet, condition, word, instrument=LARGE):
+    """The word test's line for what read_sheet returned on the instrument."""
     if isinstance(sheet, Refusal):
         return line_of(sheet)
     if condition >= len(sheet.conditions):
@@ -81,14 +81,14 @@ def word_line_of(sheet, condition, word):
     if len(word) > MAX_WORD:
         return "refused 12"
     for index, event in enumerate(word):
-        if event >= EVENTS:
+        if event >= instrument.events:
             return f"refused 13 at {index}"
     return "yes" if holds(sheet.conditions[condition], word) else "no"
 
 
 def word_line(data, condition, word, instrument=LARGE):
     """The word test's line: the sheet, a condition's number and a word."""
-    return word_line_of(read_sheet(data, instrument), condition, word)
+    return word_line_of(read_sheet(data, instrument), condition, word, instrument)
 
 
 def main(arguments):

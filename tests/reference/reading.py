@@ -1,29 +1,32 @@
 """Document 01, "Records" and refusals 1 to 9 of "What the loader returns", on an
 instrument (document 02, Ask 8); calls that may fail and refusal 18 (Ask 2); sheets of
 the new edition, stops, refusals 19 and 20 (Ask 4); points with an owner, refusals 24
-and 25 (Ask 9).
+and 25 (Ask 9); the four-channel instrument, refusal 26 (Ask 11).
 
 A method of kinds 8 and 9 has one outcome, a method of kinds 15 and 16 two: the
 normal one and the failed one. In code an outcome is `failed`, False or True.
 """
 from typing import NamedTuple
 
-from .conditions import EITHER, ITEMS, JOIN, LEAF, STAR, apply_record
+from .channels import CHANNELS
+from .conditions import EITHER, ITEMS, JOIN, LEAVES, STAR, apply_record
 from .instruments import LARGE
 
 END_CONDITION, POINT, PRIMITIVE, METHOD = 6, 7, 8, 9
 EVENT_STEP, CALL_STEP, PASS_STEP, PAIR, END_CERTIFICATE = 10, 11, 12, 13, 14
 FAILING_PRIMITIVE, FAILING_METHOD, FAILING_CALL = 15, 16, 17
-EDITION, STOP_STEP, OWNED_POINT = 18, 19, 20
+EDITION, STOP_STEP, OWNED_POINT, CHANNEL_CALL = 18, 19, 20, 22
 
-BODY_LENGTHS = (4, 0, 0, 0, 0, 0, 6, 6, 10, 5, 6, 4, 5, 0, 10, 16, 8, 0, 2, 8)
+BODY_LENGTHS = (4, 0, 0, 0, 0, 0, 6, 6, 10, 5, 6, 4, 5, 0, 10, 16, 8, 0, 2, 8, 8, 7)
 CONDITIONS, POINTS, METHODS, STEPS, CERTIFICATES = range(1, 6)
-SECTIONS = (1, 1, 1, 1, 1, 1, 2, 3, 3, 4, 4, 4, 5, 5, 3, 3, 4, 1, 4, 2)
-# Fields of a body: c condition, p point, m method, o owner (2 bytes each), e event (1).
+SECTIONS = (1, 1, 1, 1, 1, 1, 2, 3, 3, 4, 4, 4, 5, 5, 3, 3, 4, 1, 4, 2, 1, 4)
+# Fields of a body: c condition, p point, m method, o owner (2 bytes each), e event, h
+# channel (1 each).
 FIELDS = {POINT: "ccc", PRIMITIVE: "ccc", METHOD: "cccpp",
           EVENT_STEP: "ppe", CALL_STEP: "ppm", PASS_STEP: "pp",
           FAILING_PRIMITIVE: "ccccc", FAILING_METHOD: "cccppccp",
-          FAILING_CALL: "pppm", STOP_STEP: "p", OWNED_POINT: "ccco"}
+          FAILING_CALL: "pppm", STOP_STEP: "p", OWNED_POINT: "ccco",
+          CHANNEL_CALL: "ppmh"}
 # Their names in Point, Method and Step.
 FIELD_NAMES = {
     POINT: ("past", "own", "due"),
@@ -37,7 +40,8 @@ FIELD_NAMES = {
                      "failed_trace", "failed_future", "failed_exit"),
     FAILING_CALL: ("source", "target", "failed_target", "operand"),
     STOP_STEP: ("source",),
-    OWNED_POINT: ("past", "own", "due", "owner")}
+    OWNED_POINT: ("past", "own", "due", "owner"),
+    CHANNEL_CALL: ("source", "target", "operand", "channel")}
 
 MAX_CONDITIONS = 256
 MAX_RECORDS = 96
@@ -122,16 +126,18 @@ class Method(NamedTuple):
 
 class Step(NamedTuple):
     """A step; operand is the event or the called method, None for a pass. Just a
-    call of a method with two outcomes has a failed target; a stop has no target."""
+    call of a method with two outcomes has a failed target, and just a call of kind 22
+    a channel; a stop has no target."""
     kind: int
     source: int
     target: int | None = None
     operand: int | None = None
     failed_target: int | None = None
+    channel: int | None = None
 
     @property
     def is_call(self):
-        return self.kind in (CALL_STEP, FAILING_CALL)
+        return self.kind in (CALL_STEP, FAILING_CALL, CHANNEL_CALL)
 
     @property
     def outcomes(self):
@@ -169,11 +175,21 @@ def read_record(data, offset, kinds=LARGE.kinds):
     return Record(offset, kind, data[offset + 1:end])
 
 
+def is_item(kind):
+    """Whether a record of the kind is a part of a condition: kinds 1 to 5 and 21."""
+    return kind in ITEMS
+
+
+def width_of(letter):
+    """How many bytes a field has."""
+    return 1 if letter in "eh" else 2
+
+
 def fields_of(record):
     """The fields of a record that has names, as a list of (letter, value)."""
     result, at = [], 0
     for letter in FIELDS[record.kind]:
-        width = 1 if letter == "e" else 2
+        width = width_of(letter)
         value = int.from_bytes(record.body[at:at + width], "little")
         result.append((letter, value))
         at += width
@@ -199,7 +215,7 @@ class Reader:
         self.sheet = Sheet([], [], [], [], [])
         self.section = 1
         self.items = []           # items of the open condition
-        self.records = 0          # its records of kinds 1 to 5
+        self.records = 0          # its records of kinds 1 to 5 and 21
         self.leaves = 0
         self.pairs = None         # pairs of the open certificate
         self.owners = []          # each owner with the offset of its point
@@ -214,7 +230,8 @@ class Reader:
 
     def is_out_of_order(self, record):
         return (SECTIONS[record.kind - 1] < self.section
-                or self.condition_open and record.kind > END_CONDITION)
+                or self.condition_open and record.kind != END_CONDITION
+                and not is_item(record.kind))
 
     def is_late_edition(self, record):
         return record.kind == EDITION and record.offset > 0
@@ -231,9 +248,9 @@ class Reader:
     def is_over_limit(self, record):
         kind, sheet = record.kind, self.sheet
         section = SECTIONS[kind - 1]
-        if kind < END_CONDITION:
+        if is_item(kind):
             return (self.records == MAX_RECORDS
-                    or kind == LEAF and self.leaves == MAX_LEAVES)
+                    or kind in LEAVES and self.leaves == MAX_LEAVES)
         if kind == END_CONDITION:
             return len(sheet.conditions) == MAX_CONDITIONS
         if section == POINTS:
@@ -243,13 +260,13 @@ class Reader:
         return section == STEPS and len(sheet.steps) == MAX_STEPS
 
     def has_bad_name(self, record):
-        """An owner may point forward, and is no name here."""
+        """An owner may point forward, and is no name here; nor is a channel."""
         if record.kind not in FIELDS:
             return False
         counts = {"c": len(self.sheet.conditions), "p": len(self.sheet.points),
-                  "m": len(self.sheet.methods), "e": 32}
+                  "m": len(self.sheet.methods), "e": self.instrument.events}
         return any(value >= counts[letter]
-                   for letter, value in fields_of(record) if letter != "o")
+                   for letter, value in fields_of(record) if letter in counts)
 
     def is_primitive_first(self, record):
         return (record.kind in (PRIMITIVE, FAILING_PRIMITIVE)
@@ -273,8 +290,18 @@ class Reader:
             owners.add(len(self.sheet.methods))
         return len(owners - {None}) > 1
 
+    def is_wrong_channel_call(self, record):
+        """Whether a call of kind 22 names a method with body or of two outcomes, or
+        there is no such channel."""
+        if record.kind != CHANNEL_CALL:
+            return False
+        fields = named_fields(record)
+        called = self.sheet.methods[fields["operand"]]
+        return called.kind != PRIMITIVE or fields["channel"] >= CHANNELS
+
     def refusal_at(self, record):
-        """Refusals 4, 19, 20, 5, 6, 7, 9, 18 and 24 at one record, in this order."""
+        """Refusals 4, 19, 20, 5, 6, 7, 9, 18, 24 and 26 at one record, in this
+        order."""
         for number, applies in ((4, self.is_out_of_order),
                                 (19, self.is_late_edition),
                                 (20, self.is_stop_in_old_sheet),
@@ -283,7 +310,8 @@ class Reader:
                                 (7, self.has_bad_name),
                                 (9, self.is_primitive_first),
                                 (18, self.is_call_of_other_outcomes),
-                                (24, self.has_other_owner)):
+                                (24, self.has_other_owner),
+                                (26, self.is_wrong_channel_call)):
             if applies(record):
                 return Refusal(number, record.offset)
         return None
@@ -302,7 +330,7 @@ class Reader:
     def add(self, record):
         """Add a record to which no refusal applies."""
         self.section = SECTIONS[record.kind - 1]
-        if record.kind < END_CONDITION:
+        if is_item(record.kind):
             self._add_item(record)
         elif record.kind == END_CONDITION:
             self.sheet.conditions.append(self.items[0])
@@ -323,7 +351,7 @@ class Reader:
         apply_record(self.items, record.kind,
                      int.from_bytes(record.body, "little"))
         self.records += 1
-        self.leaves += record.kind == LEAF
+        self.leaves += record.kind in LEAVES
 
     def _add_named(self, record):
         fields = named_fields(record)
@@ -338,8 +366,8 @@ class Reader:
 
 
 def read_sheet(data, instrument=LARGE):
-    """The sheet that the bytes stand for, or the first of refusals 1 to 9, 18 to 20,
-    24 and 25."""
+    """The sheet that the bytes stand for, or the first of refusals 1 to 9, 18 to 20
+    and 24 to 26."""
     if len(data) > instrument.bytes:
         return Refusal(1, instrument.bytes)
     reader, offset = Reader(instrument), 0

@@ -1,16 +1,18 @@
 """Document 01, "Seventeen rules", rules 18 to 24 of document 02, Ask 2, and rules 25
-and 26 of Ask 4: what is tested, and in which order."""
+and 26 of Ask 4: what is tested, and in which order; calls of kind 22, of Ask 11, which
+have the rules of kind 11."""
 from typing import NamedTuple
 
+from .channels import exchanged
 from .conditions import JOIN, LEAF
-from .reading import (CALL_STEP, EVENT_STEP, FAILING_CALL, FAILING_METHOD, METHOD,
-                      PASS_STEP, STOP_STEP)
+from .reading import (CALL_STEP, CHANNEL_CALL, EVENT_STEP, FAILING_CALL,
+                      FAILING_METHOD, METHOD, PASS_STEP, STOP_STEP)
 
 # How many rules a method with body and a step have, by kind; rules 1, 2, 24 and 26
 # are not among them. Rules 4 and 25 have no certificate.
 METHOD_RULES = {METHOD: 4, FAILING_METHOD: 6}
 STEP_RULES = {EVENT_STEP: 3, CALL_STEP: 5, PASS_STEP: 3, FAILING_CALL: 9,
-              STOP_STEP: 1}
+              STOP_STEP: 1, CHANNEL_CALL: 5}
 
 # Rules that are for an outcome, by `failed`: of a call's return past, own, future
 # and due, of an exit own and due, and of the end of the outermost call.
@@ -91,19 +93,27 @@ def return_rules(number, failed, trace, future, p, q):
     yield Rule(due, number, join(trace, q[2]), p[2])
 
 
+def called_condition(sheet, step, part, failed=False):
+    """The pre, or the trace or future of an outcome, of the method that a step calls,
+    as the call reads it."""
+    method = sheet.methods[step.operand]
+    declared = method if part == "pre" else method.outcome(failed)
+    tree = sheet.conditions[getattr(declared, part)]
+    return tree if step.channel is None else exchanged(tree, step.channel)
+
+
 def call_rules(sheet, number, p):
     """Rules 10 to 14, 18 to 21 of a call that may fail, and 26."""
-    step, conditions = sheet.steps[number], sheet.conditions
-    called = sheet.methods[step.operand]
-    yield Rule(10, number, p[0], conditions[called.pre])
+    step = sheet.steps[number]
+    yield Rule(10, number, p[0], called_condition(sheet, step, "pre"))
     for failed in step.outcomes:
-        outcome = called.outcome(failed)
         yield from return_rules(
-            number, failed, conditions[outcome.trace], conditions[outcome.future],
+            number, failed, called_condition(sheet, step, "trace", failed),
+            called_condition(sheet, step, "future", failed),
             p, point_conditions(sheet, step.leads_to(failed)))
     if has_entry_rule(sheet, step):
-        entry = sheet.points[called.entry]
-        yield Rule(26, number, conditions[entry.due], p[2])
+        entry = sheet.points[sheet.methods[step.operand].entry]
+        yield Rule(26, number, sheet.conditions[entry.due], p[2])
 
 
 def has_entry_rule(sheet, step):

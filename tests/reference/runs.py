@@ -1,6 +1,6 @@
 """Document 01, "Runs": the state of a run, its moves, and demand 3 on a state;
-document 02, Ask 2: calls that fail, Ask 4: stops, Ask 9: the owner of the point, and
-Ask 12: what is owed while a run goes on.
+document 02, Ask 2: calls that fail, Ask 4: stops, Ask 9: the owner of the point, Ask
+11: calls on a channel, and Ask 12: what is owed while a run goes on.
 
 Demand 3: every call so far, the outermost activation too, began after a
 history in its pre; every returned call raised a word of its trace; if the
@@ -21,10 +21,15 @@ In a sheet of the new edition a stop ends the whole run where it is. The calls t
 are open stay open, and the innermost keeps control: Ask 12 holds there too. They owe
 their pre only. What followed each return, up to the stop, is in the returned call's
 future, also where an open call made it.
+
+A call of kind 22 is held to its primitive's conditions with the events of channel 0 and
+its own exchanged. Here the words are exchanged: an exchanged condition holds a word
+exactly if the condition holds the exchanged word.
 """
 from typing import NamedTuple
 
-from .conditions import EVENTS, holds
+from .channels import exchanged, exchanged_word
+from .conditions import holds
 from .inclusion import missing_word
 from .reading import EVENT_STEP, STOP_STEP
 
@@ -85,10 +90,16 @@ def start(sheet):
     return Run((), (Call(0, None, ()),), (), sheet.methods[0].entry)
 
 
-def in_condition(sheet, number, word):
-    """Whether the word is in the numbered condition."""
-    return (all(0 <= event < EVENTS for event in word)
-            and holds(sheet.conditions[number], word))
+def channel_of(sheet, call):
+    """The channel of a call of kind 22; 0, with which nothing is exchanged, of any
+    other."""
+    return (sheet.steps[call.step].channel or 0) if call.step is not None else 0
+
+
+def in_condition(sheet, number, word, channel=0):
+    """Whether the word is in the numbered condition, as a call on the channel reads
+    it."""
+    return holds(sheet.conditions[number], exchanged_word(word, channel))
 
 
 def make_return(sheet, run, failed):
@@ -114,7 +125,8 @@ def make_call(sheet, run, move):
                             point=method.entry)
     outcome, point = method.outcome(move.failed), step.leads_to(move.failed)
     if (outcome is None or point is None or move.word is None
-            or not in_condition(sheet, outcome.trace, move.word)):
+            or not in_condition(sheet, outcome.trace, move.word,
+                                channel_of(sheet, call))):
         return run
     history = run.history + tuple(move.word)
     closed = call.closed(history, move.failed)
@@ -143,16 +155,16 @@ def make_move(sheet, run, move):
 
 def broken_call(sheet, run, call, test):
     """What of demand 3 one call breaks, or None."""
-    method = sheet.methods[call.method]
-    if not test(sheet, method.pre, call.begun):
+    method, channel = sheet.methods[call.method], channel_of(sheet, call)
+    if not test(sheet, method.pre, call.begun, channel):
         return "pre"
     if call.returned is None:
         return None
     outcome = method.outcome(call.failed)
-    if not test(sheet, outcome.trace, call.raised):
+    if not test(sheet, outcome.trace, call.raised, channel):
         return "trace"
     after = run.history[len(call.returned):]
-    if run.ended and not test(sheet, outcome.future, after):
+    if run.ended and not test(sheet, outcome.future, after, channel):
         return "future"
     return None
 
@@ -178,9 +190,12 @@ def in_caller(run, call):
     return any(caller is run.active for caller in callers(call))
 
 
-def missing(sheet, due, future, since):
-    """A shortest word of due that, behind since, is not in future, or None."""
-    return missing_word(sheet.conditions[due], sheet.conditions[future], since)
+def missing(sheet, due, future, since, channel=0):
+    """A shortest word of due that, behind since, is not in future, as a call on the
+    channel reads it, or None."""
+    word = missing_word(exchanged(sheet.conditions[due], channel),
+                        sheet.conditions[future], exchanged_word(since, channel))
+    return None if word is None else exchanged_word(word, channel)
 
 
 def first_owed_break(sheet, run, find=missing):
@@ -189,7 +204,8 @@ def first_owed_break(sheet, run, find=missing):
         if in_caller(run, call):
             future = sheet.methods[call.method].outcome(call.failed).future
             since = run.history[len(call.returned):]
-            if find(sheet, sheet.points[run.point].due, future, since) is not None:
+            if find(sheet, sheet.points[run.point].due, future, since,
+                    channel_of(sheet, call)) is not None:
                 return call, "owed"
     return None
 

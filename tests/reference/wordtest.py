@@ -1,13 +1,14 @@
 """Document 01, the word test as a program.
 
-    python3 -m reference.wordtest [--instrument large|entry] SHEET-FILE CONDITION EVENT...
+    python3 -m reference.wordtest [--instrument large|entry|four] SHEET-FILE CONDITION
+        EVENT...
 """
 import sys
 
-from .instruments import chosen_instrument
+from .instruments import CHOICE, chosen_instrument
 from .loader import word_line
 
-USAGE = ("usage: python3 -m reference.wordtest [--instrument large|entry] "
+USAGE = (f"usage: python3 -m reference.wordtest [--instrument {CHOICE}] "
          "SHEET-FILE CONDITION EVENT...")
 
 

@@ -3,7 +3,8 @@
 One statement a line; # starts a comment; names are defined before use, but for an
 owner's.
 docs/SHEETS.md has the whole form. `--instrument entry` in front of FILE holds the
-sheet to the limits of the entry instrument.
+sheet to the limits of the entry instrument, and `--instrument four` is for the
+four-channel instrument.
 
     event NAME = NUMBER
     condition NAME = EXPRESSION
@@ -31,6 +32,11 @@ A point with an owner (document 02, Ask 9) says the method, which may come later
 
     point NAME past CONDITION own CONDITION due CONDITION owner METHOD
 
+On the four-channel instrument (document 02, Ask 11) events go to 63, and a call may be
+on a channel. A leaf with an event above 31 is of kind 21, any other of kind 1.
+
+    step POINT -> POINT call METHOD channel NUMBER
+
 The certificates are all reachable pairs, breadth first.
 """
 import sys
@@ -40,8 +46,8 @@ if not __package__:  # run as a file, from any folder
     sys.path[0] = str(Path(__file__).resolve().parent.parent)
 
 from reference.conditions import LEAF, postfix
-from reference.instruments import LARGE, chosen_instrument
-from reference.reading import (CALL_STEP, EVENT_STEP, FAILING_CALL,
+from reference.instruments import CHOICE, LARGE, chosen_instrument
+from reference.reading import (CALL_STEP, CHANNEL_CALL, EVENT_STEP, FAILING_CALL,
                                MAX_CONDITIONS, MAX_LEAVES, MAX_METHODS,
                                MAX_RECORDS, MAX_STEPS, PASS_STEP, STOP_STEP,
                                Method, Point, Sheet, Step)
@@ -144,7 +150,7 @@ class Assembler:
         if not words[2].isdecimal():
             self.fail(f"'{words[2]}' is not a number")
         name = self.new_name(words[0], self.words)
-        number = event_number(words[2], {})
+        number = event_number(words[2], {}, self.instrument.events)
         for other, value in self.words.items():
             if value == number:
                 self.fail(f"event {number} is already named '{other}'")
@@ -155,7 +161,8 @@ class Assembler:
             self.fail("expected: condition NAME = EXPRESSION")
         self.room(self.sheet.conditions, MAX_CONDITIONS, "conditions")
         name = self.new_name(words[0], self.words)
-        tree = parse_expression(" ".join(words[2:]), self.words)
+        tree = parse_expression(" ".join(words[2:]), self.words,
+                                self.instrument.events)
         records = postfix(tree)
         if len(records) > MAX_RECORDS:
             self.fail(f"the condition has {len(records)} records, "
@@ -232,13 +239,15 @@ class Assembler:
         if kind == "pass" and not rest:
             return Step(PASS_STEP, source, target)
         if kind == "event" and len(rest) == 1:
-            return Step(EVENT_STEP, source, target,
-                        event_number(rest[0], self.words))
+            return Step(EVENT_STEP, source, target, event_number(
+                rest[0], self.words, self.instrument.events))
         if kind == "call" and (len(rest) == 1 or rest[1:3] == ["failing", "to"]
                                and len(rest) == 4):
             return self.call(source, target, rest[0], rest[3:])
+        if kind == "call" and rest[1:2] == ["channel"] and len(rest) == 3:
+            return self.channel_call(source, target, rest[0], rest[2])
         self.fail("a step ends with: event EVENT, call METHOD, "
-                  "call METHOD failing to POINT, or pass")
+                  "call METHOD failing to POINT, call METHOD channel NUMBER, or pass")
 
     def call(self, source, target, name, failed_target):
         """The call step; the failed target is a list of no name or one."""
@@ -252,6 +261,15 @@ class Assembler:
             return Step(CALL_STEP, source, target, number)
         return Step(FAILING_CALL, source, target, number,
                     self.find(failed_target[0], self.points, "point"))
+
+    def channel_call(self, source, target, name, channel):
+        """The call step on a channel."""
+        number = self.find(name, self.methods, "method")
+        if self.instrument.kinds < CHANNEL_CALL:
+            self.fail("a call on a channel is for the four-channel instrument")
+        if not channel.isdecimal() or int(channel) > 255:
+            self.fail(f"'{channel}' is not a number from 0 to 255")
+        return Step(CHANNEL_CALL, source, target, number, channel=int(channel))
 
     def owned(self, point, owner):
         """A point with its owner, if it has one."""
@@ -299,7 +317,7 @@ def main(arguments):
     except ValueError as error:
         return str(error)
     if len(arguments) != 1:
-        return "usage: assemble.py [--instrument large|entry] FILE > sheet"
+        return f"usage: assemble.py [--instrument {CHOICE}] FILE > sheet"
     try:
         with open(arguments[0], encoding="utf-8") as file:
             data = assemble(file.read(), instrument)

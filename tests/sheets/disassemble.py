@@ -1,7 +1,7 @@
 """Disassembler for the sheets of document 01: python3 sheets/disassemble.py SHEET
 
 Without SHEET, standard input is read. `--instrument entry` in front is for the
-entry instrument.
+entry instrument, `--instrument four` for the four-channel instrument.
 Prints a sheet record by record: offset, kind, what it is. The last line is
 the loader's. A sheet that reading refuses is printed up to the refusal.
 """
@@ -12,15 +12,16 @@ from pathlib import Path
 if not __package__:  # run as a file, from any folder
     sys.path[0] = str(Path(__file__).resolve().parent.parent)
 
-from reference.instruments import LARGE, chosen_instrument
+from reference.instruments import CHOICE, LARGE, chosen_instrument
 from reference.loader import load_line
-from reference.reading import (BODY_LENGTHS, CALL_STEP, EDITION, END_CERTIFICATE,
-                               END_CONDITION, EVENT_STEP, FAILING_CALL,
-                               FAILING_METHOD, FAILING_PRIMITIVE, FIELD_NAMES,
-                               METHOD, METHODS, OWNED_POINT, PAIR, PASS_STEP, POINT,
-                               POINTS, PRIMITIVE, SECTIONS, STOP_STEP, Reader,
-                               Refusal, fields_of, pair_of, read_record)
-from reference.conditions import LEAF
+from reference.reading import (BODY_LENGTHS, CALL_STEP, CHANNEL_CALL, EDITION,
+                               END_CERTIFICATE, END_CONDITION, EVENT_STEP,
+                               FAILING_CALL, FAILING_METHOD, FAILING_PRIMITIVE,
+                               FIELD_NAMES, METHOD, METHODS, OWNED_POINT, PAIR,
+                               PASS_STEP, POINT, POINTS, PRIMITIVE, SECTIONS,
+                               STOP_STEP, Reader, Refusal, fields_of, pair_of,
+                               read_record)
+from reference.conditions import LEAVES
 from reference.rules import all_rules
 
 from sheets.expressions import show, show_set
@@ -29,14 +30,15 @@ ITEM_NAMES = ("leaf", "EMPTY", "JOIN", "EITHER", "STAR")
 STEP_KEYS = {EVENT_STEP: ("from", "to", "event"),
              CALL_STEP: ("from", "to", "method"), PASS_STEP: ("from", "to"),
              FAILING_CALL: ("from", "to", "failing to", "method"),
-             STOP_STEP: ("from",)}
+             STOP_STEP: ("from",),
+             CHANNEL_CALL: ("from", "to", "method", "channel")}
 KEYS = {kind: [name.replace("_", " ") for name in names]
         for kind, names in FIELD_NAMES.items()} | STEP_KEYS
 NAMES = {POINT: "point", PRIMITIVE: "primitive", METHOD: "method",
          EVENT_STEP: "event step", CALL_STEP: "call step",
          PASS_STEP: "pass step", FAILING_PRIMITIVE: "primitive",
          FAILING_METHOD: "method", FAILING_CALL: "call step",
-         STOP_STEP: "stop step", OWNED_POINT: "point"}
+         STOP_STEP: "stop step", OWNED_POINT: "point", CHANNEL_CALL: "call step"}
 LONGEST = 1 + max(BODY_LENGTHS)
 
 
@@ -73,13 +75,14 @@ class Printer:
     def describe(self, record):
         """What a record is, before it is added."""
         kind, reader = record.kind, self.reader
-        if kind == LEAF:
-            return "  leaf " + show_set(int.from_bytes(record.body, "little"))
+        events = reader.instrument.events
+        if kind in LEAVES:
+            return "  leaf " + show_set(int.from_bytes(record.body, "little"), events)
         if kind < END_CONDITION:
             return "  " + ITEM_NAMES[kind - 1]
         if kind == END_CONDITION:
             return (f"end of condition {len(reader.sheet.conditions)}: "
-                    + show(reader.items[0]))
+                    + show(reader.items[0], events))
         if kind == PAIR:
             place, rights = pair_of(record)
             return (f"  pair {len(reader.pairs or [])}: place {place} "
@@ -121,7 +124,7 @@ def main(arguments):
     except ValueError as error:
         return str(error)
     if len(arguments) > 1:
-        return "usage: disassemble.py [--instrument large|entry] [SHEET]"
+        return f"usage: disassemble.py [--instrument {CHOICE}] [SHEET]"
     try:
         if arguments:
             data = Path(arguments[0]).read_bytes()

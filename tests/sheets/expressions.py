@@ -1,4 +1,5 @@
-"""Text form of the conditions of document 01, "Events and conditions".
+"""Text form of the conditions of document 01, "Events and conditions", for any number
+of events (document 02, Ask 11).
 
     expression   sequence | sequence | ...
     sequence     items side by side
@@ -8,13 +9,12 @@
 """
 import re
 
-from reference.conditions import (ANY, EITHER, EMPTY, EVENTS, JOIN, LEAF, STAR,
-                                  bits)
+from reference.conditions import EITHER, EMPTY, JOIN, LEAF, STAR, bits
+from reference.instruments import LARGE
 
 TOKEN = re.compile(r"\s*([A-Za-z_][A-Za-z0-9_]*|[0-9]+|.)")
 NAME = re.compile(r"[A-Za-z_][A-Za-z0-9_]*\Z")
 RESERVED = {"any", "none", "empty", "not", "finally", "globally", "next"}
-ANY_LEAF = (LEAF, ANY)
 MAX_DEPTH = 100
 
 
@@ -26,26 +26,31 @@ def tokens_of(text):
     return [match.group(1) for match in TOKEN.finditer(text.rstrip())]
 
 
-def complement(tree, word):
+def any_of(events):
+    """The leaf with all of that many events."""
+    return (LEAF, (1 << events) - 1)
+
+
+def complement(tree, any_, word):
     if tree[0] != LEAF:
         raise ExpressionError(f"'{word}' needs a set of events")
-    return (LEAF, ANY & ~tree[1])
+    return (LEAF, any_[1] & ~tree[1])
 
 
-def finally_(tree):
+def finally_(tree, any_):
     """(not A)* A any*"""
-    other = (STAR, complement(tree, "finally"))
-    return (JOIN, (JOIN, other, tree), (STAR, ANY_LEAF))
+    other = (STAR, complement(tree, any_, "finally"))
+    return (JOIN, (JOIN, other, tree), (STAR, any_))
 
 
-def globally_(tree):
+def globally_(tree, _):
     """A*"""
     return (STAR, tree)
 
 
-def next_(tree):
+def next_(tree, any_):
     """any A any*"""
-    return (JOIN, (JOIN, ANY_LEAF, tree), (STAR, ANY_LEAF))
+    return (JOIN, (JOIN, any_, tree), (STAR, any_))
 
 
 FUNCTIONS = {"finally": finally_, "globally": globally_, "next": next_}
@@ -54,11 +59,13 @@ FUNCTIONS = {"finally": finally_, "globally": globally_, "next": next_}
 class Parser:
     """Recursive descent; names are known events (ints) and conditions (trees)."""
 
-    def __init__(self, text, names):
+    def __init__(self, text, names, events):
         self.tokens = tokens_of(text)
         self.at = 0
         self.depth = 0
         self.names = names
+        self.events = events
+        self.any = any_of(events)
 
     def peek(self):
         return self.tokens[self.at] if self.at < len(self.tokens) else None
@@ -119,16 +126,16 @@ class Parser:
         if token == "{":
             return (LEAF, self.event_set())
         if token == "not":
-            return complement(self.item(), "not")
+            return complement(self.item(), self.any, "not")
         if token in FUNCTIONS:
             self.expect("(")
             tree = self.either()
             self.expect(")")
-            return FUNCTIONS[token](tree)
+            return FUNCTIONS[token](tree, self.any)
         return self.simple(token)
 
     def simple(self, token):
-        constants = {"any": ANY_LEAF, "none": (LEAF, 0), "empty": (EMPTY,)}
+        constants = {"any": self.any, "none": (LEAF, 0), "empty": (EMPTY,)}
         if token in constants:
             return constants[token]
         if token not in self.names:
@@ -142,7 +149,7 @@ class Parser:
             self.take()
             return events
         while True:
-            events |= 1 << event_number(self.take(), self.names)
+            events |= 1 << event_number(self.take(), self.names, self.events)
             token = self.take()
             if token == "}":
                 return events
@@ -150,42 +157,43 @@ class Parser:
                 raise ExpressionError(f"expected ',' or '}}', found '{token}'")
 
 
-def event_number(token, names):
+def event_number(token, names, events=LARGE.events):
     """The event that a number or a name of an event stands for."""
     if token.isdecimal():
-        if int(token) >= EVENTS:
-            raise ExpressionError(f"event {token} is above {EVENTS - 1}")
+        if int(token) >= events:
+            raise ExpressionError(f"event {token} is above {events - 1}")
         return int(token)
     if not isinstance(names.get(token), int):
         raise ExpressionError(f"unknown event '{token}'")
     return names[token]
 
 
-def parse_expression(text, names):
-    """The tree of an expression."""
-    return Parser(text, names).whole()
+def parse_expression(text, names, events=LARGE.events):
+    """The tree of an expression, for that many events."""
+    return Parser(text, names, events).whole()
 
 
-def show_set(events):
-    if events == ANY:
+def show_set(held, events=LARGE.events):
+    _, any_ = any_of(events)
+    if held == any_:
         return "any"
-    if events.bit_count() > EVENTS // 2:
-        return "not " + show_set(ANY & ~events)
-    return "{" + ",".join(str(event) for event in bits(events)) + "}"
+    if held.bit_count() > events // 2:
+        return "not " + show_set(any_ & ~held, events)
+    return "{" + ",".join(str(event) for event in bits(held)) + "}"
 
 
-def show(tree, strength=0):
+def show(tree, events=LARGE.events, strength=0):
     """The expression of a tree; parse_expression gives the tree back."""
     kind = tree[0]
     if kind == LEAF:
-        text = show_set(tree[1])
+        text = show_set(tree[1], events)
         return f"({text})" if strength == 2 and " " in text else text
     if kind == EMPTY:
         return "empty"
     if kind == STAR:
-        return show(tree[1], 2) + "*"
+        return show(tree[1], events, 2) + "*"
     if kind == JOIN:
-        own, text = 1, f"{show(tree[1], 1)} {show(tree[2], 2)}"
+        own, text = 1, f"{show(tree[1], events, 1)} {show(tree[2], events, 2)}"
     else:
-        own, text = 0, f"{show(tree[1], 0)} | {show(tree[2], 1)}"
+        own, text = 0, f"{show(tree[1], events, 0)} | {show(tree[2], events, 1)}"
     return text if own >= strength else f"({text})"

@@ -16,9 +16,20 @@ def u32(value):
     return value.to_bytes(4, "little")
 
 
+def u64(value):
+    return value.to_bytes(8, "little")
+
+
+def wide_leaf(events):
+    """A leaf of kind 21."""
+    return b"\x15" + u64(events)
+
+
 def item(kind, events=0):
-    """A record of kinds 1 to 5."""
-    return b"\x01" + u32(events) if kind == LEAF else bytes([kind])
+    """A record of kinds 1 to 5, or of kind 21: a leaf that 4 bytes do not hold."""
+    if kind != LEAF:
+        return bytes([kind])
+    return wide_leaf(events) if events >> 32 else b"\x01" + u32(events)
 
 
 def condition(tree):
@@ -77,6 +88,10 @@ def stop_step(source):
     return b"\x13" + u16(source)
 
 
+def channel_call(source, target, called, channel):
+    return b"\x16" + u16(source, target, called) + bytes([channel])
+
+
 def pair(place, rights):
     return b"\x0d" + bytes([place]) + u32(rights)
 
@@ -88,7 +103,7 @@ def certificate(pairs):
 
 WRITERS = {7: point, 8: primitive, 9: method, 10: event_step, 11: call_step,
            12: pass_step, 15: failing_primitive, 16: failing_method,
-           17: failing_call, 19: stop_step, 20: owned_point}
+           17: failing_call, 19: stop_step, 20: owned_point, 22: channel_call}
 
 
 def named_record(one):
