@@ -1,7 +1,8 @@
 /* Loads the sheet on standard input by the library, and prints the status and
  * the answer's number and values: on the large instrument, on the entry
- * instrument, and by the door that the latter has alone; then the status where
- * `out` has too little room, and for a number that is no instrument's. */
+ * instrument, by the door that the latter has alone, and on the four-channel
+ * instrument; then the status where `out` has too little room, and for a number
+ * that is no instrument's. */
 #include "sheet_loader.h"
 
 #include <stdio.h>
@@ -45,6 +46,8 @@ int main(void)
     print("entry", status, out);
     status = sheet_loader_load_entry(sheet, size, out, SHEET_LOADER_ROOM);
     print("entry alone", status, out);
+    status = sheet_loader_load(SHEET_LOADER_FOUR, sheet, size, out, SHEET_LOADER_ROOM);
+    print("four", status, out);
     status = sheet_loader_load(SHEET_LOADER_LARGE, sheet, size, out, SHEET_LOADER_ROOM - 1);
     printf("%s\n", status == SHEET_LOADER_NOT_WRITTEN ? "not written" : "written");
     status = sheet_loader_load(0, sheet, size, out, SHEET_LOADER_ROOM);

@@ -1,15 +1,16 @@
 /* The doors of the sheet loader.
  *
- * Each door takes the instrument as a number, SHEET_LOADER_LARGE or
- * SHEET_LOADER_ENTRY; sheet_loader_load_entry is the entry instrument's own.
+ * Each door takes the instrument as a number, SHEET_LOADER_LARGE,
+ * SHEET_LOADER_ENTRY or SHEET_LOADER_FOUR; sheet_loader_load_entry is the entry
+ * instrument's own.
  *
  * Slices are lent. The sheet and the word are only read. Where `out` has room
  * for SHEET_LOADER_ROOM numbers, each door writes that many at its front:
  *
  *   out[0]     the status, which the door also returns
- *   out[1]     the number of documents 01 and 02: 1 to 10, 12 to 14, 18 to 20,
- *              24 and 25 of a refusal, 11 of an unproved sheet, 0 of any other
- *              answer
+ *   out[1]     the number of documents 01 and 02: 1 to 10, 12 to 14, 18 to 20
+ *              and 24 to 26 of a refusal, 11 of an unproved sheet, 0 of any
+ *              other answer
  *   out[2]..   the values given below
  *   the rest   0
  *
@@ -27,10 +28,18 @@ extern "C" {
 
 #define SHEET_LOADER_ROOM 8
 
-/* The instruments: 65,536 bytes and 512 points, or 8,192 bytes and 64 points.
- * Any other number, 0 too, is no instrument's. */
+/* The instruments:
+ *
+ *   LARGE      65,536 bytes, 512 points, events 0 to 31, kinds 1 to 20
+ *   ENTRY      8,192 bytes, 64 points, events 0 to 31, kinds 1 to 20
+ *   FOUR       65,536 bytes, 512 points, events 0 to 63, kinds 1 to 22
+ *
+ * FOUR is the four-channel instrument: channel c of 0 to 3 has the events 16c to
+ * 16c + 15. Kind 21 is a leaf with a set of 8 bytes, kind 22 a call of a primitive
+ * on a channel. Any other number, 0 too, is no instrument's. */
 #define SHEET_LOADER_LARGE 1
 #define SHEET_LOADER_ENTRY 2
+#define SHEET_LOADER_FOUR 3
 
 /* No answer has this status. */
 #define SHEET_LOADER_NOT_WRITTEN 0
@@ -46,8 +55,11 @@ extern "C" {
  *   ACCEPTED    count
  *   REFUSED     place
  *   UNPROVED    rule, subject, clause, pair, event, place
+ * The place of a refusal is the offset of the record at fault, or of the first
+ * point whose owner is no method (25), the sheet's length (8, 9 where there is no
+ * method, 10), or the most bytes of the instrument (1).
  * The subject is a method for rules 1 to 6 and 22 to 24, and a step for rules 7
- * to 21, 25 and 26. */
+ * to 21, 25 and 26. The event of a fault is one of the instrument's events. */
 #define SHEET_LOADER_ACCEPTED 1
 #define SHEET_LOADER_REFUSED 2
 #define SHEET_LOADER_UNPROVED 3
@@ -60,7 +72,8 @@ size_t sheet_loader_load_entry(const uint8_t *sheet, size_t sheet_len, size_t *o
 
 /* Tests whether a condition of a sheet holds a word, one byte an event.
  *   YES
- *   REFUSED     place
+ *   REFUSED     place; of 13 the index of the first byte that is no event of the
+ *               instrument
  *   NO */
 #define SHEET_LOADER_YES 1
 #define SHEET_LOADER_NO 3
@@ -68,7 +81,7 @@ size_t sheet_loader_word_test(size_t instrument, const uint8_t *sheet, size_t sh
                               size_t condition, const uint8_t *word, size_t word_len, size_t *out,
                               size_t out_len);
 
-/* Reads a sheet, refusals 1 to 9, 18 to 20, 24 and 25 alone.
+/* Reads a sheet, refusals 1 to 9, 18 to 20 and 24 to 26 alone.
  *   READ_WHOLE  conditions, points, methods, steps, certificates
  *   REFUSED     place */
 #define SHEET_LOADER_READ_WHOLE 1

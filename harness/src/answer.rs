@@ -79,7 +79,7 @@ impl Answer {
     }
 }
 
-/// One implementation of the loader. The library takes the two instruments by their
+/// One implementation of the loader. The library takes the three instruments by their
 /// numbers, the others take any limits.
 #[derive(Clone, Copy)]
 pub struct Doors {

@@ -1,7 +1,7 @@
 //! Timings of the loaders on the same families, in turn, in processor time.
 use crate::answer::Doors;
 use crate::clock;
-use crate::instrument::{Instrument, ENTRY, LARGE};
+use crate::instrument::{Instrument, ENTRY, FOUR, LARGE};
 use crate::sheets;
 use std::hint::black_box;
 use std::time::Duration;
@@ -28,7 +28,7 @@ pub fn bench(all: &[Doors], word: &str) {
     println!("{}", if ratio { " ratio |" } else { "" });
     println!("|---|{}", "---|".repeat(all.len() + ratio as usize));
     for (name, make) in families().into_iter().filter(|(name, _)| name.contains(word)) {
-        let family = make(name);
+        let family = make(&name);
         let times = rounds(&family, all);
         let cells: Vec<String> = times.iter().map(|list| shown(median(list.clone()))).collect();
         print!("| {} | {} |", family.name, cells.join(" | "));
@@ -45,8 +45,17 @@ type MakeWord = fn() -> (Vec<u8>, Vec<u8>);
 /// Makes the family of a name.
 type Make = Box<dyn Fn(&str) -> Family>;
 
-/// The families by name; each is made where it is asked for.
-fn families() -> Vec<(&'static str, Make)> {
+/// Families by name; each is made where it is asked for.
+type Families = Vec<(String, Make)>;
+
+fn families() -> Families {
+    let mut list = two_channels();
+    list.extend(four_channels());
+    list
+}
+
+/// Those of the large and the entry instrument.
+fn two_channels() -> Families {
     let smalls: [(&str, MakeSmall); 4] = [
         ("small honest sheet", sheets::small_honest),
         ("small honest sheet, two outcomes", sheets::small_failing),
@@ -70,43 +79,76 @@ fn families() -> Vec<(&'static str, Make)> {
         ("reading alone, most records", sheets::many_records),
         ("reading alone, owned points", sheets::owned_rules),
     ];
-    let mut list: Vec<(&str, Make)> = vec![];
-    add(&mut list, &smalls, |name, make| small(name, make(200)));
+    let mut list = vec![];
+    add(&mut list, &smalls, |name, make| small(name, LARGE, make(200)));
     add(&mut list, &loads, |name, make| one_load(name, LARGE, make()));
     add(&mut list, &sheets::HOSTILE, |name, make| one_load(name, LARGE, make(usize::MAX)));
-    add(&mut list, &words, |name, make| one_word(name, make()));
-    add(&mut list, &readings, |name, make| reading(name, make()));
+    add(&mut list, &words, |name, make| one_word(name, LARGE, make()));
+    add(&mut list, &readings, |name, make| reading(name, LARGE, make()));
     add(&mut list, &sheets::ENTRY_SHEETS, |name, make| one_load(name, ENTRY, make()));
     list
 }
 
+/// Those of the four-channel instrument.
+fn four_channels() -> Families {
+    let smalls: [(&str, MakeSmall); 2] = [
+        ("small honest sheet", sheets::small_honest),
+        ("small sheets with calls by channel", sheets::small_channels),
+    ];
+    let loads: [(&str, MakeSheet); 4] = [
+        ("as many calls by channel as fit", sheets::channel_rules),
+        ("as many calls by channel as fit, under 35 stars", sheets::starred_channel_rules),
+        ("large honest certificate", sheets::four_certificate),
+        ("hostile: one pair for each follower and each of 64 events", || {
+            sheets::each_of_64(usize::MAX)
+        }),
+    ];
+    let [steady, changing, single] = sheets::FOUR_WORDS;
+    let words: [(&str, MakeWord); 3] = [
+        ("word in the same places", steady),
+        ("word in changing places", changing),
+        ("word in one place at a time", single),
+    ];
+    let readings: [(&str, MakeSheet); 2] = [
+        ("reading alone, calls by channel", sheets::channel_rules),
+        ("reading alone, most records", sheets::many_records),
+    ];
+    let mut list = vec![];
+    add(&mut list, &smalls, |name, make| small(name, FOUR, make(200)));
+    add(&mut list, &loads, |name, make| one_load(name, FOUR, make()));
+    add(&mut list, &sheets::HOSTILE, |name, make| one_load(name, FOUR, sheets::doubled(make)));
+    add(&mut list, &words, |name, make| one_word(name, FOUR, make()));
+    add(&mut list, &readings, |name, make| reading(name, FOUR, make()));
+    list.into_iter().map(|(name, make)| (format!("{}: {name}", FOUR.name), make)).collect()
+}
+
 /// Adds families, given the names, what makes the sheets, and the family of these.
 fn add<M: Copy + 'static>(
-    list: &mut Vec<(&'static str, Make)>,
+    list: &mut Families,
     named: &[(&'static str, M)],
     family: fn(&str, M) -> Family,
 ) {
     for &(name, make) in named {
-        list.push((name, Box::new(move |name| family(name, make))));
+        list.push((name.to_string(), Box::new(move |name| family(name, make))));
     }
 }
 
-fn small(name: &str, small: Vec<Vec<u8>>) -> Family {
+fn small(name: &str, on: Instrument, small: Vec<Vec<u8>>) -> Family {
     let bytes: usize = small.iter().map(Vec::len).sum();
     let name = format!("{name}, {} bytes on average", bytes / small.len());
     let parts = small.len();
     let work = Box::new(move |doors: &Doors| {
         for sheet in &small {
-            black_box((doors.load)(&LARGE, black_box(sheet)));
+            black_box((doors.load)(&on, black_box(sheet)));
         }
     });
     Family { name, work, parts }
 }
 
-fn reading(name: &str, sheet: Vec<u8>) -> Family {
+fn reading(name: &str, on: Instrument, sheet: Vec<u8>) -> Family {
     let name = format!("{name}, {} bytes", sheet.len());
     let work = Box::new(move |doors: &Doors| {
-        black_box((doors.read)(&LARGE, black_box(&sheet)).is_ok());
+        black_box((doors.read)(&on, black_box(&sheet)).is_ok());
     });
     Family { name, work, parts: 1 }
 }
@@ -120,10 +162,10 @@ fn one_load(name: &str, on: Instrument, sheet: Vec<u8>) -> Family {
     Family { name, work, parts: 1 }
 }
 
-fn one_word(name: &str, (sheet, word): (Vec<u8>, Vec<u8>)) -> Family {
+fn one_word(name: &str, on: Instrument, (sheet, word): (Vec<u8>, Vec<u8>)) -> Family {
     let name = format!("{name}, {} events on 31 leaves", word.len());
     let work = Box::new(move |doors: &Doors| {
-        black_box((doors.word_test)(&LARGE, black_box(&sheet), 1, black_box(&word)));
+        black_box((doors.word_test)(&on, black_box(&sheet), 1, black_box(&word)));
     });
     Family { name, work, parts: 1 }
 }

@@ -1,14 +1,14 @@
-//! Two loaders on the same random sheets and words, on a smaller and a larger
-//! instrument each; what request 8 states of the two instruments, and what requests 2,
-//! 4 and 9 leave as it was.
+//! Two loaders on the same random sheets and words, on smaller and larger instruments;
+//! what requests 8 and 11 state of the instruments, and what requests 2, 4 and 9 leave as
+//! it was.
 mod seen;
 
 use crate::answer::{Answer, Counts, Doors, Refusal, Verdict};
 use crate::former::{Asked, Former};
-use crate::instrument::{Instrument, ENTRY, FORMER_KINDS, LARGE};
+use crate::instrument::{Instrument, ENTRY, FORMER_KINDS, FOUR, LARGE};
 use crate::random::Random;
 use crate::sheets::{self, Test};
-use crate::smaller::{Related, Ways};
+use crate::smaller::{way, Pair, Related};
 use crate::vectors;
 use seen::Seen;
 use std::fmt::Display;
@@ -18,8 +18,15 @@ const SHOWN: usize = 5;
 /// Bytes of a sheet that are shown.
 const SHOWN_BYTES: usize = 4_096;
 
-/// A smaller instrument and a larger one.
-type Pair = [Instrument; 2];
+/// The instruments that there are, each no larger than the next.
+const MODELS: [Instrument; 3] = [ENTRY, LARGE, FOUR];
+
+/// One loader's answers to a sheet and its words on one instrument.
+struct Answers {
+    load: Verdict,
+    read: Result<Counts, Refusal>,
+    words: Vec<Answer>,
+}
 
 struct Comparison<'a> {
     one: &'a Doors,
@@ -28,9 +35,9 @@ struct Comparison<'a> {
     words: usize,
     differences: usize,
     seen: Seen,
-    /// The second loader's answers on the entry and the large instrument, and on
-    /// instruments with random limits.
-    models: Related,
+    /// The second loader's answers on the entry and the large instrument, on the large and
+    /// the four-channel one, and on two instruments with random limits.
+    models: [Related; 2],
     limits: Related,
     /// The first loader's answers with fewer kinds, and the second's with all.
     former: [Former; FORMER_KINDS.len()],
@@ -56,7 +63,7 @@ fn run(one: &Doors, two: &Doors, sheets: usize, seed: u64, any_limits: bool) -> 
         words: 0,
         differences: 0,
         seen: Seen::default(),
-        models: Related::default(),
+        models: Default::default(),
         limits: Related::default(),
         former: Former::all(),
         any_limits,
@@ -76,43 +83,64 @@ fn run(one: &Doors, two: &Doors, sheets: usize, seed: u64, any_limits: bool) -> 
 }
 
 impl Comparison<'_> {
-    /// A sheet and its words on the entry and the large instrument.
+    /// A sheet and its words on the entry, the large and the four-channel instrument.
     fn models(&mut self, sheet: &[u8], words: &[Test]) {
         let mut related = std::mem::take(&mut self.models);
-        let [entry, large] = self.pair(sheet, words, [ENTRY, LARGE], &mut related);
+        let [entry, large, four] = MODELS.map(|on| self.answers(&on, sheet, words));
+        self.relate(sheet, words, [(ENTRY, &entry), (LARGE, &large)], &mut related[0]);
+        self.relate(sheet, words, [(LARGE, &large), (FOUR, &four)], &mut related[1]);
         self.models = related;
-        let points = (self.one.read)(&LARGE, sheet).ok().map(|counts| counts.points);
-        self.seen.near(sheet.len(), points, [&large, &entry]);
+        let points = large.read.ok().map(|counts| counts.points);
+        self.seen.near(sheet.len(), points, [&large.load, &entry.load]);
         let alone = (self.two.load_entry)(sheet);
-        if alone != entry {
-            self.differ(sheet, "load", [("load", &entry), ("load_entry", &alone)]);
+        if alone != entry.load {
+            self.differ(sheet, "load", [("load", &entry.load), ("load_entry", &alone)]);
         }
     }
 
     /// The same on two others.
-    fn limits(&mut self, sheet: &[u8], words: &[Test], pair: Pair) {
+    fn limits(&mut self, sheet: &[u8], words: &[Test], [small, large]: Pair) {
         let mut related = std::mem::take(&mut self.limits);
-        self.pair(sheet, words, pair, &mut related);
+        let [one, two] = [small, large].map(|on| self.answers(&on, sheet, words));
+        self.relate(sheet, words, [(small, &one), (large, &two)], &mut related);
         self.limits = related;
     }
 
-    /// The second loader's verdicts on two instruments, after all comparisons.
-    fn pair(
+    /// The second loader's answers on an instrument, after all comparisons with the first.
+    fn answers(&mut self, on: &Instrument, sheet: &[u8], words: &[Test]) -> Answers {
+        let load = self.load(on, sheet);
+        let read = self.reading(on, sheet);
+        Answers { load, read, words: words.iter().map(|test| self.word(on, sheet, test)).collect() }
+    }
+
+    /// What is stated of the answers on a smaller and a larger instrument.
+    fn relate(
         &mut self,
         sheet: &[u8],
         words: &[Test],
-        pair: Pair,
+        [(small, one), (large, two)]: [(Instrument, &Answers); 2],
         related: &mut Related,
-    ) -> [Verdict; 2] {
-        let verdicts = pair.map(|on| self.load(&on, sheet));
-        if !related.verdicts(&pair[0], &verdicts) {
-            self.broken(sheet, "load", pair, [&verdicts[0], &verdicts[1]]);
+    ) {
+        let pair = [small, large];
+        if !related.verdicts(&pair, sheet, &[one.load, two.load]) {
+            self.broken(sheet, "load", pair, [&one.load, &two.load]);
         }
-        self.readings(sheet, pair, &mut related.readings);
-        for test in words {
-            self.word(sheet, test, pair, &mut related.words);
+        let same = one.read == two.read;
+        if !related.readings.count(way(&pair, sheet, &[], one.read.err(), same), same) {
+            self.broken(
+                sheet,
+                "read",
+                pair,
+                [&vectors::line(&one.read), &vectors::line(&two.read)],
+            );
         }
-        verdicts
+        for (test, (one, two)) in words.iter().zip(one.words.iter().zip(&two.words)) {
+            let same = one == two;
+            let way = way(&pair, sheet, &test.word, one.refusal(), same);
+            if !related.words.count(way, same) {
+                self.broken(sheet, &said(test), pair, [one, two]);
+            }
+        }
     }
 
     fn load(&mut self, on: &Instrument, sheet: &[u8]) -> Verdict {
@@ -126,26 +154,21 @@ impl Comparison<'_> {
         for which in 0..self.former.len() {
             let before = on.former(self.former[which].kinds);
             let former = (self.one.load)(&before, sheet);
-            if !self.former[which].verdicts(sheet, &former, &two) {
+            if !self.former[which].verdicts(on, sheet, &former, &two) {
                 self.changed(sheet, "load", [&before, on], [&former, &two]);
             }
         }
         two
     }
 
-    fn readings(&mut self, sheet: &[u8], pair: Pair, ways: &mut Ways) {
-        let [small, large] = pair.map(|on| {
-            let one = (self.one.read)(&on, sheet);
-            let two = (self.two.read)(&on, sheet);
-            if one != two {
-                self.unlike(sheet, "read", &on, [&vectors::line(&one), &vectors::line(&two)]);
-            }
-            self.former_reading(sheet, &on, &two);
-            two
-        });
-        if !ways.count(&pair[0], small.err(), small == large) {
-            self.broken(sheet, "read", pair, [&vectors::line(&small), &vectors::line(&large)]);
+    fn reading(&mut self, on: &Instrument, sheet: &[u8]) -> Result<Counts, Refusal> {
+        let one = (self.one.read)(on, sheet);
+        let two = (self.two.read)(on, sheet);
+        if one != two {
+            self.unlike(sheet, "read", on, [&vectors::line(&one), &vectors::line(&two)]);
         }
+        self.former_reading(sheet, on, &two);
+        two
     }
 
     /// Reading with fewer kinds, by the first loader and, if it takes any limits, by the
@@ -155,7 +178,7 @@ impl Comparison<'_> {
             let before = on.former(self.former[which].kinds);
             let former = (self.one.read)(&before, sheet);
             let same = former == *now;
-            if !self.former[which].count(Asked::Reading, sheet, former.err(), same) {
+            if !self.former[which].count(Asked::Reading, on, sheet, former.err(), same) {
                 let lines = [vectors::line(&former), vectors::line(now)];
                 self.changed(sheet, "read", [&before, on], [&lines[0], &lines[1]]);
             }
@@ -174,29 +197,22 @@ impl Comparison<'_> {
             let before = on.former(self.former[which].kinds);
             let former = (self.one.word_test)(&before, sheet, test.condition, &test.word);
             let same = former == *now;
-            if !self.former[which].count(Asked::Word, sheet, former.refusal(), same) {
-                let what = format!("condition {}, word {}", test.condition, hex(&test.word));
-                self.changed(sheet, &what, [&before, on], [&former, now]);
+            if !self.former[which].count(Asked::Word, on, sheet, former.refusal(), same) {
+                self.changed(sheet, &said(test), [&before, on], [&former, now]);
             }
         }
     }
 
-    fn word(&mut self, sheet: &[u8], test: &Test, pair: Pair, ways: &mut Ways) {
-        let what = || format!("condition {}, word {}", test.condition, hex(&test.word));
-        let [small, large] = pair.map(|on| {
-            self.words += 1;
-            let one = (self.one.word_test)(&on, sheet, test.condition, &test.word);
-            let two = (self.two.word_test)(&on, sheet, test.condition, &test.word);
-            self.seen.answer(&on, &one);
-            if one != two {
-                self.unlike(sheet, &what(), &on, [&one, &two]);
-            }
-            self.former_word(sheet, test, &on, &two);
-            two
-        });
-        if !ways.count(&pair[0], small.refusal(), small == large) {
-            self.broken(sheet, &what(), pair, [&small, &large]);
+    fn word(&mut self, on: &Instrument, sheet: &[u8], test: &Test) -> Answer {
+        self.words += 1;
+        let one = (self.one.word_test)(on, sheet, test.condition, &test.word);
+        let two = (self.two.word_test)(on, sheet, test.condition, &test.word);
+        self.seen.answer(on, &one);
+        if one != two {
+            self.unlike(sheet, &said(test), on, [&one, &two]);
         }
+        self.former_word(sheet, test, on, &two);
+        two
     }
 
     /// The loaders' answers differ.
@@ -205,7 +221,7 @@ impl Comparison<'_> {
         self.differ(sheet, &format!("{what}, {}", limits(on)), answers);
     }
 
-    /// Request 8's statement is false of the second loader's answers.
+    /// What is stated of two instruments is false of the second loader's answers.
     fn broken(&mut self, sheet: &[u8], what: &str, pair: Pair, [one, two]: [&dyn Display; 2]) {
         let [small, large] = pair.map(|on| limits(&on));
         let what = format!("{what}, {} on two instruments", self.two.name);
@@ -241,7 +257,9 @@ impl Comparison<'_> {
         println!("{} loads and readings, {} words tested", self.loads, self.words);
         println!("{} differences\n", self.differences);
         self.seen.print();
-        self.models.print(ENTRY.name, LARGE.name);
+        let [first, second] = &self.models;
+        first.print(ENTRY.name, LARGE.name);
+        second.print(LARGE.name, FOUR.name);
         if self.any_limits {
             self.limits.print("the smaller", "the larger");
         }
@@ -250,8 +268,13 @@ impl Comparison<'_> {
 }
 
 fn limits(on: &Instrument) -> String {
-    let Instrument { name, bytes, points, kinds, .. } = on;
-    format!("{name} ({bytes} bytes, {points} points, kinds up to {kinds})")
+    let Instrument { name, bytes, points, kinds, events, .. } = on;
+    format!("{name} ({bytes} bytes, {points} points, kinds up to {kinds}, {events} events)")
+}
+
+/// What is asked of a word.
+fn said(test: &Test) -> String {
+    format!("condition {}, word {}", test.condition, hex(&test.word))
 }
 
 fn hex(bytes: &[u8]) -> String {

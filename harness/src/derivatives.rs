@@ -38,7 +38,7 @@ fn step(trees: &Trees, event: u8) -> Trees {
     trees.iter().flat_map(|tree| partial(tree, event)).collect()
 }
 
-fn sets(tree: &Tree, found: &mut BTreeSet<u32>) {
+fn sets(tree: &Tree, found: &mut BTreeSet<u64>) {
     match tree {
         Tree::Leaf(set) => {
             found.insert(*set);
@@ -58,8 +58,8 @@ fn events(left: &Tree, rights: &Trees) -> Vec<u8> {
     sets(left, &mut found);
     rights.iter().for_each(|tree| sets(tree, &mut found));
     let mut classes = HashSet::new();
-    let class = |event: &u8| found.iter().map(|set| set >> event & 1).collect::<Vec<u32>>();
-    (0..32).filter(|event| classes.insert(class(event))).collect()
+    let class = |event: &u8| found.iter().map(|set| set >> event & 1).collect::<Vec<u64>>();
+    (0..64).filter(|event| classes.insert(class(event))).collect()
 }
 
 /// A shortest word of the left that, behind some events, is not in the right;

@@ -2,7 +2,7 @@
 //! a former highest one and with all kinds: the former answer is refused 2 at a record
 //! of a later kind, or equal to the latter with all its values.
 use crate::answer::{Refusal, Verdict};
-use crate::instrument::{FORMER_KINDS, KINDS};
+use crate::instrument::{Instrument, FORMER_KINDS};
 
 /// What the former answer is.
 #[derive(Clone, Copy, Debug, PartialEq, Eq)]
@@ -11,10 +11,16 @@ pub enum Way {
     Same,
 }
 
-/// Given the former highest kind, the refusal by it, if it is one, and whether the
-/// answers are equal; nothing where the statement is false.
-pub fn way(sheet: &[u8], kinds: u8, refusal: Option<Refusal>, same: bool) -> Option<Way> {
-    let later = |at: usize| sheet.get(at).is_some_and(|&kind| kind > kinds && kind <= KINDS);
+/// Given the former highest kind and the highest of the instrument, the refusal by the
+/// former, if it is one, and whether the answers are equal; nothing where the statement is
+/// false.
+pub fn way(
+    sheet: &[u8],
+    [former, now]: [u8; 2],
+    refusal: Option<Refusal>,
+    same: bool,
+) -> Option<Way> {
+    let later = |at: usize| sheet.get(at).is_some_and(|&kind| kind > former && kind <= now);
     match refusal {
         Some(Refusal { number: 2, place: Some(at) }) if later(at) => Some(Way::LaterKind),
         _ => same.then_some(Way::Same),
@@ -62,31 +68,39 @@ impl Former {
         FORMER_KINDS.map(|kinds| Former { kinds, ways: Default::default(), now: [0; 3] })
     }
 
-    /// Counts an answer, given the former refusal, if it is one, and whether the answers
-    /// are equal; tells whether the statement is true.
+    /// Counts an answer on an instrument, given the former refusal, if it is one, and
+    /// whether the answers are equal; tells whether the statement is true.
     pub fn count(
         &mut self,
         asked: Asked,
+        on: &Instrument,
         sheet: &[u8],
         refusal: Option<Refusal>,
         same: bool,
     ) -> bool {
-        let way = way(sheet, self.kinds, refusal, same);
+        let way = way(sheet, [self.kinds, on.kinds], refusal, same);
         self.ways[asked as usize].count(way);
         way.is_some()
     }
 
     /// Counts two verdicts; tells whether the statement is true.
-    pub fn verdicts(&mut self, sheet: &[u8], former: &Verdict, now: &Verdict) -> bool {
+    pub fn verdicts(
+        &mut self,
+        on: &Instrument,
+        sheet: &[u8],
+        former: &Verdict,
+        now: &Verdict,
+    ) -> bool {
         let same = former == now;
-        if way(sheet, self.kinds, former.refusal(), same) == Some(Way::LaterKind) {
+        let kinds = [self.kinds, on.kinds];
+        if way(sheet, kinds, former.refusal(), same) == Some(Way::LaterKind) {
             self.now[match now {
                 Verdict::Accepted(_) => 0,
                 Verdict::Refused(_) => 1,
                 Verdict::Unproved { .. } => 2,
             }] += 1;
         }
-        self.count(Asked::Load, sheet, former.refusal(), same)
+        self.count(Asked::Load, on, sheet, former.refusal(), same)
     }
 
     pub fn print(&self) {

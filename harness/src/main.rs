@@ -27,11 +27,11 @@ use instrument::{Instrument, LARGE};
 use std::io::Read;
 use std::process::ExitCode;
 
-const USAGE: &str = "commands; I is large, which stands where none is given, or entry:
-  compare N --seed S      N sheets on both instruments: library against reference, or reference against naive
-  self-check N --seed S   N sheets on both, and on two with random limits: reference against naive
+const USAGE: &str = "commands; I is large, which stands where none is given, entry or four:
+  compare N --seed S      N sheets on every instrument: library against reference, or reference against naive
+  self-check N --seed S   N sheets on every one, and on two with random limits: reference against naive
   vectors CRATES          stored cases of the gate's programs
-  runs CRATES --seed S    random runs of the stored sheets that are accepted
+  runs CRATES --seed S    random runs of the stored sheets that are accepted, and of random ones
   bench [WORD]            timings of the families, or of those with WORD in their name
   search [--instrument I] N --seed S
                           N tries to find the certificate that takes longest
@@ -110,7 +110,7 @@ fn instrument<'a, 'b>(words: &'b [&'a str]) -> Result<(Instrument, &'b [&'a str]
     match words {
         ["--instrument", word, rest @ ..] => match Instrument::named(word) {
             Some(on) => Ok((on, rest)),
-            None => Err(format!("{word} is no instrument: large or entry")),
+            None => Err(format!("{word} is no instrument: large, entry or four")),
         },
         _ => Ok((LARGE, words)),
     }

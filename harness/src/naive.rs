@@ -31,6 +31,18 @@ pub struct Rule {
 
 type Pairs = [(usize, u32)];
 
+/// How a loader reads the conditions of a primitive that is called by a channel.
+pub struct Exchange {
+    pub pre: fn(&Tree, u8) -> Tree,
+    pub trace: fn(&Tree, u8) -> Tree,
+    pub future: fn(&Tree, u8) -> Tree,
+}
+
+/// As the document has it: the events of channel 0 and of that channel are exchanged in
+/// all three.
+pub const EXCHANGE: Exchange =
+    Exchange { pre: Tree::exchanged, trace: Tree::exchanged, future: Tree::exchanged };
+
 pub fn read(on: &Instrument, bytes: &[u8]) -> Result<Counts, Refusal> {
     reading::read(on, bytes).map(|sheet| sheet.counts())
 }
@@ -40,11 +52,16 @@ pub fn load_entry(bytes: &[u8]) -> Verdict {
 }
 
 pub fn load(on: &Instrument, bytes: &[u8]) -> Verdict {
+    load_by(&EXCHANGE, on, bytes)
+}
+
+/// Loading that reads conditions in another way where they are called by a channel.
+pub fn load_by(exchange: &Exchange, on: &Instrument, bytes: &[u8]) -> Verdict {
     let sheet = match reading::read(on, bytes) {
         Ok(sheet) => sheet,
         Err(refusal) => return Verdict::Refused(refusal),
     };
-    let rules = rules(&sheet);
+    let rules = rules_by(exchange, &sheet);
     let needed = rules.iter().filter(|rule| matches!(rule.ask, Ask::Within(..))).count();
     if needed != sheet.certificates.len() {
         return Verdict::Refused(Refusal::at(10, bytes.len()));
@@ -54,7 +71,7 @@ pub fn load(on: &Instrument, bytes: &[u8]) -> Verdict {
         let fault = match &rule.ask {
             Ask::Empty(tree) if matching::holds_empty(tree) => None,
             Ask::Empty(_) => Some(Fault::of(5, 0)),
-            Ask::Within(left, right) => fault(left, right, certificates.next().unwrap()),
+            Ask::Within(left, right) => fault(on.events, left, right, certificates.next().unwrap()),
         };
         if let Some(fault) = fault {
             return Verdict::Unproved { rule: rule.number, subject: rule.subject, fault };
@@ -65,7 +82,14 @@ pub fn load(on: &Instrument, bytes: &[u8]) -> Verdict {
 }
 
 /// The rules of a sheet, in the order in which they are tested.
+#[cfg(test)]
 pub fn rules(sheet: &Sheet) -> Vec<Rule> {
+    rules_by(&EXCHANGE, sheet)
+}
+
+/// The rules of a sheet, in the order in which they are tested, for a way to read the
+/// conditions of a primitive that is called by a channel.
+pub fn rules_by(exchange: &Exchange, sheet: &Sheet) -> Vec<Rule> {
     let mut list = vec![];
     let mut add = |number, subject, ask| list.push(Rule { number, subject, ask });
     let first = &sheet.methods[0];
@@ -80,7 +104,7 @@ pub fn rules(sheet: &Sheet) -> Vec<Rule> {
         }
     }
     for (subject, step) in sheet.steps.iter().enumerate() {
-        for (number, ask) in step_rules(sheet, step) {
+        for (number, ask) in step_rules(exchange, sheet, step) {
             add(number, subject, ask);
         }
     }
@@ -107,7 +131,7 @@ fn method_rules(sheet: &Sheet, method: &Method) -> Vec<(usize, Ask)> {
     list
 }
 
-fn step_rules(sheet: &Sheet, step: &Step) -> Vec<(usize, Ask)> {
+fn step_rules(exchange: &Exchange, sheet: &Sheet, step: &Step) -> Vec<(usize, Ask)> {
     let p = sheet.points[step.from];
     let tree = |number: usize| sheet.conditions[number].clone();
     let past = |p: Point| tree(p.past);
@@ -127,16 +151,18 @@ fn step_rules(sheet: &Sheet, step: &Step) -> Vec<(usize, Ask)> {
         }
         Act::Call(method) => {
             let called = &sheet.methods[method];
-            let mut list = vec![(10, past(p), tree(called.pre))];
+            let pre = (exchange.pre)(&tree(called.pre), step.channel);
+            let mut list = vec![(10, past(p), pre)];
             for (outcome, first) in [(Outcome::Normal, 11), (Outcome::Failed, 18)] {
                 let Some(q) = target(outcome) else { continue };
                 // Reading has it that a call has as many outcomes as its method.
                 let ending = called.ending(outcome).unwrap();
-                let t = tree(ending.trace);
+                let t = (exchange.trace)(&tree(ending.trace), step.channel);
+                let future = (exchange.future)(&tree(ending.future), step.channel);
                 list.extend([
                     (first, past(p).join(t.clone()), past(q)),
                     (first + 1, own(p).join(t.clone()), own(q)),
-                    (first + 2, due(q), tree(ending.future)),
+                    (first + 2, due(q), future),
                     (first + 3, t.join(due(q)), due(p)),
                 ]);
             }
@@ -155,7 +181,7 @@ fn step_rules(sheet: &Sheet, step: &Step) -> Vec<(usize, Ask)> {
 }
 
 /// The first fault of a certificate, clause by clause.
-fn fault(left: &Tree, right: &Tree, pairs: &Pairs) -> Option<Fault> {
+fn fault(events: u8, left: &Tree, right: &Tree, pairs: &Pairs) -> Option<Fault> {
     if pairs.is_empty() || pairs[0] != (0, 1) {
         return Some(Fault::of(1, 0));
     }
@@ -168,37 +194,30 @@ fn fault(left: &Tree, right: &Tree, pairs: &Pairs) -> Option<Fault> {
         if left.ends(place) && !listed.iter().any(|&k| right.ends(k)) {
             return Some(Fault::of(3, index));
         }
-        if let Some((event, place)) = clause_four(&left, &right, place, &listed, pairs) {
+        let found = (0..events as usize).find_map(|event| {
+            Some((event, clause_four(&left, &right, (place, &listed), event, pairs)?))
+        });
+        if let Some((event, place)) = found {
             return Some(Fault { clause: 4, pair: index, event, place });
         }
     }
     None
 }
 
-/// The first event and follower that no pair is listed for.
+/// The first follower holding an event that no pair is listed for.
 fn clause_four(
     left: &Side,
     right: &Side,
-    place: usize,
-    set: &[usize],
+    (place, set): (usize, &[usize]),
+    event: usize,
     pairs: &Pairs,
-) -> Option<(usize, usize)> {
-    for event in 0..32 {
-        let holders = left.follow(place).iter().filter(|&&l| left.leaf_holds(l, event));
-        let holders: Vec<usize> = holders.copied().collect();
-        if holders.is_empty() {
-            continue;
-        }
-        let stepped = right.step(set, event);
-        for follower in holders {
-            let within =
-                |listed: u32| (0..32).all(|k| listed >> k & 1 == 0 || stepped.contains(&k));
-            if !pairs.iter().any(|&(l, listed)| l == follower && within(listed)) {
-                return Some((event, follower));
-            }
-        }
-    }
-    None
+) -> Option<usize> {
+    let mut holders = left.follow(place).iter().filter(|&&l| left.leaf_holds(l, event)).peekable();
+    holders.peek()?;
+    let stepped = right.step(set, event);
+    let within = |listed: u32| (0..32).all(|k| listed >> k & 1 == 0 || stepped.contains(&k));
+    let served = |follower: usize| pairs.iter().any(|&(l, set)| l == follower && within(set));
+    holders.copied().find(|&follower| !served(follower))
 }
 
 /// The bits of a set.
@@ -218,7 +237,7 @@ pub fn word_test(on: &Instrument, bytes: &[u8], condition: usize, word: &[u8]) -
         return Answer::Refused(Refusal::bare(12));
     }
     for (index, &event) in word.iter().enumerate() {
-        if event > 31 {
+        if event >= on.events {
             return Answer::Refused(Refusal::at(13, index));
         }
     }

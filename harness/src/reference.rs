@@ -2,6 +2,7 @@
 #![forbid(unsafe_code)]
 
 mod clauses;
+mod events;
 mod places;
 mod reading;
 mod rules;
@@ -9,14 +10,15 @@ mod search;
 
 use crate::answer::{Answer, Counts, Doors, Refusal, Verdict};
 use crate::instrument::{Instrument, ENTRY};
-use places::Side;
-use reading::Sheet;
+use events::Events;
+use places::{Condition, Side};
+use reading::{Name, Sheet};
 
 const LONGEST_WORD: usize = 4_096;
 
 pub const DOORS: Doors = Doors { name: "reference", load, load_entry, word_test, read };
 
-/// Reading alone: refusals 1 to 9, 18 to 20, 24 and 25, or the tally.
+/// Reading alone: refusals 1 to 9, 18 to 20 and 24 to 26, or the tally.
 pub fn read(on: &Instrument, sheet: &[u8]) -> Result<Counts, Refusal> {
     Sheet::read(on, sheet).map(|sheet| sheet.counts)
 }
@@ -31,7 +33,11 @@ pub fn load(on: &Instrument, sheet: &[u8]) -> Verdict {
     if sheet.counts.certificates != sheet.certificates_needed() {
         return Verdict::Refused(Refusal::at(10, length));
     }
-    match rules::test(&sheet) {
+    let tested = match few_events(on) {
+        true => rules::test::<u32>(&sheet),
+        false => rules::test::<u64>(&sheet),
+    };
+    match tested {
         Ok(()) => Verdict::Accepted(sheet.count()),
         Err(verdict) => verdict,
     }
@@ -53,14 +59,27 @@ pub fn word_test(on: &Instrument, sheet: &[u8], condition: usize, word: &[u8]) -
     if word.len() > LONGEST_WORD {
         return Answer::Refused(Refusal::bare(12));
     }
-    if let Some(index) = word.iter().position(|&event| event > 31) {
+    if let Some(index) = word.iter().position(|&event| event >= on.events) {
         return Answer::Refused(Refusal::at(13, index));
     }
-    let mut side = Side::new();
-    side.whole(sheet.condition(condition));
-    if side.holds(word) {
-        Answer::Yes
-    } else {
-        Answer::No
+    let condition = sheet.condition(Name::plain(condition));
+    let held = match few_events(on) {
+        true => holds::<u32>(condition, word),
+        false => holds::<u64>(condition, word),
+    };
+    match held {
+        true => Answer::Yes,
+        false => Answer::No,
     }
+}
+
+/// Whether sets of 32 events are enough for an instrument.
+fn few_events(on: &Instrument) -> bool {
+    on.events <= 32
+}
+
+fn holds<E: Events>(condition: Condition, word: &[u8]) -> bool {
+    let mut side = Side::<E>::new();
+    side.whole(condition);
+    side.holds(word)
 }

@@ -1,5 +1,5 @@
 //! Runs of a sheet and what is promised of them: document 01, "Runs", with
-//! demand 3, and document 02, Asks 2, 4, 9 and 12.
+//! demand 3, and document 02, Asks 2, 4, 9, 11 and 12.
 use crate::derivatives::missing_word;
 use crate::naive::{holds, Act, Outcome, Sheet};
 use crate::random::Random;
@@ -149,7 +149,8 @@ impl<'a> Run<'a> {
         let (Some(ending), Some(target)) = (called.ending(outcome), target) else {
             return false;
         };
-        if !holds(&self.sheet.conditions[ending.trace], word) {
+        let trace = &self.sheet.conditions[ending.trace];
+        if !holds(&trace.exchanged(self.sheet.steps[step].channel), word) {
             return false;
         }
         self.begin(method, Some(step));
@@ -166,6 +167,11 @@ impl<'a> Run<'a> {
         active.is_some() && owner.is_some() && active != owner
     }
 
+    /// The channel of a call; 0 if its step has none.
+    pub fn channel(&self, call: &Call) -> u8 {
+        call.step.map_or(0, |step| self.sheet.steps[step].channel)
+    }
+
     /// Whether control is in the activation that made a call, or in one of that
     /// activation's callers.
     pub fn in_caller(&self, call: usize) -> bool {
@@ -180,11 +186,14 @@ impl<'a> Run<'a> {
     }
 }
 
+/// A condition by its number, and the channel by which it is read.
+type Name = (usize, u8);
+
 /// What is known of a sheet's conditions.
 pub struct Languages<'a> {
     sheet: &'a Sheet,
-    held: HashMap<(usize, Vec<u8>), bool>,
-    within: HashMap<(usize, usize, Vec<u8>), Option<Broken>>,
+    held: HashMap<(Name, Vec<u8>), bool>,
+    within: HashMap<(usize, Name, Vec<u8>), Option<Broken>>,
 }
 
 impl<'a> Languages<'a> {
@@ -192,16 +201,17 @@ impl<'a> Languages<'a> {
         Languages { sheet, held: HashMap::new(), within: HashMap::new() }
     }
 
-    fn holds(&mut self, condition: usize, word: &[u8]) -> bool {
-        let tree = &self.sheet.conditions[condition];
-        *self.held.entry((condition, word.to_vec())).or_insert_with(|| holds(tree, word))
+    fn holds(&mut self, name: Name, word: &[u8]) -> bool {
+        let tree = || self.sheet.conditions[name.0].exchanged(name.1);
+        *self.held.entry((name, word.to_vec())).or_insert_with(|| holds(&tree(), word))
     }
 
     /// Whether the events, followed by any word of the due, lie in the future.
-    fn owed(&mut self, due: usize, future: usize, since: &[u8]) -> Option<Broken> {
+    fn owed(&mut self, due: usize, future: Name, since: &[u8]) -> Option<Broken> {
         let conditions = &self.sheet.conditions;
         *self.within.entry((due, future, since.to_vec())).or_insert_with(|| {
-            match missing_word(&conditions[due], &conditions[future], since) {
+            let future = conditions[future.0].exchanged(future.1);
+            match missing_word(&conditions[due], &future, since) {
                 Ok(None) => None,
                 Ok(Some(_)) => Some(Broken::Owed),
                 Err(()) => Some(Broken::Undecided),
@@ -209,24 +219,27 @@ impl<'a> Languages<'a> {
         })
     }
 
-    /// What a call breaks, if anything. One that is still open owes its pre alone.
+    /// What a call breaks, if anything, with its conditions read by the channel of its
+    /// step. One that is still open owes its pre alone.
     fn broken_call(&mut self, run: &Run, number: usize) -> Option<Broken> {
         let call = &run.calls[number];
         let method = &self.sheet.methods[call.method];
-        if !self.holds(method.pre, &run.history[..call.began]) {
+        let channel = run.channel(call);
+        if !self.holds((method.pre, channel), &run.history[..call.began]) {
             return Some(Broken::Pre);
         }
         let (returned, outcome) = call.returned?;
         let ending = method.ending(outcome).unwrap();
         let since = &run.history[returned..];
-        if !self.holds(ending.trace, &run.history[call.began..returned]) {
+        let future = (ending.future, channel);
+        if !self.holds((ending.trace, channel), &run.history[call.began..returned]) {
             return Some(Broken::Trace);
         }
-        if run.ended() && !self.holds(ending.future, since) {
+        if run.ended() && !self.holds(future, since) {
             return Some(Broken::Future);
         }
         if run.in_caller(number) {
-            return self.owed(self.sheet.points[run.point].due, ending.future, since);
+            return self.owed(self.sheet.points[run.point].due, future, since);
         }
         None
     }
@@ -261,7 +274,8 @@ pub fn random_move(run: &Run, random: &mut Random) -> Move {
     let outcome = one_of(&OUTCOMES.into_iter().filter(has).collect::<Vec<_>>(), random);
     let mut word = vec![];
     if let Some(ending) = sheet.methods[method].ending(outcome) {
-        sheet.conditions[ending.trace].word(random, &mut word);
+        let trace = sheet.conditions[ending.trace].exchanged(sheet.steps[step].channel);
+        trace.word(random, &mut word);
     }
     Move::Step(step, outcome, word)
 }

@@ -29,8 +29,8 @@ pub fn search(doors: &Doors, on: &Instrument, tries: usize, seed: u64) {
     let mut best = Best { recipe: known.clone(), sheet: known.of_length(short) };
     for number in 0..tries {
         let fresh = number < tries / 4;
-        let changed = best.recipe.changed(&mut random);
-        best.meet(doors, on, if fresh { Recipe::random(&mut random) } else { changed }, short);
+        let changed = best.recipe.changed(on, &mut random);
+        best.meet(doors, on, if fresh { Recipe::random(on, &mut random) } else { changed }, short);
     }
     println!("at full length");
     best.sheet = vec![];
@@ -38,7 +38,7 @@ pub fn search(doors: &Doors, on: &Instrument, tries: usize, seed: u64) {
         best.meet(doors, on, recipe, on.bytes);
     }
     for _ in 0..tries / RARELY {
-        best.meet(doors, on, best.recipe.changed(&mut random), on.bytes);
+        best.meet(doors, on, best.recipe.changed(on, &mut random), on.bytes);
     }
 }
 

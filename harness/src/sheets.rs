@@ -1,5 +1,6 @@
 //! Seeded sheets and words to try.
 
+mod channels;
 mod draft;
 mod failing;
 mod families;
@@ -13,9 +14,12 @@ mod stray;
 mod words;
 mod worst;
 
-use crate::instrument::{ENTRY, LARGE};
+use crate::instrument::{ENTRY, FOUR};
 use crate::naive;
 use crate::random::Random;
+pub use channels::{by_channel, EXCHANGES};
+#[cfg(test)]
+pub use channels::{draft as by_channels, longer_leaves};
 pub use draft::Draft;
 #[cfg(test)]
 pub use draft::{certificate, Method, Step, MOST_PAIRS};
@@ -23,13 +27,13 @@ pub use draft::{certificate, Method, Step, MOST_PAIRS};
 pub use failing::failing;
 use families::entry_rules;
 pub use families::{
-    changing_word, large_certificate, many_records, many_rules, new_rules, owned_rules,
-    single_word, small_failing, small_honest, small_owned, small_stopping, starred_rules,
-    steady_word,
+    changing_word, channel_rules, four_certificate, large_certificate, many_records, many_rules,
+    new_rules, owned_rules, single_word, small_channels, small_failing, small_honest, small_owned,
+    small_stopping, starred_channel_rules, starred_rules, steady_word, FOUR_WORDS,
 };
 #[cfg(test)]
 pub use honest::spoil;
-pub use hostile::HOSTILE;
+pub use hostile::{doubled, each_of_64, HOSTILE};
 pub use limits::limits;
 #[cfg(test)]
 pub use limits::of_length;
@@ -43,9 +47,13 @@ pub use stray::{least, row};
 pub use words::{words, Test};
 pub use worst::{Recipe, WORST, WORST_ENTRY};
 
-/// One sheet of a random sort; of a third, points have owners.
+/// One sheet of a random sort; a third is of the four-channel instrument, and of a third,
+/// points have owners.
 pub fn sheet(random: &mut Random) -> Vec<u8> {
-    let sheet = any_sort(random);
+    let sheet = match random.below(3) {
+        0 => channels::sheet(random),
+        _ => any_sort(random),
+    };
     match random.below(3) {
         0 => owners::owned(&sheet, random),
         _ => sheet,
@@ -101,6 +109,17 @@ pub fn points(sheet: &[u8]) -> (usize, usize) {
     points.fold((0, 0), |(all, owned), record| (all + 1, owned + (record[0] == 20) as usize))
 }
 
+/// Whether a sheet has a leaf with a set of 8 bytes.
+pub fn has_long_leaf(sheet: &[u8]) -> bool {
+    mutate::split(sheet).iter().any(|record| record[0] == 21)
+}
+
+/// Whether a sheet has a call by a channel that exchanges something, 1 to 3.
+pub fn has_channel(sheet: &[u8]) -> bool {
+    let by_channel = |record: &Vec<u8>| record[0] == 22 && matches!(record.get(7), Some(1..=3));
+    mutate::split(sheet).iter().any(by_channel)
+}
+
 /// What makes a sheet, with its name.
 type Named = (&'static str, fn() -> Vec<u8>);
 
@@ -113,6 +132,6 @@ pub const ENTRY_SHEETS: [Named; 2] = [
 
 /// The pairs of a well formed sheet.
 pub fn pairs(sheet: &[u8]) -> usize {
-    let certificates = naive::read_sheet(&LARGE, sheet).map_or(vec![], |sheet| sheet.certificates);
+    let certificates = naive::read_sheet(&FOUR, sheet).map_or(vec![], |sheet| sheet.certificates);
     certificates.iter().map(Vec::len).sum()
 }

@@ -1,7 +1,7 @@
 //! The stack that one call of a loader uses: the stack below the caller is
 //! painted before the call, and the lowest byte that changed is found after.
 use crate::answer::Doors;
-use crate::instrument::{ENTRY, LARGE};
+use crate::instrument::{Instrument, ENTRY, FOUR, LARGE};
 use crate::sheets;
 use std::hint::black_box;
 use std::thread;
@@ -17,22 +17,35 @@ const PAINT: u8 = 0xA5;
 pub fn stack(all: &[Doors]) {
     println!("| call | loader | bytes of stack |");
     println!("|---|---|---|");
-    let (word_sheet, word) = sheets::steady_word();
     let mut loads = vec![("as many rules as fit", sheets::many_rules())];
     loads.extend(sheets::HOSTILE.map(|(name, make)| (name, make(usize::MAX))));
+    let mut four = vec![("as many calls by channel as fit", sheets::channel_rules())];
+    four.extend(sheets::HOSTILE.map(|(name, make)| (name, sheets::doubled(make))));
+    let [four_word, ..] = sheets::FOUR_WORDS;
     for &doors in all {
-        for (name, sheet) in &loads {
-            let sheet = sheet.clone();
-            row(&format!("load, {name}"), doors.name, move || {
-                black_box((doors.load)(&LARGE, black_box(&sheet)));
-            });
-        }
-        let (sheet, word) = (word_sheet.clone(), word.clone());
-        row("word test, 4,096 events, 31 leaves", doors.name, move || {
-            black_box((doors.word_test)(&LARGE, black_box(&sheet), 1, black_box(&word)));
-        });
+        rows(doors, LARGE, &loads, sheets::steady_word());
         entry(doors);
+        rows(doors, FOUR, &four, four_word());
     }
+}
+
+/// Rows for an instrument: loads of sheets by name, and one word test.
+fn rows(
+    doors: Doors,
+    on: Instrument,
+    loads: &[(&str, Vec<u8>)],
+    (word_sheet, word): (Vec<u8>, Vec<u8>),
+) {
+    let of = if on == LARGE { String::new() } else { format!("{}: ", on.name) };
+    for (name, sheet) in loads {
+        let sheet = sheet.clone();
+        row(&format!("load, {of}{name}"), doors.name, move || {
+            black_box((doors.load)(&on, black_box(&sheet)));
+        });
+    }
+    row(&format!("word test, {of}4,096 events, 31 leaves"), doors.name, move || {
+        black_box((doors.word_test)(&on, black_box(&word_sheet), 1, black_box(&word)));
+    });
 }
 
 /// Rows for the entry instrument: by the function for any instrument, and by its own.

@@ -1,5 +1,6 @@
 //! The starred cases of the document, and more.
 mod certificates;
+mod channels;
 #[cfg(feature = "library")]
 mod doors;
 mod instruments;
@@ -54,11 +55,11 @@ fn tests(sheet: &[u8], condition: usize, word: &[u8], line: &str) {
     tests_on(&LARGE, sheet, condition, word, line);
 }
 
-/// Every loader prints this line on both instruments; reading alone and the word test
+/// Every loader prints this line on every instrument; reading alone and the word test
 /// have the same refusal, if it is one of theirs.
 fn refused(text: &str, line: &str) {
     let sheet = hex(text);
-    for on in instrument::BOTH {
+    for on in instrument::ALL {
         loads_on(&on, &sheet, line);
         if line.starts_with("refused 10") {
             continue;

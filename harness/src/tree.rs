@@ -1,9 +1,12 @@
 //! A condition as a tree.
 use crate::random::Random;
 
+/// The events of channels 0 and 1, which are all events of an instrument of two.
+pub const TWO_CHANNELS: u64 = 0xffff_ffff;
+
 #[derive(Clone, Debug, PartialEq, Eq, Hash, PartialOrd, Ord)]
 pub enum Tree {
-    Leaf(u32),
+    Leaf(u64),
     Empty,
     Join(Box<Tree>, Box<Tree>),
     Either(Box<Tree>, Box<Tree>),
@@ -27,20 +30,30 @@ impl Tree {
         Tree::Leaf(1 << event)
     }
 
-    /// Every word.
+    /// Every word of events 0 to 31.
     pub fn any() -> Tree {
-        Tree::Leaf(u32::MAX).star()
+        Tree::Leaf(TWO_CHANNELS).star()
+    }
+
+    /// The tree with another set for each leaf's.
+    pub fn with_sets(&self, other: &dyn Fn(u64) -> u64) -> Tree {
+        match self {
+            Tree::Leaf(set) => Tree::Leaf(other(*set)),
+            Tree::Empty => Tree::Empty,
+            Tree::Join(a, b) => a.with_sets(other).join(b.with_sets(other)),
+            Tree::Either(a, b) => a.with_sets(other).either(b.with_sets(other)),
+            Tree::Star(a) => a.with_sets(other).star(),
+        }
     }
 
     /// The tree without the events outside a set.
-    pub fn only(self, events: u32) -> Tree {
-        match self {
-            Tree::Leaf(set) => Tree::Leaf(set & events),
-            Tree::Empty => Tree::Empty,
-            Tree::Join(a, b) => a.only(events).join(b.only(events)),
-            Tree::Either(a, b) => a.only(events).either(b.only(events)),
-            Tree::Star(a) => a.only(events).star(),
-        }
+    pub fn only(self, events: u64) -> Tree {
+        self.with_sets(&|set| set & events)
+    }
+
+    /// The tree with the events of channel 0 and those of a channel exchanged.
+    pub fn exchanged(&self, channel: u8) -> Tree {
+        self.with_sets(&|set| with_events(set, |event| exchanged(event, channel)))
     }
 
     pub fn leaves(&self) -> usize {
@@ -65,13 +78,20 @@ impl Tree {
         self.leaves() <= 31 && self.records() <= 96
     }
 
-    /// The records of the tree, without the end record.
+    /// The records of the tree, without the end record. A leaf with an event above 31
+    /// is one of kind 21, any other one of kind 1.
     pub fn write(&self, out: &mut Vec<u8>) {
         match self {
-            Tree::Leaf(set) => {
-                out.push(1);
-                out.extend_from_slice(&set.to_le_bytes());
-            }
+            Tree::Leaf(set) => match u32::try_from(*set) {
+                Ok(set) => {
+                    out.push(1);
+                    out.extend_from_slice(&set.to_le_bytes());
+                }
+                Err(_) => {
+                    out.push(21);
+                    out.extend_from_slice(&set.to_le_bytes());
+                }
+            },
             Tree::Empty => out.push(2),
             Tree::Join(a, b) | Tree::Either(a, b) => {
                 a.write(out);
@@ -103,7 +123,7 @@ impl Tree {
             Tree::Leaf(0) => false,
             Tree::Leaf(set) => {
                 let chosen = random.below(set.count_ones() as usize);
-                out.extend((0..32u8).filter(|e| set >> e & 1 == 1).nth(chosen));
+                out.extend(events(*set).nth(chosen));
                 true
             }
             Tree::Empty => true,
@@ -131,15 +151,38 @@ impl Tree {
     }
 }
 
-/// Mostly sets over a few events, so that conditions meet.
-fn random_set(random: &mut Random) -> u32 {
+/// Mostly sets over a few events, so that conditions meet; none above 31.
+fn random_set(random: &mut Random) -> u64 {
     match random.below(12) {
         0 => 0,
-        1 | 2 => u32::MAX,
-        3 => random.next() as u32,
-        4 => !(1 << random.below(3)),
+        1 | 2 => TWO_CHANNELS,
+        3 => random.next() & TWO_CHANNELS,
+        4 => TWO_CHANNELS & !(1 << random.below(3)),
         5 => 3 | 1 << 31,
-        6 | 7 => random.below(8) as u32,
+        6 | 7 => random.below(8) as u64,
         _ => 1 << random.below(3),
+    }
+}
+
+/// The events of a set, ascending.
+pub fn events(set: u64) -> impl Iterator<Item = u8> {
+    (0..64).filter(move |event| set >> event & 1 == 1)
+}
+
+/// A set with another event for each of its events.
+pub fn with_events(set: u64, other: impl Fn(u8) -> u8) -> u64 {
+    events(set).fold(0, |all, event| all | 1 << other(event))
+}
+
+/// The events of a channel.
+const CHANNEL: u8 = 16;
+
+/// The event for which an event stands in a call by a channel: those of channel 0 and
+/// of that channel are exchanged, the others stay.
+pub fn exchanged(event: u8, channel: u8) -> u8 {
+    match (event / CHANNEL, event % CHANNEL) {
+        (0, place) => CHANNEL * channel + place,
+        (own, place) if own == channel => place,
+        _ => event,
     }
 }

@@ -1,6 +1,6 @@
 //! Stored cases and their expected lines.
 use crate::answer::{Counts, Doors, Refusal};
-use crate::instrument::{Instrument, ENTRY, LARGE};
+use crate::instrument::{Instrument, ENTRY, FOUR, LARGE};
 use crate::sheets::Test;
 use std::fs;
 use std::path::{Path, PathBuf};
@@ -81,19 +81,32 @@ pub enum Kind {
 /// The program of the gate that runs the stored cases.
 const PROGRAM: &str = "stored_cases";
 
+/// The files of the stored sheets of the large and of the four-channel instrument.
+pub const SHEETS: &str = "sheets";
+pub const FOUR_SHEETS: &str = "four_sheets";
+
 /// The files that it reads, in the order of the lines that it prints.
-const FILES: [(&str, Instrument, Kind); 6] = [
+const FILES: [(&str, Instrument, Kind); 9] = [
     ("reading", LARGE, Kind::Reading),
-    ("sheets", LARGE, Kind::Sheets),
+    (SHEETS, LARGE, Kind::Sheets),
     ("words", LARGE, Kind::Words),
     ("entry_reading", ENTRY, Kind::Reading),
     ("entry_sheets", ENTRY, Kind::Sheets),
     ("entry_words", ENTRY, Kind::Words),
+    ("four_reading", FOUR, Kind::Reading),
+    (FOUR_SHEETS, FOUR, Kind::Sheets),
+    ("four_words", FOUR, Kind::Words),
 ];
 
-/// The file of the large instrument's stored sheets, below the folder of crates.
-pub fn sheets_file(crates: &str) -> PathBuf {
-    Path::new(crates).join(PROGRAM).join("data").join("sheets")
+/// The sheets of a file of stored sheets, by its name, below the folder of crates.
+pub fn stored_sheets(crates: &str, name: &str) -> Result<Vec<Vec<u8>>, String> {
+    let path = data(&Path::new(crates).join(PROGRAM), name);
+    let file = fs::read(&path).map_err(|error| explained(&path, error))?;
+    sheets(&file).map_err(|error| explained(&path, error))
+}
+
+fn data(program: &Path, name: &str) -> PathBuf {
+    program.join("data").join(name)
 }
 
 /// The lines of one loader for a file of cases.
@@ -141,7 +154,7 @@ fn run_files(program: &Path, doors: &Doors) -> Result<usize, String> {
     let mut expected = expected.lines();
     let mut differences = 0;
     for (name, on, kind) in &FILES {
-        let path = program.join("data").join(name);
+        let path = data(program, name);
         let file = fs::read(&path).map_err(|error| explained(&path, error))?;
         let found = lines(doors, on, kind, &file).map_err(|error| explained(&path, error))?;
         let wrong = compared(name, doors, &found, expected.by_ref().take(found.len()).collect());

@@ -1,10 +1,10 @@
 //! How often each kind of answer was seen.
 use crate::answer::{Answer, Verdict};
-use crate::instrument::{Instrument, BOTH, ENTRY};
+use crate::instrument::{Instrument, ALL, ENTRY, LARGE};
 use crate::sheets;
 
 /// The numbers of refusals.
-const REFUSALS: [usize; 18] = [1, 2, 3, 4, 5, 6, 7, 8, 9, 10, 12, 13, 14, 18, 19, 20, 24, 25];
+const REFUSALS: [usize; 19] = [1, 2, 3, 4, 5, 6, 7, 8, 9, 10, 12, 13, 14, 18, 19, 20, 24, 25, 26];
 
 /// The answers on one instrument.
 #[derive(Default)]
@@ -16,15 +16,21 @@ struct Answers {
     /// Accepted sheets with owners: for some points, and for all.
     accepted_owned: usize,
     accepted_all_owned: usize,
-    /// Unproved sheets of the new edition, and those with owners.
+    /// Accepted sheets with a leaf of 8 bytes, and with a call by a channel 1 to 3.
+    accepted_long: usize,
+    accepted_channel: usize,
+    /// Unproved sheets of the new edition, those with owners, those with a call by a
+    /// channel 1 to 3, and those with an event 32 to 63 at fault.
     unproved_new: usize,
     unproved_owned: usize,
-    refused: [usize; 26],
+    unproved_channel: usize,
+    unproved_high: usize,
+    refused: [usize; 27],
     /// By rule and clause.
     unproved: [[usize; 6]; 27],
     yes: usize,
     no: usize,
-    word_refused: [usize; 26],
+    word_refused: [usize; 27],
 }
 
 /// Sheets with so many bytes or points, and those of them that each instrument accepts.
@@ -34,10 +40,10 @@ struct Near {
     accepted: [usize; 2],
 }
 
-/// The answers on both instruments, and the sheets around the limits of the smaller.
+/// The answers on each instrument, and the sheets around the limits of the smallest.
 #[derive(Default)]
 pub struct Seen {
-    on: [Answers; 2],
+    on: [Answers; ALL.len()],
     bytes: [Near; 3],
     points: [Near; 3],
 }
@@ -49,7 +55,7 @@ fn around(number: usize, limit: usize) -> Option<usize> {
 
 impl Seen {
     fn answers(&mut self, on: &Instrument) -> Option<&mut Answers> {
-        let which = BOTH.iter().position(|one| one == on)?;
+        let which = ALL.iter().position(|one| one == on)?;
         Some(&mut self.on[which])
     }
 
@@ -65,12 +71,16 @@ impl Seen {
                 seen.accepted_stops += sheets::has_stop(sheet) as usize;
                 seen.accepted_owned += (owned > 0 && owned < points) as usize;
                 seen.accepted_all_owned += (owned == points) as usize;
+                seen.accepted_long += sheets::has_long_leaf(sheet) as usize;
+                seen.accepted_channel += sheets::has_channel(sheet) as usize;
             }
             Verdict::Refused(refusal) => seen.refused[refusal.number] += 1,
             Verdict::Unproved { rule, fault, .. } => {
                 seen.unproved[*rule][fault.clause] += 1;
                 seen.unproved_new += new;
                 seen.unproved_owned += (owned > 0) as usize;
+                seen.unproved_channel += sheets::has_channel(sheet) as usize;
+                seen.unproved_high += (fault.event > 31) as usize;
             }
         }
     }
@@ -85,7 +95,8 @@ impl Seen {
         }
     }
 
-    /// A sheet's bytes and, if it reads well, its points, with both verdicts.
+    /// A sheet's bytes and, if it reads well, its points, with the verdicts on the large
+    /// and the entry instrument.
     pub fn near(&mut self, bytes: usize, points: Option<usize>, verdicts: [&Verdict; 2]) {
         let accepted = verdicts.map(|verdict| matches!(verdict, Verdict::Accepted(_)) as usize);
         let bytes = around(bytes, ENTRY.bytes).map(|which| &mut self.bytes[which]);
@@ -100,14 +111,15 @@ impl Seen {
 
     pub fn print(&self) {
         self.print_answers();
-        println!("\n| unproved | clause 1 | clause 2 | clause 3 | clause 4 | clause 5 |");
-        println!("|---|---|---|---|---|---|");
-        let [large, _] = &self.on;
-        for (rule, clauses) in large.unproved.iter().enumerate().skip(1) {
-            let cells: Vec<String> = clauses[1..].iter().map(usize::to_string).collect();
-            println!("| rule {rule} | {} |", cells.join(" | "));
+        for (on, seen) in ALL.iter().zip(&self.on).filter(|(on, _)| on.points > ENTRY.points) {
+            let clauses: Vec<String> = (1..6).map(|clause| format!("clause {clause}")).collect();
+            println!("\n| unproved on {} | {} |", on.name, clauses.join(" | "));
+            println!("|---|{}", "---|".repeat(clauses.len()));
+            for (rule, clauses) in seen.unproved.iter().enumerate().skip(1) {
+                row(&format!("rule {rule}"), &clauses[1..]);
+            }
         }
-        let [large, entry] = BOTH.map(|on| on.name);
+        let [large, entry] = [LARGE, ENTRY].map(|on| on.name);
         println!("\n| sheets of | all | accepted on {large} | accepted on {entry} |");
         println!("|---|---|---|---|");
         print_near(&self.bytes, ENTRY.bytes, "bytes");
@@ -115,32 +127,53 @@ impl Seen {
     }
 
     fn print_answers(&self) {
-        let [large, entry] = BOTH.map(|on| on.name);
-        println!("| answer | loads, {large} | {entry} | word tests, {large} | {entry} |");
-        println!("|---|---|---|---|---|");
-        let [a, b] = &self.on;
-        println!("| accepted | {} | {} | | |", a.accepted, b.accepted);
-        println!("| accepted, new edition | {} | {} | | |", a.accepted_new, b.accepted_new);
-        println!("| accepted, with a stop | {} | {} | | |", a.accepted_stops, b.accepted_stops);
-        let (some, all) = ("owners of some points", "owners of all points");
-        println!("| accepted, {some} | {} | {} | | |", a.accepted_owned, b.accepted_owned);
-        println!("| accepted, {all} | {} | {} | | |", a.accepted_all_owned, b.accepted_all_owned);
-        println!("| yes | | | {} | {} |", a.yes, b.yes);
-        println!("| no | | | {} | {} |", a.no, b.no);
-        for i in REFUSALS {
-            let loads = format!("{} | {}", a.refused[i], b.refused[i]);
-            println!("| refused {i} | {loads} | {} | {} |", a.word_refused[i], b.word_refused[i]);
+        type Cell = fn(&Answers) -> usize;
+        let rows: [(&str, Cell); 13] = [
+            ("accepted", |seen| seen.accepted),
+            ("accepted, new edition", |seen| seen.accepted_new),
+            ("accepted, with a stop", |seen| seen.accepted_stops),
+            ("accepted, owners of some points", |seen| seen.accepted_owned),
+            ("accepted, owners of all points", |seen| seen.accepted_all_owned),
+            ("accepted, with a leaf of 8 bytes", |seen| seen.accepted_long),
+            ("accepted, with a call by a channel 1 to 3", |seen| seen.accepted_channel),
+            ("unproved", |seen| seen.unproved.iter().flatten().sum()),
+            ("unproved, new edition", |seen| seen.unproved_new),
+            ("unproved, with owners", |seen| seen.unproved_owned),
+            ("unproved, with a call by a channel 1 to 3", |seen| seen.unproved_channel),
+            ("unproved, event 32 to 63", |seen| seen.unproved_high),
+            ("refused", |seen| seen.refused.iter().sum()),
+        ];
+        let names = ALL.map(|on| on.name).join(" | ");
+        println!("| loads | {names} |");
+        println!("|---|{}", "---|".repeat(ALL.len()));
+        for (name, cell) in rows {
+            row(name, &self.on.each_ref().map(cell));
         }
-        let [all, also] = [a, b].map(|seen| seen.unproved.iter().flatten().sum::<usize>());
-        println!("| unproved | {all} | {also} | | |");
-        println!("| unproved, new edition | {} | {} | | |", a.unproved_new, b.unproved_new);
-        println!("| unproved, with owners | {} | {} | | |", a.unproved_owned, b.unproved_owned);
+        for number in REFUSALS.into_iter().filter(|number| !WORDS_ALONE.contains(number)) {
+            row(&format!("refused {number}"), &self.on.each_ref().map(|seen| seen.refused[number]));
+        }
+        println!("\n| word tests | {names} |");
+        println!("|---|{}", "---|".repeat(ALL.len()));
+        row("yes", &self.on.each_ref().map(|seen| seen.yes));
+        row("no", &self.on.each_ref().map(|seen| seen.no));
+        for number in REFUSALS {
+            let cells = self.on.each_ref().map(|seen| seen.word_refused[number]);
+            row(&format!("refused {number}"), &cells);
+        }
     }
+}
+
+/// The refusals of word tests alone.
+const WORDS_ALONE: [usize; 3] = [12, 13, 14];
+
+fn row(name: &str, cells: &[usize]) {
+    let cells: Vec<String> = cells.iter().map(usize::to_string).collect();
+    println!("| {name} | {} |", cells.join(" | "));
 }
 
 fn print_near(rows: &[Near; 3], limit: usize, what: &str) {
     for (which, near) in rows.iter().enumerate() {
         let [large, entry] = near.accepted;
-        println!("| {} {what} | {} | {large} | {entry} |", limit + which - 1, near.sheets);
+        row(&format!("{} {what}", limit + which - 1), &[near.sheets, large, entry]);
     }
 }

@@ -2,7 +2,7 @@
 use crate::tree::Tree;
 
 pub struct Side {
-    sets: Vec<u32>,
+    sets: Vec<u64>,
     follow: Vec<Vec<usize>>,
     ends: Vec<bool>,
 }
@@ -54,7 +54,7 @@ impl Side {
     }
 }
 
-fn leaf_sets(tree: &Tree, sets: &mut Vec<u32>) {
+fn leaf_sets(tree: &Tree, sets: &mut Vec<u64>) {
     match tree {
         Tree::Leaf(set) => sets.push(*set),
         Tree::Empty => {}

@@ -3,11 +3,15 @@ use crate::answer::{Counts, Refusal};
 use crate::instrument::Instrument;
 use crate::tree::Tree;
 
-const BODY_LENGTHS: [usize; 20] = [4, 0, 0, 0, 0, 0, 6, 6, 10, 5, 6, 4, 5, 0, 10, 16, 8, 0, 2, 8];
+const BODY_LENGTHS: [usize; 22] =
+    [4, 0, 0, 0, 0, 0, 6, 6, 10, 5, 6, 4, 5, 0, 10, 16, 8, 0, 2, 8, 8, 7];
 
+/// The records of a condition, and those of them that are leaves.
+const TOKENS: [u8; 6] = [1, 2, 3, 4, 5, 21];
+const LEAVES: [u8; 2] = [1, 21];
 const POINTS: [u8; 2] = [7, 20];
 const METHODS: [u8; 4] = [8, 9, 15, 16];
-const STEPS: [u8; 5] = [10, 11, 12, 17, 19];
+const STEPS: [u8; 6] = [10, 11, 12, 17, 19, 22];
 
 struct Record<'a> {
     offset: usize,
@@ -68,6 +72,9 @@ pub struct Step {
     pub to: Option<usize>,
     /// The failed target of a call of kind 17.
     pub failed: Option<usize>,
+    /// The channel of a call of kind 22; any other step has channel 0, which exchanges
+    /// nothing.
+    pub channel: u8,
     pub act: Act,
 }
 
@@ -131,7 +138,7 @@ pub fn read_without(
         return Err(refusal);
     }
     let last = records.last().map_or(0, |record| record.kind);
-    if (1..=5).contains(&last) || last == 13 {
+    if TOKENS.contains(&last) || last == 13 {
         return Err(Refusal::at(8, bytes.len()));
     }
     if count(&records, &METHODS) == 0 {
@@ -162,30 +169,31 @@ fn split<'a>(on: &Instrument, bytes: &'a [u8]) -> (Vec<Record<'a>>, Option<Refus
     (records, None)
 }
 
-/// Those of 4 to 7, 9, 18 to 20 and 24 that apply to a record, in their order.
+/// Those of 4 to 7, 9, 18 to 20, 24 and 26 that apply to a record, in their order.
 fn refusals<'a>(
     on: &'a Instrument,
     before: &'a [Record],
     record: &'a Record,
 ) -> impl Iterator<Item = usize> + 'a {
     type Test = fn(&Instrument, &[Record], &Record) -> bool;
-    let tests: [(usize, Test); 9] = [
+    let tests: [(usize, Test); 10] = [
         (4, |_, before, record| misplaced(before, record)),
         (19, |_, before, record| record.kind == 18 && !before.is_empty()),
         (20, |_, before, record| record.kind == 19 && !new_edition(before)),
         (5, |_, before, record| malformed(before, record)),
         (6, too_many),
-        (7, |_, before, record| misnamed(before, record)),
+        (7, misnamed),
         (9, |_, before, record| primitive_first(before, record)),
         (18, |_, before, record| other_outcomes(before, record)),
         (24, |_, before, record| other_owners(before, record)),
+        (26, |_, before, record| no_call_by_channel(before, record)),
     ];
     let applies = move |&(_, test): &(usize, Test)| test(on, before, record);
     tests.into_iter().filter(applies).map(|(number, _)| number)
 }
 
 fn section(kind: u8) -> usize {
-    let sections: [&[u8]; 5] = [&[1, 2, 3, 4, 5, 6, 18], &POINTS, &METHODS, &STEPS, &[13, 14]];
+    let sections: [&[u8]; 5] = [&[1, 2, 3, 4, 5, 6, 18, 21], &POINTS, &METHODS, &STEPS, &[13, 14]];
     sections.iter().position(|kinds| kinds.contains(&kind)).unwrap()
 }
 
@@ -199,7 +207,8 @@ fn count(records: &[Record], kinds: &[u8]) -> usize {
 
 /// The records of the condition that is open, if any.
 fn open_condition<'a, 'b>(before: &'b [Record<'a>]) -> &'b [Record<'a>] {
-    let start = before.iter().rposition(|record| record.kind > 5).map_or(0, |i| i + 1);
+    let start =
+        before.iter().rposition(|record| !TOKENS.contains(&record.kind)).map_or(0, |i| i + 1);
     &before[start..]
 }
 
@@ -207,8 +216,9 @@ fn misplaced(before: &[Record], record: &Record) -> bool {
     let Some(last) = before.last() else {
         return false;
     };
-    let open = (1..=5).contains(&last.kind);
-    section(last.kind) > section(record.kind) || (open && record.kind > 6)
+    let open = TOKENS.contains(&last.kind);
+    let goes_on = TOKENS.contains(&record.kind) || record.kind == 6;
+    section(last.kind) > section(record.kind) || (open && !goes_on)
 }
 
 fn malformed(before: &[Record], record: &Record) -> bool {
@@ -216,7 +226,7 @@ fn malformed(before: &[Record], record: &Record) -> bool {
         return false;
     }
     let open = open_condition(before);
-    let items = count(open, &[1, 2]) - count(open, &[3, 4]);
+    let items = count(open, &[1, 2, 21]) - count(open, &[3, 4]);
     match record.kind {
         3 | 4 => items < 2,
         5 => items < 1,
@@ -227,8 +237,8 @@ fn malformed(before: &[Record], record: &Record) -> bool {
 
 fn too_many(on: &Instrument, before: &[Record], record: &Record) -> bool {
     match record.kind {
-        1 if count(open_condition(before), &[1]) + 1 > 31 => true,
-        1..=5 => open_condition(before).len() + 1 > 96,
+        1 | 21 if count(open_condition(before), &LEAVES) + 1 > 31 => true,
+        kind if TOKENS.contains(&kind) => open_condition(before).len() + 1 > 96,
         6 => count(before, &[6]) + 1 > 256,
         kind if POINTS.contains(&kind) => count(before, &POINTS) + 1 > on.points,
         kind if METHODS.contains(&kind) => count(before, &METHODS) + 1 > 64,
@@ -241,7 +251,7 @@ fn name(body: &[u8], index: usize) -> usize {
     body[2 * index] as usize + 256 * body[2 * index + 1] as usize
 }
 
-fn misnamed(before: &[Record], record: &Record) -> bool {
+fn misnamed(on: &Instrument, before: &[Record], record: &Record) -> bool {
     let body = record.body;
     let any = |indices: &[usize], kinds: &[u8]| {
         let bound = count(before, kinds);
@@ -250,8 +260,8 @@ fn misnamed(before: &[Record], record: &Record) -> bool {
     match record.kind {
         7 | 8 | 20 => any(&[0, 1, 2], &[6]),
         9 => any(&[0, 1, 2], &[6]) || any(&[3, 4], &POINTS),
-        10 => any(&[0, 1], &POINTS) || body[4] > 31,
-        11 => any(&[0, 1], &POINTS) || any(&[2], &METHODS),
+        10 => any(&[0, 1], &POINTS) || body[4] >= on.events,
+        11 | 22 => any(&[0, 1], &POINTS) || any(&[2], &METHODS),
         12 => any(&[0, 1], &POINTS),
         19 => any(&[0], &POINTS),
         15 => any(&[0, 1, 2, 3, 4], &[6]),
@@ -273,8 +283,23 @@ fn other_outcomes(before: &[Record], record: &Record) -> bool {
         17 => (name(record.body, 3), [8, 9]),
         _ => return false,
     };
+    method_kind(before, method).is_some_and(|kind| others.contains(&kind))
+}
+
+/// The kind of a method, by its number.
+fn method_kind(before: &[Record], method: usize) -> Option<u8> {
     let mut methods = before.iter().filter(|record| METHODS.contains(&record.kind));
-    methods.nth(method).is_some_and(|named| others.contains(&named.kind))
+    methods.nth(method).map(|named| named.kind)
+}
+
+/// A call of kind 22 names a method with body (kinds 9 and 16), a two-outcome method
+/// (kinds 15 and 16) or a channel above 3.
+fn no_call_by_channel(before: &[Record], record: &Record) -> bool {
+    if record.kind != 22 {
+        return false;
+    }
+    let method = method_kind(before, name(record.body, 2));
+    method.is_some_and(|kind| [9, 15, 16].contains(&kind)) || record.body[6] > 3
 }
 
 /// The owner of a point, by its number, if it has one.
@@ -300,7 +325,7 @@ fn other_owners(before: &[Record], record: &Record) -> bool {
     match record.kind {
         9 => others(&[3, 4]),
         16 => others(&[3, 4, 7]),
-        10..=12 => differ(&[0, 1]),
+        10..=12 | 22 => differ(&[0, 1]),
         17 => differ(&[0, 1, 2]),
         _ => false,
     }
@@ -319,7 +344,7 @@ fn build(records: &[Record]) -> Sheet {
     for record in records {
         let body = record.body;
         match record.kind {
-            1..=5 => token(record, &mut items),
+            kind if TOKENS.contains(&kind) => token(record, &mut items),
             6 => sheet.conditions.push(items.pop().unwrap()),
             7 | 20 => {
                 let (past, own, due) = (name(body, 0), name(body, 1), name(body, 2));
@@ -327,7 +352,7 @@ fn build(records: &[Record]) -> Sheet {
                 sheet.points.push(Point { past, own, due, owner });
             }
             8 | 9 | 15 | 16 => sheet.methods.push(method(record)),
-            10 | 11 | 12 | 17 | 19 => sheet.steps.push(step(record)),
+            kind if STEPS.contains(&kind) => sheet.steps.push(step(record)),
             13 => {
                 let set = [body[1], body[2], body[3], body[4]];
                 pairs.push((body[0] as usize, u32::from_le_bytes(set)));
@@ -341,7 +366,9 @@ fn build(records: &[Record]) -> Sheet {
 
 fn token(record: &Record, items: &mut Vec<Tree>) {
     let tree = match record.kind {
-        1 => Tree::Leaf(name(record.body, 0) as u32 + 65_536 * name(record.body, 1) as u32),
+        1 | 21 => {
+            Tree::Leaf(record.body.iter().rev().fold(0, |set, &byte| 256 * set + byte as u64))
+        }
         2 => Tree::Empty,
         5 => items.pop().unwrap().star(),
         kind => {
@@ -377,12 +404,13 @@ fn step(record: &Record) -> Step {
     let body = record.body;
     let act = match record.kind {
         10 => Act::Event(body[4]),
-        11 => Act::Call(name(body, 2)),
+        11 | 22 => Act::Call(name(body, 2)),
         17 => Act::Call(name(body, 3)),
         12 => Act::Pass,
         _ => Act::Stop,
     };
     let to = (record.kind != 19).then(|| name(body, 1));
     let failed = (record.kind == 17).then(|| name(body, 2));
-    Step { from: name(body, 0), to, failed, act }
+    let channel = if record.kind == 22 { body[6] } else { 0 };
+    Step { from: name(body, 0), to, failed, channel, act }
 }

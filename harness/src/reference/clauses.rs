@@ -1,4 +1,5 @@
 //! Clauses 1 to 4 of one certificate.
+use super::events::Events;
 use super::places::{members, Side};
 use super::search::Search;
 use crate::answer::Fault;
@@ -11,19 +12,24 @@ const FEW: usize = 64;
 
 /// A pair, with the events that every place of its set holds.
 #[derive(Clone, Copy)]
-pub struct Pair {
+pub struct Pair<E> {
     pub place: u8,
     pub set: u32,
-    pub shared: u32,
+    pub shared: E,
 }
 
 /// Reads the certificate at an offset; returns the offset after it.
-pub fn read(bytes: &[u8], mut at: usize, right: &Side, pairs: &mut Vec<Pair>) -> usize {
+pub fn read<E: Events>(
+    bytes: &[u8],
+    mut at: usize,
+    right: &Side<E>,
+    pairs: &mut Vec<Pair<E>>,
+) -> usize {
     pairs.clear();
     while bytes[at] == 13 {
         let set = [bytes[at + 2], bytes[at + 3], bytes[at + 4], bytes[at + 5]];
         let set = u32::from_le_bytes(set);
-        let shared = members(set as u64).fold(u32::MAX, |all, k| all & right.sets[k]);
+        let shared = members(set as u64).fold(E::ALL, |all, k| all & right.sets[k]);
         pairs.push(Pair { place: bytes[at + 1].min(NOWHERE), set, shared });
         at += 6;
     }
@@ -31,7 +37,7 @@ pub fn read(bytes: &[u8], mut at: usize, right: &Side, pairs: &mut Vec<Pair>) ->
 }
 
 /// The first fault of a certificate for left in right.
-pub fn check(left: &Side, right: &Side, pairs: &[Pair]) -> Result<(), Fault> {
+pub fn check<E: Events>(left: &Side<E>, right: &Side<E>, pairs: &[Pair<E>]) -> Result<(), Fault> {
     if pairs.len() <= FEW {
         return check_by(left, right, pairs, |follow, union| unserved(left, follow, union, pairs));
     }
@@ -40,10 +46,10 @@ pub fn check(left: &Side, right: &Side, pairs: &[Pair]) -> Result<(), Fault> {
 }
 
 /// The same with a search for clause 4.
-fn check_by(
-    left: &Side,
-    right: &Side,
-    pairs: &[Pair],
+fn check_by<E: Events>(
+    left: &Side<E>,
+    right: &Side<E>,
+    pairs: &[Pair<E>],
     mut unserved: impl FnMut(u64, u32) -> Option<(usize, usize)>,
 ) -> Result<(), Fault> {
     match pairs.first() {
@@ -75,21 +81,26 @@ fn check_by(
 /// Clause 4 of a pair, given the followers of its place and of its set. A
 /// listed set serves an event if it lies within the followers of the pair's
 /// set and each of its places holds the event.
-fn unserved(left: &Side, follow: u64, union: u32, pairs: &[Pair]) -> Option<(usize, usize)> {
-    let mut missing = [0u32; 64];
+fn unserved<E: Events>(
+    left: &Side<E>,
+    follow: u64,
+    union: u32,
+    pairs: &[Pair<E>],
+) -> Option<(usize, usize)> {
+    let mut missing = [E::NONE; 64];
     let mut open = 0;
     for place in members(follow) {
         missing[place] = left.sets[place];
-        open += (left.sets[place] != 0) as usize;
+        open += (left.sets[place] != E::NONE) as usize;
     }
     if open == 0 {
         return None;
     }
     for pair in pairs {
         let wanted = &mut missing[(pair.place & 63) as usize];
-        if *wanted & pair.shared != 0 && pair.set & !union == 0 {
+        if *wanted & pair.shared != E::NONE && pair.set & !union == 0 {
             *wanted &= !pair.shared;
-            if *wanted == 0 {
+            if *wanted == E::NONE {
                 open -= 1;
                 if open == 0 {
                     return None;
@@ -97,6 +108,6 @@ fn unserved(left: &Side, follow: u64, union: u32, pairs: &[Pair]) -> Option<(usi
             }
         }
     }
-    let first = |place: usize| (missing[place].trailing_zeros() as usize, place);
+    let first = |place: usize| (missing[place].first(), place);
     members(follow).map(first).min()
 }

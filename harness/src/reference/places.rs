@@ -1,5 +1,8 @@
 //! The places of a side and what follows what, as bit sets.
 
+use super::events::Events;
+use super::reading::LONG_LEAF;
+
 /// A side has at most 62 leaves and place 0.
 const MOST: usize = 64;
 /// A condition has at most 96 items waiting.
@@ -15,12 +18,19 @@ struct Item {
 
 const EMPTY: Item = Item { empty: true, first: 0, last: 0 };
 
+/// A condition's records without its end record, and the channel by which it is read.
+#[derive(Clone, Copy)]
+pub struct Condition<'a> {
+    pub records: &'a [u8],
+    pub channel: u8,
+}
+
 /// A side's places; made once and filled again for each rule.
-pub struct Side {
+pub struct Side<E> {
     /// Places, place 0 among them.
     pub places: usize,
     /// The set of each leaf.
-    pub sets: [u32; MOST],
+    pub sets: [E; MOST],
     /// The followers of each place.
     pub follow: [u64; MOST],
     /// The places that end a word.
@@ -40,20 +50,21 @@ pub fn members(mut set: u64) -> impl Iterator<Item = usize> {
     })
 }
 
-impl Side {
-    pub fn new() -> Side {
-        Side { places: 1, sets: [0; MOST], follow: [0; MOST], ends: 0, stack: [EMPTY; DEEPEST] }
+impl<E: Events> Side<E> {
+    pub fn new() -> Side<E> {
+        let (sets, follow, stack) = ([E::NONE; MOST], [0; MOST], [EMPTY; DEEPEST]);
+        Side { places: 1, sets, follow, ends: 0, stack }
     }
 
     /// The side is one condition.
-    pub fn whole(&mut self, condition: &[u8]) {
+    pub fn whole(&mut self, condition: Condition) {
         self.places = 1;
         let item = self.condition(condition);
         self.close(item);
     }
 
     /// The side is two conditions joined.
-    pub fn joined(&mut self, one: &[u8], two: &[u8]) {
+    pub fn joined(&mut self, one: Condition, two: Condition) {
         self.places = 1;
         let a = self.condition(one);
         let b = self.condition(two);
@@ -62,18 +73,18 @@ impl Side {
     }
 
     /// The side is a condition, then one event.
-    pub fn before(&mut self, condition: &[u8], event: u8) {
+    pub fn before(&mut self, condition: Condition, event: u8) {
         self.places = 1;
         let a = self.condition(condition);
-        let b = self.leaf(1 << event);
+        let b = self.leaf(E::one(event as usize));
         let item = self.join(a, b);
         self.close(item);
     }
 
     /// The side is one event, then a condition.
-    pub fn after(&mut self, event: u8, condition: &[u8]) {
+    pub fn after(&mut self, event: u8, condition: Condition) {
         self.places = 1;
-        let a = self.leaf(1 << event);
+        let a = self.leaf(E::one(event as usize));
         let b = self.condition(condition);
         let item = self.join(a, b);
         self.close(item);
@@ -84,8 +95,21 @@ impl Side {
         self.ends = item.last | item.empty as u64;
     }
 
-    /// Adds the leaves of a condition in postfix order.
-    fn condition(&mut self, bytes: &[u8]) -> Item {
+    /// Adds the leaves of a condition.
+    #[inline(always)]
+    fn condition(&mut self, Condition { records, channel }: Condition) -> Item {
+        let start = self.places;
+        let item = self.records(records);
+        if E::MORE && channel > 0 {
+            for set in &mut self.sets[start..self.places] {
+                *set = set.exchanged(channel);
+            }
+        }
+        item
+    }
+
+    /// Adds leaves in postfix order.
+    fn records(&mut self, bytes: &[u8]) -> Item {
         let mut depth = 0;
         let mut at = 0;
         while at < bytes.len() {
@@ -95,7 +119,13 @@ impl Side {
                 1 => {
                     let set = [bytes[at], bytes[at + 1], bytes[at + 2], bytes[at + 3]];
                     at += 4;
-                    self.leaf(u32::from_le_bytes(set))
+                    self.leaf(E::from(u32::from_le_bytes(set)))
+                }
+                LONG_LEAF if E::MORE => {
+                    let mut set = [0; 8];
+                    set.copy_from_slice(&bytes[at..at + 8]);
+                    at += 8;
+                    self.leaf(E::of_bytes(set))
                 }
                 2 => EMPTY,
                 3 | 4 => {
@@ -118,7 +148,7 @@ impl Side {
         self.stack[0]
     }
 
-    fn leaf(&mut self, set: u32) -> Item {
+    fn leaf(&mut self, set: E) -> Item {
         let place = self.places;
         self.places += 1;
         self.sets[place] = set;
@@ -152,22 +182,22 @@ impl Side {
     }
 
     /// The places that hold each event.
-    pub fn holding(&self) -> [u64; 32] {
-        let mut holding = [0; 32];
+    pub fn holding(&self) -> [u64; 64] {
+        let mut holding = [0; 64];
         for place in 1..self.places {
-            for event in members(self.sets[place] as u64) {
+            for event in members(self.sets[place].into()) {
                 holding[event] |= 1 << place;
             }
         }
         holding
     }
 
-    /// Whether the side holds a word of events 0 to 31.
+    /// Whether the side holds a word of events 0 to 63.
     pub fn holds(&self, word: &[u8]) -> bool {
         let holding = self.holding();
         let mut set = 1;
         for &event in word {
-            set = self.followers(set) & holding[event as usize & 31];
+            set = self.followers(set) & holding[event as usize & 63];
             if set == 0 {
                 return false;
             }
@@ -181,7 +211,7 @@ fn either(a: Item, b: Item) -> Item {
 }
 
 /// Whether a condition holds the empty word; one bit for each waiting item.
-pub fn holds_empty(bytes: &[u8]) -> bool {
+pub fn holds_empty<E: Events>(bytes: &[u8]) -> bool {
     let mut stack = 0u128;
     let mut at = 0;
     while at < bytes.len() {
@@ -189,6 +219,10 @@ pub fn holds_empty(bytes: &[u8]) -> bool {
             1 => {
                 stack <<= 1;
                 at += 4;
+            }
+            LONG_LEAF if E::MORE => {
+                stack <<= 1;
+                at += 8;
             }
             2 => stack = stack << 1 | 1,
             3 => stack = stack >> 2 << 1 | (stack & stack >> 1 & 1),

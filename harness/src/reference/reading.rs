@@ -1,6 +1,7 @@
-//! Reading a sheet: refusals 1 to 9, 18 to 20, 24 and 25, and where its parts are.
+//! Reading a sheet: refusals 1 to 9, 18 to 20 and 24 to 26, and where its parts are.
+use super::places::Condition;
 use crate::answer::{Counts, Refusal};
-use crate::instrument::{Instrument, KINDS};
+use crate::instrument::{Instrument, EVENTS, KINDS};
 
 const CONDITIONS: usize = 256;
 const RECORDS: usize = 96;
@@ -10,12 +11,21 @@ const STEPS: usize = 512;
 
 /// The most points with which the last method starts below 65,536, whatever the bytes:
 /// the edition's byte, 256 conditions of 221 bytes at most, 63 methods of 17 and 876
-/// points of 9.
+/// points of 9. With leaves of 9 bytes a condition is longer, and the bytes are limited.
 const MOST_POINTS: usize = 876;
+const MOST_BYTES: usize = 65_536;
+
+/// The kinds of a leaf with a set of 8 bytes and of a call of a primitive by a channel,
+/// and the number of channels.
+pub const LONG_LEAF: u8 = 21;
+const CALL_BY_CHANNEL: u8 = 22;
+const CHANNELS: u8 = 4;
 
 /// By kind, with a row for every byte, so that no index is tested.
-const BODY: [u8; 256] = rows([0, 4, 0, 0, 0, 0, 0, 6, 6, 10, 5, 6, 4, 5, 0, 10, 16, 8, 0, 2, 8]);
-const SECTION: [u8; 256] = rows([0, 1, 1, 1, 1, 1, 1, 2, 3, 3, 4, 4, 4, 5, 5, 3, 3, 4, 1, 4, 2]);
+const BODY: [u8; 256] =
+    rows([0, 4, 0, 0, 0, 0, 0, 6, 6, 10, 5, 6, 4, 5, 0, 10, 16, 8, 0, 2, 8, 8, 7]);
+const SECTION: [u8; 256] =
+    rows([0, 1, 1, 1, 1, 1, 1, 2, 3, 3, 4, 4, 4, 5, 5, 3, 3, 4, 1, 4, 2, 1, 4]);
 
 /// A point's record without an owner, and with one, which follows the three names.
 const POINT_LENGTH: usize = 7;
@@ -39,7 +49,7 @@ struct Number {
     two: usize,
 }
 
-/// A sheet that none of 1 to 9, 18 to 20, 24 and 25 applies to.
+/// A sheet that none of 1 to 9, 18 to 20 and 24 to 26 applies to.
 pub struct Sheet<'a> {
     pub bytes: &'a [u8],
     pub counts: Counts,
@@ -62,23 +72,37 @@ pub struct Sheet<'a> {
     steps_at: [u16; STEPS],
 }
 
+/// A condition by its number, and the channel by which it is read: that of a call for
+/// the conditions of the primitive, and 0, which exchanges nothing, for all others.
+#[derive(Clone, Copy)]
+pub struct Name {
+    pub number: u16,
+    pub channel: u8,
+}
+
+impl Name {
+    pub fn plain(number: usize) -> Name {
+        Name { number: number as u16, channel: 0 }
+    }
+}
+
 #[derive(Clone, Copy)]
 pub struct Point {
-    pub past: usize,
-    pub own: usize,
-    pub due: usize,
+    pub past: Name,
+    pub own: Name,
+    pub due: Name,
 }
 
 /// The conditions of one outcome of a method.
 #[derive(Clone, Copy)]
 pub struct Outcome {
-    pub trace: usize,
-    pub future: usize,
+    pub trace: Name,
+    pub future: Name,
 }
 
 /// A method with body: its entry, and each outcome with the exit that leads to it.
 pub struct Body {
-    pub pre: usize,
+    pub pre: Name,
     pub entry: usize,
     pub normal: (Outcome, usize),
     pub failed: Option<(Outcome, usize)>,
@@ -87,7 +111,7 @@ pub struct Body {
 /// A call step: its method's pre, and each outcome with the target that it leads to. In
 /// a sheet of the new edition it has the entry too, if the method has a body.
 pub struct Call {
-    pub pre: usize,
+    pub pre: Name,
     pub entry: Option<usize>,
     pub normal: (Outcome, usize),
     pub failed: Option<(Outcome, usize)>,
@@ -108,11 +132,12 @@ pub struct Step {
 
 impl<'a> Sheet<'a> {
     pub fn read(on: &Instrument, bytes: &'a [u8]) -> Result<Sheet<'a>, Refusal> {
-        assert!(on.points <= MOST_POINTS && on.kinds <= KINDS);
+        assert!(on.points <= MOST_POINTS && on.kinds <= KINDS && on.events <= EVENTS);
+        assert!(on.kinds < LONG_LEAF || (on.bytes <= MOST_BYTES && on.events == EVENTS));
         if bytes.len() > on.bytes {
             return Err(Refusal::at(1, on.bytes));
         }
-        let mut reader = Reader::new(on.points, bytes);
+        let mut reader = Reader::new(on, bytes);
         let mut at = 0;
         while at < bytes.len() {
             let kind = bytes[at];
@@ -135,22 +160,30 @@ impl<'a> Sheet<'a> {
         u16::from_le_bytes([self.bytes[at], self.bytes[at + 1]]) as usize
     }
 
-    /// The records of a condition, without its end record.
-    pub fn condition(&self, number: usize) -> &'a [u8] {
+    /// The records of a condition, without its end record, to be read by a channel.
+    #[inline(always)]
+    pub fn condition(&self, Name { number, channel }: Name) -> Condition<'a> {
+        let number = number as usize;
         let end = self.condition_ends[number] as usize;
         let start = match number {
             0 => self.new_edition as usize,
             _ => self.condition_ends[number - 1] as usize + 1,
         };
-        &self.bytes[start..end]
+        Condition { records: &self.bytes[start..end], channel }
     }
 
+    fn condition_name(&self, at: usize, channel: u8) -> Name {
+        Name { number: self.name(at) as u16, channel }
+    }
+
+    #[inline(always)]
     pub fn point(&self, number: usize) -> Point {
         let at = 1 + match self.owned_at.get(number) {
             Some(&at) => at as usize,
             None => self.points_at + POINT_LENGTH * (number - self.owned_at.len()),
         };
-        Point { past: self.name(at), own: self.name(at + 2), due: self.name(at + 4) }
+        let [past, own, due] = [at, at + 2, at + 4].map(|at| self.condition_name(at, 0));
+        Point { past, own, due }
     }
 
     /// The owner of the point that is at an offset, if it has one.
@@ -160,8 +193,9 @@ impl<'a> Sheet<'a> {
     }
 
     /// The conditions of an outcome, which stand side by side.
-    fn outcome(&self, at: usize) -> Outcome {
-        Outcome { trace: self.name(at), future: self.name(at + 2) }
+    fn outcome(&self, at: usize, channel: u8) -> Outcome {
+        let [trace, future] = [at, at + 2].map(|at| self.condition_name(at, channel));
+        Outcome { trace, future }
     }
 
     /// A method, if it has a body.
@@ -172,10 +206,10 @@ impl<'a> Sheet<'a> {
             return None;
         }
         Some(Body {
-            pre: self.name(at + 1),
+            pre: self.condition_name(at + 1, 0),
             entry: self.name(at + 7),
-            normal: (self.outcome(at + 3), self.name(at + 9)),
-            failed: (kind == 16).then(|| (self.outcome(at + 11), self.name(at + 15))),
+            normal: (self.outcome(at + 3, 0), self.name(at + 9)),
+            failed: (kind == 16).then(|| (self.outcome(at + 11, 0), self.name(at + 15))),
         })
     }
 
@@ -185,24 +219,28 @@ impl<'a> Sheet<'a> {
         let act = match self.bytes[at] {
             10 => Act::Event(self.bytes[at + 5], to()),
             12 => Act::Pass(to()),
-            11 => Act::Call(self.call(self.name(at + 5), to(), None)),
-            17 => Act::Call(self.call(self.name(at + 7), to(), Some(self.name(at + 5)))),
+            11 => Act::Call(self.call(self.name(at + 5), to(), None, 0)),
+            17 => Act::Call(self.call(self.name(at + 7), to(), Some(self.name(at + 5)), 0)),
+            CALL_BY_CHANNEL => {
+                Act::Call(self.call(self.name(at + 5), to(), None, self.bytes[at + 7]))
+            }
             _ => Act::Stop,
         };
         Step { from: self.name(at + 1), act }
     }
 
-    /// A call of a method, with its target and, if it has one, its failed target.
-    fn call(&self, method: usize, to: usize, failed: Option<usize>) -> Call {
+    /// A call of a method by a channel, with its target and, if it has one, its failed
+    /// target.
+    fn call(&self, method: usize, to: usize, failed: Option<usize>, channel: u8) -> Call {
         let at = self.methods_at[method] as usize;
         // The failed conditions follow a future, or an exit.
         let failing = if self.bytes[at] == 15 { at + 7 } else { at + 11 };
         let enters = self.new_edition && has_body(self.bytes[at]);
         Call {
-            pre: self.name(at + 1),
+            pre: self.condition_name(at + 1, channel),
             entry: enters.then(|| self.name(at + 7)),
-            normal: (self.outcome(at + 3), to),
-            failed: failed.map(|target| (self.outcome(failing), target)),
+            normal: (self.outcome(at + 3, channel), to),
+            failed: failed.map(|target| (self.outcome(failing, channel), target)),
         }
     }
 
@@ -231,8 +269,9 @@ fn has_body(kind: u8) -> bool {
 /// What is known after the records read so far.
 struct Reader<'a> {
     sheet: Sheet<'a>,
-    /// The most points.
+    /// The most points, and the number of events.
     points: usize,
+    events: u8,
     /// One more than the highest owner; 0 if there is none.
     owners: usize,
     section: u8,
@@ -244,7 +283,7 @@ struct Reader<'a> {
 }
 
 impl<'a> Reader<'a> {
-    fn new(points: usize, bytes: &'a [u8]) -> Reader<'a> {
+    fn new(on: &Instrument, bytes: &'a [u8]) -> Reader<'a> {
         let sheet = Sheet {
             bytes,
             counts: Counts::default(),
@@ -263,7 +302,8 @@ impl<'a> Reader<'a> {
         };
         Reader {
             sheet,
-            points,
+            points: on.points,
+            events: on.events,
             owners: 0,
             section: 0,
             records: 0,
@@ -279,7 +319,7 @@ impl<'a> Reader<'a> {
     fn record(&mut self, kind: u8, at: usize) -> Result<(), usize> {
         let section = SECTION[kind as usize];
         if section < self.section || (self.records > 0 && kind > 6) {
-            return Err(4);
+            return self.out_of_place(kind);
         }
         if section == 5 && self.section < 5 {
             self.sheet.certificates_at = at;
@@ -303,14 +343,34 @@ impl<'a> Reader<'a> {
         }
     }
 
-    /// A step, a point with an owner, or the edition.
+    /// A record of an earlier section, or one of a kind above 6 in an open condition: 4,
+    /// unless it is a leaf in an open condition.
+    #[inline(never)]
+    fn out_of_place(&mut self, kind: u8) -> Result<(), usize> {
+        match kind == LONG_LEAF && self.records > 0 {
+            true => self.token(kind),
+            false => Err(4),
+        }
+    }
+
+    /// A step, a point with an owner, the edition, or a record of the four-channel
+    /// instrument alone.
     #[inline(never)]
     fn other(&mut self, kind: u8, at: usize) -> Result<(), usize> {
         match kind {
             18 => self.edition(at),
             19 => self.stop(at),
             20 => self.owned_point(at),
-            _ => self.step(kind, at),
+            _ if kind < LONG_LEAF => self.step(kind, at),
+            _ => self.of_four_channels(kind, at),
+        }
+    }
+
+    #[inline(never)]
+    fn of_four_channels(&mut self, kind: u8, at: usize) -> Result<(), usize> {
+        match kind {
+            LONG_LEAF => self.token(kind),
+            _ => self.call_by_channel(at),
         }
     }
 
@@ -322,6 +382,7 @@ impl<'a> Reader<'a> {
         Ok(())
     }
 
+    #[inline(always)]
     fn token(&mut self, kind: u8) -> Result<(), usize> {
         let needed = match kind {
             3 | 4 => 2,
@@ -331,7 +392,7 @@ impl<'a> Reader<'a> {
         if self.items < needed {
             return Err(5);
         }
-        let leaf = kind == 1;
+        let leaf = kind == 1 || kind == LONG_LEAF;
         if self.records == RECORDS || (leaf && self.leaves == LEAVES) {
             return Err(6);
         }
@@ -445,7 +506,7 @@ impl<'a> Reader<'a> {
             return Err(6);
         }
         self.names(at + 1, 2, self.sheet.counts.points)?;
-        if kind == 10 && self.sheet.bytes[at + 5] > 31 {
+        if kind == 10 && self.sheet.bytes[at + 5] >= self.events {
             return Err(7);
         }
         match kind {
@@ -497,6 +558,26 @@ impl<'a> Reader<'a> {
         self.sheet.calls.all += 1;
         self.sheet.calls.two += two as usize;
         self.sheet.entering += (self.sheet.new_edition && has_body(kind)) as usize;
+        Ok(())
+    }
+
+    /// A call by a channel; 26 if its method is no primitive of one outcome, or there is
+    /// no such channel.
+    fn call_by_channel(&mut self, at: usize) -> Result<(), usize> {
+        if self.sheet.counts.steps == STEPS {
+            return Err(6);
+        }
+        self.names(at + 1, 2, self.sheet.counts.points)?;
+        self.names(at + 5, 1, self.sheet.counts.methods)?;
+        if self.owners > 0 {
+            self.agree(None, at + 1, 2)?;
+        }
+        let method = self.sheet.methods_at[self.sheet.name(at + 5)] as usize;
+        if self.sheet.bytes[method] != 8 || self.sheet.bytes[at + 7] >= CHANNELS {
+            return Err(26);
+        }
+        self.sheet.calls.all += 1;
+        self.add_step(at);
         Ok(())
     }
 

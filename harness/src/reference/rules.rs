@@ -1,7 +1,8 @@
 //! The rules, in order.
 use super::clauses::{self, Pair};
+use super::events::Events;
 use super::places::{holds_empty, Side};
-use super::reading::{Act, Outcome, Point, Sheet};
+use super::reading::{Act, Name, Outcome, Point, Sheet};
 use crate::answer::{Fault, Verdict};
 
 /// Of each outcome, the numbers of the rules of an exit, and of a call's target.
@@ -10,27 +11,27 @@ const FAILED_EXIT: [usize; 2] = [22, 23];
 const TARGET: [usize; 4] = [11, 12, 13, 14];
 const FAILED_TARGET: [usize; 4] = [18, 19, 20, 21];
 
-/// A left side, by the numbers of its conditions.
+/// A left side, by the names of its conditions.
 enum Left {
-    Whole(usize),
-    Joined(usize, usize),
-    Before(usize, u8),
-    After(u8, usize),
+    Whole(Name),
+    Joined(Name, Name),
+    Before(Name, u8),
+    After(u8, Name),
 }
 
-struct Tester<'a> {
+struct Tester<'a, E> {
     sheet: &'a Sheet<'a>,
     /// Where the next certificate starts.
     at: usize,
-    left: Side,
-    right: Side,
-    pairs: Vec<Pair>,
+    left: Side<E>,
+    right: Side<E>,
+    pairs: Vec<Pair<E>>,
 }
 
 /// Tests every rule; an error is the first unproved one.
-pub fn test(sheet: &Sheet) -> Result<(), Verdict> {
+pub fn test<E: Events>(sheet: &Sheet) -> Result<(), Verdict> {
     let room = (sheet.bytes.len() - sheet.certificates_at) / 6;
-    let mut tester = Tester {
+    let mut tester: Tester<E> = Tester {
         sheet,
         at: sheet.certificates_at,
         left: Side::new(),
@@ -50,7 +51,7 @@ pub fn test(sheet: &Sheet) -> Result<(), Verdict> {
     Ok(())
 }
 
-impl Tester<'_> {
+impl<E: Events> Tester<'_, E> {
     fn method(&mut self, number: usize) -> Result<(), Verdict> {
         let Some(body) = self.sheet.body(number) else {
             return Ok(());
@@ -129,8 +130,8 @@ impl Tester<'_> {
     }
 
     /// A rule that a condition holds the empty word.
-    fn empty(&self, rule: usize, subject: usize, condition: usize) -> Result<(), Verdict> {
-        if holds_empty(self.sheet.condition(condition)) {
+    fn empty(&self, rule: usize, subject: usize, condition: Name) -> Result<(), Verdict> {
+        if holds_empty::<E>(self.sheet.condition(condition).records) {
             return Ok(());
         }
         Err(Verdict::Unproved { rule, subject, fault: Fault::of(5, 0) })
@@ -142,7 +143,7 @@ impl Tester<'_> {
         rule: usize,
         subject: usize,
         left: Left,
-        right: usize,
+        right: Name,
     ) -> Result<(), Verdict> {
         let sheet = self.sheet;
         match left {

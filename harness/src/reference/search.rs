@@ -1,5 +1,6 @@
 //! The search of clause 4 in a certificate of many pairs.
 use super::clauses::Pair;
+use super::events::Events;
 use super::places::{members, Side};
 use std::collections::HashSet;
 use std::hash::{BuildHasherDefault, Hasher};
@@ -10,29 +11,28 @@ const CHUNK: usize = 64;
 const QUESTION: usize = 32;
 
 /// The pairs of one left place.
-#[derive(Default)]
-struct List {
+struct List<E> {
     sets: Vec<u32>,
     /// The events of the place's leaf that each set serves.
-    served: Vec<u32>,
+    served: Vec<E>,
     /// Whether only sets are left that serve something and have no other within.
     reduced: bool,
 }
 
-pub struct Search<'a> {
-    left: &'a Side,
+pub struct Search<'a, E> {
+    left: &'a Side<E>,
     /// The right places that hold each event.
-    holding: [u32; 32],
-    lists: Vec<List>,
+    holding: [u32; 64],
+    lists: Vec<List<E>>,
     /// The pairs.
     listed: Keys,
     /// The followers on both sides that were asked for.
     asked: Keys,
 }
 
-impl<'a> Search<'a> {
-    pub fn new(left: &'a Side, right: &Side, pairs: &[Pair]) -> Search<'a> {
-        let mut lists: Vec<List> = (0..64).map(|_| List::default()).collect();
+impl<'a, E: Events> Search<'a, E> {
+    pub fn new(left: &'a Side<E>, right: &Side<E>, pairs: &[Pair<E>]) -> Search<'a, E> {
+        let mut lists: Vec<List<E>> = (0..64).map(|_| List::empty(false)).collect();
         let mut listed = Keys::with_capacity_and_hasher(pairs.len(), Default::default());
         for pair in pairs {
             let place = pair.place as usize;
@@ -52,38 +52,43 @@ impl<'a> Search<'a> {
             return None;
         }
         let first = |place| match self.missing(place, union) {
-            0 => None,
-            missing => Some((missing.trailing_zeros() as usize, place)),
+            missing if missing == E::NONE => None,
+            missing => Some((missing.first(), place)),
         };
         members(follow).filter_map(first).min()
     }
 
     /// The events of a place that no pair serves within some followers.
-    fn missing(&mut self, place: usize, union: u32) -> u32 {
+    fn missing(&mut self, place: usize, union: u32) -> E {
         let mut events = self.left.sets[place];
         let list = &mut self.lists[place];
-        if list.sets.len() > QUESTION * events.count_ones() as usize {
+        if list.sets.len() > QUESTION * events.count() {
             // An exact certificate lists the greatest set that can serve an event.
             let set = |event: usize| union & self.holding[event];
             let listed = |event: &usize| self.listed.contains(&(place as u64, set(*event)));
-            events &= !members(events as u64).filter(listed).fold(0, |all, event| all | 1 << event);
+            let found = members(events.into()).filter(listed);
+            events &= !found.fold(E::NONE, |all, event| all | E::one(event));
         }
-        if events == 0 {
-            return 0;
+        if events == E::NONE {
+            return events;
         }
         list.missing(union, events)
     }
 }
 
-impl List {
+impl<E: Events> List<E> {
+    fn empty(reduced: bool) -> List<E> {
+        List { sets: vec![], served: vec![], reduced }
+    }
+
     /// Those of some events that no set within the followers serves.
-    fn missing(&mut self, union: u32, mut events: u32) -> u32 {
+    fn missing(&mut self, union: u32, mut events: E) -> E {
         self.reduce();
         for (sets, served) in self.sets.chunks(CHUNK).zip(self.served.chunks(CHUNK)) {
             let pairs = sets.iter().zip(served);
-            let of = |(set, served): (&u32, &u32)| if set & !union == 0 { *served } else { 0 };
-            events &= !pairs.fold(0, |all, pair| all | of(pair));
-            if events == 0 {
+            let of = |(set, served): (&u32, &E)| if set & !union == 0 { *served } else { E::NONE };
+            events &= !pairs.fold(E::NONE, |all, pair| all | of(pair));
+            if events == E::NONE {
                 break;
             }
         }
@@ -97,9 +102,9 @@ impl List {
             return;
         }
         let pairs = self.sets.iter().copied().zip(self.served.iter().copied());
-        let mut pairs: Vec<(u32, u32)> = pairs.filter(|(_, served)| *served != 0).collect();
+        let mut pairs: Vec<(u32, E)> = pairs.filter(|(_, served)| *served != E::NONE).collect();
         pairs.sort_unstable_by_key(|(set, _)| set.count_ones());
-        let mut least = List { reduced: true, ..List::default() };
+        let mut least = List::empty(true);
         for (set, served) in pairs {
             if !least.has_within(set) {
                 least.sets.push(set);

@@ -1,6 +1,6 @@
 //! A sheet in parts, and its certificates of reachable pairs.
-use crate::instrument::LARGE;
-use crate::naive::{self, Ask, Side};
+use crate::instrument::FOUR;
+use crate::naive::{self, Ask, Exchange, Side, EXCHANGE};
 use crate::tree::Tree;
 use std::collections::HashSet;
 
@@ -15,6 +15,29 @@ pub enum Step {
     /// A call that can fail: from, to, failed target, method.
     Failing(usize, usize, usize, usize),
     Stop(usize),
+    /// A call of a primitive by a channel: from, to, method, channel.
+    Channel(usize, usize, usize, u8),
+}
+
+impl Step {
+    /// Its kind, its names in the order of the record, and the byte behind them.
+    fn record(&self) -> (u8, Vec<usize>, Option<u8>) {
+        match *self {
+            Step::Event(from, to, event) => (10, vec![from, to], Some(event)),
+            Step::Call(from, to, method) => (11, vec![from, to, method], None),
+            Step::Pass(from, to) => (12, vec![from, to], None),
+            Step::Failing(from, to, failed, method) => (17, vec![from, to, failed, method], None),
+            Step::Stop(from) => (19, vec![from], None),
+            Step::Channel(from, to, method, channel) => (22, vec![from, to, method], Some(channel)),
+        }
+    }
+
+    fn write(&self, out: &mut Vec<u8>) {
+        let (kind, record, last) = self.record();
+        out.push(kind);
+        names(out, &record);
+        out.extend(last);
+    }
 }
 
 /// A method. Its conditions are three, and two more if it can fail: the failed trace
@@ -93,37 +116,19 @@ impl Draft {
             out.push(kind);
             names(&mut out, &record);
         }
-        for step in &self.steps {
-            match *step {
-                Step::Event(from, to, event) => {
-                    out.push(10);
-                    names(&mut out, &[from, to]);
-                    out.push(event);
-                }
-                Step::Call(from, to, method) => {
-                    out.push(11);
-                    names(&mut out, &[from, to, method]);
-                }
-                Step::Pass(from, to) => {
-                    out.push(12);
-                    names(&mut out, &[from, to]);
-                }
-                Step::Failing(from, to, failed, method) => {
-                    out.push(17);
-                    names(&mut out, &[from, to, failed, method]);
-                }
-                Step::Stop(from) => {
-                    out.push(19);
-                    names(&mut out, &[from]);
-                }
-            }
-        }
+        self.steps.iter().for_each(|step| step.write(&mut out));
         out
     }
 
     /// The whole sheet.
     pub fn certified(&self) -> Vec<u8> {
         certify(self.bytes(), MOST_PAIRS)
+    }
+
+    /// The whole sheet, with the certificates that a loader needs which reads conditions
+    /// in another way where they are called by a channel.
+    pub fn certified_by(&self, exchange: &Exchange) -> Vec<u8> {
+        certify_by(exchange, self.bytes(), MOST_PAIRS)
     }
 }
 
@@ -134,13 +139,17 @@ fn names(out: &mut Vec<u8>, names: &[usize]) {
 }
 
 /// Adds the certificates that the rules of a sheet need.
-pub fn certify(mut bytes: Vec<u8>, most: usize) -> Vec<u8> {
-    let Ok(sheet) = naive::read_sheet(&LARGE, &bytes) else {
+pub fn certify(bytes: Vec<u8>, most: usize) -> Vec<u8> {
+    certify_by(&EXCHANGE, bytes, most)
+}
+
+fn certify_by(exchange: &Exchange, mut bytes: Vec<u8>, most: usize) -> Vec<u8> {
+    let Ok(sheet) = naive::read_sheet(&FOUR, &bytes) else {
         return bytes;
     };
     // Rules that ask the same are given the same pairs.
     let mut made: Vec<(Ask, Vec<(usize, u32)>)> = vec![];
-    for rule in naive::rules(&sheet) {
+    for rule in naive::rules_by(exchange, &sheet) {
         let known = made.iter().position(|(ask, _)| *ask == rule.ask);
         let index = known.unwrap_or(made.len());
         if let Ask::Within(left, right) = &rule.ask {
@@ -167,7 +176,7 @@ pub fn certificate(out: &mut Vec<u8>, pairs: &[(usize, u32)]) {
 pub fn reachable(left: &Tree, right: &Tree, most: usize) -> Vec<(usize, u32)> {
     let (left, right) = (Side::new(left), Side::new(right));
     let follow: Vec<u32> = (0..right.places()).map(|k| mask(right.follow(k))).collect();
-    let holding: Vec<u32> = (0..32).map(|event| holding(&right, event)).collect();
+    let holding: Vec<u32> = (0..64).map(|event| holding(&right, event)).collect();
     let mut pairs = vec![(0, 1)];
     let mut met: HashSet<(usize, u32)> = pairs.iter().copied().collect();
     let mut next = 0;

@@ -2,7 +2,7 @@
 use super::draft::{Draft, Method, Step};
 use super::stopping;
 use crate::random::Random;
-use crate::tree::Tree;
+use crate::tree::{Tree, TWO_CHANNELS};
 
 /// What one step of a chain does.
 enum Link {
@@ -111,9 +111,9 @@ pub fn large(random: &mut Random) -> Draft {
 
 /// A star of many leaves that holds every word.
 pub fn covering_star(random: &mut Random) -> Tree {
-    let leaf = |random: &mut Random| Tree::Leaf(random.next() as u32);
+    let leaf = |random: &mut Random| Tree::Leaf(random.next() & TWO_CHANNELS);
     let some = (0..random.below(30)).fold(leaf(random), |tree, _| tree.either(leaf(random)));
-    some.either(Tree::Leaf(u32::MAX)).star()
+    some.either(Tree::Leaf(TWO_CHANNELS)).star()
 }
 
 /// A method whose conditions all hold every word, with steps at random.
@@ -165,7 +165,7 @@ pub fn small(random: &mut Random) -> Tree {
 
 /// A star of many leaves, each with a few events.
 pub fn wide_star(random: &mut Random) -> Tree {
-    let leaf = |random: &mut Random| Tree::Leaf(1 << random.below(32) | random.below(2) as u32);
+    let leaf = |random: &mut Random| Tree::Leaf(1 << random.below(32) | random.below(2) as u64);
     let first = leaf(random);
     (0..8 + random.below(23)).fold(first, |tree, _| tree.either(leaf(random))).star()
 }

@@ -6,12 +6,13 @@
 //! So the right side is `turning`, except where the followers change anyway.
 use super::draft::{certificate, Draft, Method, Step};
 use super::families::LONGEST;
-use super::stray::{least, row};
+use super::mutate;
+use super::stray::{alike, least, row};
 use super::worst::WORST;
-use crate::instrument::LARGE;
+use crate::instrument::FOUR;
 use crate::naive;
 use crate::random::Random;
-use crate::tree::Tree;
+use crate::tree::{Tree, TWO_CHANNELS};
 
 pub type Pair = (usize, u32);
 
@@ -38,6 +39,28 @@ pub const HOSTILE: [Hostile; 13] = [
     ("hostile: one pair for each follower and event", one_each),
     ("hostile: the worst that a search found", |most| WORST.sheet(most)),
 ];
+
+/// A hostile sheet over 64 events: each leaf holds with an event the one 32 further on
+/// too, so that the same pairs serve. As many fit as in a sheet of full length.
+pub fn doubled(make: fn(usize) -> Vec<u8>) -> Vec<u8> {
+    let mut most = LONGEST / PAIR_LENGTH;
+    loop {
+        let sheet = with_double_leaves(&make(most));
+        if sheet.len() <= LONGEST {
+            return sheet;
+        }
+        most -= (sheet.len() - LONGEST).div_ceil(PAIR_LENGTH);
+    }
+}
+
+fn with_double_leaves(sheet: &[u8]) -> Vec<u8> {
+    let mut records = mutate::split(sheet);
+    for leaf in records.iter_mut().filter(|record| record[0] == 1) {
+        leaf[0] = 21;
+        leaf.extend_from_within(1..5);
+    }
+    records.concat()
+}
 
 /// The sheet with as many pairs as fit in so many bytes.
 pub fn fitting(make: impl Fn(usize) -> Vec<u8>, bytes: usize) -> Vec<u8> {
@@ -80,7 +103,12 @@ pub const TURNS: [u32; 2] = [1 << 27, 1 << 29];
 /// that place 0 alone has it. If pairs have one of the two in turn, no pair has all
 /// followers of the pair before it.
 pub fn turning(leaves: Tree) -> Tree {
-    let link = || row(1).join(Tree::Leaf(0).either(Tree::Empty));
+    turning_over(TWO_CHANNELS, leaves)
+}
+
+/// The same where every event is one of a set.
+pub fn turning_over(every: u64, leaves: Tree) -> Tree {
+    let link = || Tree::Leaf(every).join(Tree::Leaf(0).either(Tree::Empty));
     leaves.either(link()).either(link()).star().either(Tree::Leaf(0))
 }
 
@@ -116,7 +144,7 @@ pub fn spread(
     mut filler: impl FnMut(usize) -> Pair,
 ) -> Vec<u8> {
     let mut out = draft.bytes();
-    let sheet = naive::read_sheet(&LARGE, &draft.certified());
+    let sheet = naive::read_sheet(&FOUR, &draft.certified());
     let mut lists = sheet.map_or(vec![], |sheet| sheet.certificates);
     lists[number] = [&[(0, 1)], first].concat();
     let used: usize = lists.iter().map(|pairs| 6 * pairs.len() + 1).sum();
@@ -145,11 +173,6 @@ pub fn spread(
 /// The leaves of a `turning` side that holds every word; the last holds no event.
 fn last_dead() -> Tree {
     row(25).either(Tree::Leaf(0))
-}
-
-/// As many leaves with this set, one or the other.
-fn alike(set: u32, leaves: usize) -> Tree {
-    (1..leaves).fold(Tree::Leaf(set), |tree, _| tree.either(Tree::Leaf(set)))
 }
 
 /// Each pair needs the first ones and the last one; the others list all places of
@@ -261,6 +284,24 @@ fn one_each(most: usize) -> Vec<u8> {
     let single = (1..26).fold(Tree::event(0), |tree, e| tree.either(Tree::event(e)));
     let among: Vec<Pair> = (0..806).map(|i| (1 + i / 26, 2 << (i % 26))).collect();
     let long = by_entry(alike(0x03ff_ffff, 31).star(), turning(single));
+    stuffed(long, [&[], &among, &[]], most, || {
+        (1 + random.below(31), random.next() as u32 & OWN | 6)
+    })
+}
+
+/// On the four-channel instrument: of 16 right places, eight hold eight events each, one
+/// after another, and eight hold every eighth event, so that one of each hold one event
+/// together. One pair for each follower and event, among others with two of the first
+/// eight places, which serve nothing.
+pub fn each_of_64(most: usize) -> Vec<u8> {
+    let mut random = Random::new(6);
+    let rows = (0..8).map(|row| Tree::Leaf(0xff << (8 * row)));
+    let columns = (0..8).map(|column| Tree::Leaf(0x0101_0101_0101_0101 << column));
+    let leaves = rows.chain(columns).chain((0..10).map(|_| Tree::Leaf(0)));
+    let leaves = leaves.reduce(Tree::either).unwrap_or(Tree::Empty);
+    let set = |event: usize| 2 << (event / 8) | 0x200 << (event % 8);
+    let among: Vec<Pair> = (0..31 * 64).map(|i| (1 + i / 64, set(i % 64))).collect();
+    let long = by_entry(alike(u64::MAX, 31).star(), turning_over(u64::MAX, leaves));
     stuffed(long, [&[], &among, &[]], most, || {
         (1 + random.below(31), random.next() as u32 & OWN | 6)
     })

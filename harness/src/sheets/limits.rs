@@ -5,7 +5,7 @@ use super::mutate::{is_point, mutate, split};
 use super::owners::{give, right, Owners};
 use super::stopping::either_edition;
 use crate::answer::Refusal;
-use crate::instrument::{Instrument, ENTRY, LARGE};
+use crate::instrument::{Instrument, ENTRY, FOUR};
 use crate::random::Random;
 use crate::tree::Tree;
 use crate::{naive, reference};
@@ -37,7 +37,7 @@ pub fn around_entry(random: &mut Random) -> Vec<u8> {
 }
 
 fn right_owners(draft: &Draft, random: &mut Random) -> Owners {
-    naive::read_sheet(&LARGE, &draft.bytes()).map_or(vec![], |parts| right(&parts, random))
+    naive::read_sheet(&FOUR, &draft.bytes()).map_or(vec![], |parts| right(&parts, random))
 }
 
 /// A number around a limit, seldom one far above.
@@ -87,7 +87,10 @@ fn more_points(draft: &mut Draft, points: usize, random: &mut Random) {
     }
     for step in &mut draft.steps {
         match step {
-            Step::Event(p, q, _) | Step::Call(p, q, _) | Step::Pass(p, q) => {
+            Step::Event(p, q, _)
+            | Step::Call(p, q, _)
+            | Step::Pass(p, q)
+            | Step::Channel(p, q, _, _) => {
                 (*p, *q) = (number[*p], number[*q]);
             }
             Step::Failing(p, q, f, _) => {
@@ -104,7 +107,7 @@ fn more_points(draft: &mut Draft, points: usize, random: &mut Random) {
 pub fn of_length(draft: &Draft, length: usize, random: &mut Random) -> Vec<u8> {
     let sheet = draft.certified();
     let left = length.saturating_sub(sheet.len());
-    let Ok(parts) = naive::read_sheet(&LARGE, &sheet) else { return sheet };
+    let Ok(parts) = naive::read_sheet(&FOUR, &sheet) else { return sheet };
     if left < 2 {
         return sheet;
     }
@@ -141,14 +144,24 @@ fn misname(sheet: &[u8], random: &mut Random) -> Vec<u8> {
 /// The most points of an instrument with random limits.
 const MOST_POINTS: usize = 600;
 
+/// Highest kinds and numbers of events, ascending. Kinds 21 and 22 are for 64 events.
+const LEVELS: [(u8, u8); 4] = [(20, 32), (20, 45), (20, 64), (22, 64)];
+
 /// Two instruments with limits around what a sheet has, the first no larger.
 pub fn limits(sheet: &[u8], random: &mut Random) -> [Instrument; 2] {
     let (points, _) = super::points(sheet);
     let mut bytes = [0; 2].map(|_| about(sheet.len(), random));
     let mut points = [0; 2].map(|_| about(points, random).min(MOST_POINTS));
+    let mut levels = [0; 2].map(|_| LEVELS[random.below(LEVELS.len())]);
     bytes.sort();
     points.sort();
-    [0, 1].map(|i| Instrument::of(bytes[i], points[i]))
+    levels.sort();
+    // The reference takes no more with kinds 21 and 22.
+    let most = if levels[1] == LEVELS[3] { FOUR.bytes } else { usize::MAX };
+    [0, 1].map(|i| {
+        let (kinds, events) = levels[i];
+        Instrument::of(bytes[i].min(most), points[i]).with(kinds, events)
+    })
 }
 
 fn about(number: usize, random: &mut Random) -> usize {

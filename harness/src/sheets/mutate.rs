@@ -7,7 +7,7 @@ type Records = Vec<Vec<u8>>;
 
 pub fn mutate(sheet: &[u8], random: &mut Random) -> Vec<u8> {
     let mut records = split(sheet);
-    match random.below(19) {
+    match random.below(22) {
         0 => return change_bytes(sheet, random),
         1 => return sheet[..random.below(sheet.len())].to_vec(),
         2 => change_name(&mut records, random),
@@ -18,6 +18,8 @@ pub fn mutate(sheet: &[u8], random: &mut Random) -> Vec<u8> {
         15 => other_outcomes(&mut records, random),
         16 => other_edition(&mut records, random),
         17 | 18 => more_or_fewer_stops(&mut records, random),
+        19 | 20 => other_channels(&mut records, random),
+        21 => other_leaves(&mut records, random),
         kind => change_certificate(&mut records, random, kind),
     }
     records.concat()
@@ -69,7 +71,7 @@ fn change_name(records: &mut Records, random: &mut Random) {
     }
     let record = &mut records[named[random.below(named.len())]];
     let at = 1 + random.below(record.len() - 1);
-    let top = if random.once_in(2) { 4 } else { 34 };
+    let top = [4, 4, 34, 66][random.below(4)];
     record[at] = random.below(top) as u8;
 }
 
@@ -137,7 +139,7 @@ fn more_or_fewer_stops(records: &mut Records, random: &mut Random) {
     }
     let before = |kinds: &[u8]| records.iter().rposition(|record| kinds.contains(&record[0]));
     let methods = before(&[8, 9, 15, 16]).map_or(0, |i| i + 1);
-    let steps = before(&[10, 11, 12, 17, 19]).map_or(0, |i| i + 1);
+    let steps = before(&[10, 11, 12, 17, 19, 22]).map_or(0, |i| i + 1);
     let place = match random.below(6) {
         0 => random.below(records.len() + 1),
         _ => methods + random.below(steps.max(methods) - methods + 1),
@@ -147,11 +149,59 @@ fn more_or_fewer_stops(records: &mut Records, random: &mut Random) {
     records.insert(place, [&[19], &(point as u16).to_le_bytes()[..]].concat());
 }
 
+/// A call gets a channel, another one, or loses its channel; now and then one that does
+/// not exist, or another method.
+fn other_channels(records: &mut Records, random: &mut Random) {
+    let call = |record: &Vec<u8>| matches!((record[0], record.len()), (11, 7) | (22, 8));
+    let calls: Vec<usize> = (0..records.len()).filter(|&i| call(&records[i])).collect();
+    if calls.is_empty() {
+        return;
+    }
+    let record = &mut records[calls[random.below(calls.len())]];
+    let channel = match random.below(6) {
+        0 => 4 + random.below(2) as u8,
+        1 => random.byte(),
+        _ => random.below(4) as u8,
+    };
+    match (record[0], random.below(4)) {
+        (22, 0) => {
+            record.truncate(7);
+            record[0] = 11;
+        }
+        (22, 1) => record[5] = random.below(4) as u8,
+        (22, _) => record[7] = channel,
+        _ => {
+            record.push(channel);
+            record[0] = 22;
+        }
+    }
+}
+
+/// Leaves get a set of 8 bytes for one of 4, or of 4 for one of 8, or other events.
+fn other_leaves(records: &mut Records, random: &mut Random) {
+    for record in records.iter_mut() {
+        match (record[0], record.len()) {
+            _ if random.once_in(2) => {}
+            (1, 5) => {
+                record[0] = 21;
+                let high = if random.once_in(2) { 0 } else { random.next() as u32 };
+                record.extend(high.to_le_bytes());
+            }
+            (21, 9) if random.once_in(2) => {
+                record[0] = 1;
+                record.truncate(5);
+            }
+            (21, 9) => record[1 + random.below(8)] ^= 1 << random.below(8),
+            _ => {}
+        }
+    }
+}
+
 /// Event steps get one of the last events, or the number after them.
 fn events_at_the_bound(records: &mut Records, random: &mut Random) {
     for record in records.iter_mut().filter(|record| record[0] == 10) {
         if record.len() == 6 && random.once_in(2) {
-            record[5] = 30 + random.below(3) as u8;
+            record[5] = [30, 62][random.below(2)] + random.below(3) as u8;
         }
     }
 }

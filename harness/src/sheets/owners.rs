@@ -1,8 +1,9 @@
 //! Owners of a sheet's points, right and wrong ones.
+use super::channels;
 use super::honest::spoil;
 use super::mutate::{self, is_point};
 use super::stopping::either_edition;
-use crate::instrument::LARGE;
+use crate::instrument::{Instrument, FOUR};
 use crate::naive::{self, Sheet, Step};
 use crate::random::Random;
 
@@ -27,21 +28,24 @@ pub fn give(sheet: &[u8], owners: &[Option<usize>]) -> Vec<u8> {
 
 /// A sheet with right owners for as many points as can have them.
 pub fn rightly_owned(sheet: &[u8], random: &mut Random) -> Vec<u8> {
-    match naive::read_sheet(&LARGE, sheet) {
+    match naive::read_sheet(&FOUR, sheet) {
         Ok(parts) => give(sheet, &right(&parts, random)),
         Err(_) => sheet.to_vec(),
     }
 }
 
-/// A sheet whose points all have a method as owner, now and then the wrong one; one that
-/// is refused for another reason has no owners.
-pub fn all_owned(random: &mut Random) -> Vec<u8> {
-    let mut draft = either_edition(random);
+/// A sheet for an instrument whose points all have a method as owner, now and then the
+/// wrong one; one that is refused for another reason has no owners.
+pub fn all_owned(on: &Instrument, random: &mut Random) -> Vec<u8> {
+    let mut draft = match *on == FOUR {
+        true => channels::draft(random),
+        false => either_edition(random),
+    };
     if random.once_in(2) {
         spoil(&mut draft, random);
     }
     let sheet = draft.certified();
-    let Ok(parts) = naive::read_sheet(&LARGE, &sheet) else { return sheet };
+    let Ok(parts) = naive::read_sheet(&FOUR, &sheet) else { return sheet };
     let mut owners = right(&parts, random);
     if random.once_in(2) {
         owners[random.below(parts.points.len())] = None;
@@ -56,11 +60,11 @@ pub fn all_owned(random: &mut Random) -> Vec<u8> {
 /// step that was pasted, with points more, which nothing names, cut behind the points, or
 /// otherwise changed.
 pub fn owned(sheet: &[u8], random: &mut Random) -> Vec<u8> {
-    let parts = naive::read_sheet(&LARGE, sheet).unwrap_or_default();
+    let parts = naive::read_sheet(&FOUR, sheet).unwrap_or_default();
     let methods = parts.methods.len();
     let mut owners = match random.below(8) {
-        0 => (0..LARGE.points).map(|_| some_number(methods, random)).collect(),
-        _ if methods == 0 => (0..LARGE.points).map(|_| Some(random.below(2))).collect(),
+        0 => (0..FOUR.points).map(|_| some_number(methods, random)).collect(),
+        _ if methods == 0 => (0..FOUR.points).map(|_| Some(random.below(2))).collect(),
         _ => right(&parts, random),
     };
     if random.once_in(3) {
@@ -181,7 +185,7 @@ fn cut(sheet: &[u8], random: &mut Random) -> Vec<u8> {
 /// A step stands once more, with other names, which are those of points.
 fn pasted(sheet: &[u8], points: usize, random: &mut Random) -> Vec<u8> {
     let mut records = mutate::split(sheet);
-    let step = |&number: &usize| matches!(records[number][0], 10 | 11 | 12 | 17);
+    let step = |&number: &usize| matches!(records[number][0], 10 | 11 | 12 | 17 | 22);
     let steps: Vec<usize> = (0..records.len()).filter(step).collect();
     if steps.is_empty() || points == 0 {
         return sheet.to_vec();

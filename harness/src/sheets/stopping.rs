@@ -4,7 +4,7 @@ use super::failing::{self, call, little, loose, onward, union, Open, Way};
 use super::honest::{self, covering_star, small, small_with_empty, wide, wide_star};
 use crate::naive::holds_empty;
 use crate::random::Random;
-use crate::tree::Tree;
+use crate::tree::{Tree, TWO_CHANNELS};
 
 /// The most leaves of a point's condition, since those of called methods come into those
 /// of their callers.
@@ -123,7 +123,7 @@ fn entering(random: &mut Random) -> Draft {
 /// Methods that call each other and stop at any point. All conditions but traces hold
 /// the words of some events.
 fn closed(random: &mut Random) -> Draft {
-    let events = if random.once_in(3) { u32::MAX } else { 1 | random.below(16) as u32 };
+    let events = if random.once_in(3) { TWO_CHANNELS } else { 1 | random.below(16) as u64 };
     let words = Tree::Leaf(events).star();
     let mut draft = Draft::default();
     let points = 1 + random.below(4);
@@ -164,7 +164,7 @@ fn called(draft: &Draft, from: usize, [to, failed]: [usize; 2], method: usize) -
 }
 
 /// An event of a set.
-fn one_of(events: u32, random: &mut Random) -> u8 {
+fn one_of(events: u64, random: &mut Random) -> u8 {
     let mut word = vec![];
     Tree::Leaf(events).word(random, &mut word);
     word[0]
@@ -461,7 +461,7 @@ fn primitive(
 
 /// A method that raises an event of a set and may then call itself.
 struct Rounds {
-    events: u32,
+    events: u64,
     fails: bool,
     /// Whether it may stop before the event, and behind it.
     stops: [bool; 2],

@@ -1,14 +1,15 @@
 //! Bytes and records at random, and sheets at or over a limit.
 use super::draft::{Draft, Method, Step};
 use crate::answer::Refusal;
-use crate::instrument::{KINDS, LARGE};
+use crate::instrument::{FOUR, KINDS};
 use crate::random::Random;
 use crate::reference;
-use crate::tree::Tree;
+use crate::tree::{Tree, TWO_CHANNELS};
 
 /// The body lengths by kind; there is no kind 0.
-pub const BODY: [usize; 21] = [0, 4, 0, 0, 0, 0, 0, 6, 6, 10, 5, 6, 4, 5, 0, 10, 16, 8, 0, 2, 8];
-const SECTION: [usize; 21] = [0, 0, 0, 0, 0, 0, 0, 1, 2, 2, 3, 3, 3, 4, 4, 2, 2, 3, 0, 3, 1];
+pub const BODY: [usize; 23] =
+    [0, 4, 0, 0, 0, 0, 0, 6, 6, 10, 5, 6, 4, 5, 0, 10, 16, 8, 0, 2, 8, 8, 7];
+const SECTION: [usize; 23] = [0, 0, 0, 0, 0, 0, 0, 1, 2, 2, 3, 3, 3, 4, 4, 2, 2, 3, 0, 3, 1, 0, 3];
 
 pub fn bytes(random: &mut Random) -> Vec<u8> {
     let length = random.below(40);
@@ -27,13 +28,15 @@ fn edition(random: &mut Random) -> Vec<u8> {
 pub fn records(random: &mut Random) -> Vec<u8> {
     let mut out = edition(random);
     let new = !out.is_empty();
+    let four = random.once_in(3);
     for _ in 0..random.below(5) {
-        tokens(random, &mut out);
+        tokens(random, four, &mut out);
     }
     let kind = |random: &mut Random| match random.below(24) {
         0 => 18,
         1 | 2 if new || random.once_in(4) => 19,
         3 | 4 => 20,
+        5..=8 if four => 22,
         _ => 7 + random.below(11) as u8,
     };
     let mut kinds: Vec<u8> = (0..random.below(12)).map(|_| kind(random)).collect();
@@ -55,8 +58,9 @@ pub fn records(random: &mut Random) -> Vec<u8> {
     out
 }
 
-/// A condition record by record, now and then at fault.
-fn tokens(random: &mut Random, out: &mut Vec<u8>) {
+/// A condition record by record, now and then at fault; some leaves have sets of 8 bytes,
+/// if it is for the four-channel instrument.
+fn tokens(random: &mut Random, four: bool, out: &mut Vec<u8>) {
     let mut items = 0;
     for _ in 0..random.below(12) {
         let kind = match (items, random.below(40)) {
@@ -64,10 +68,11 @@ fn tokens(random: &mut Random, out: &mut Vec<u8>) {
             (0 | 1, _) => 1 + random.below(2) as u8,
             _ => 1 + random.below(5) as u8,
         };
+        let kind = if four && kind == 1 && random.once_in(2) { 21 } else { kind };
         out.push(kind);
         out.extend((0..BODY[kind as usize]).map(|_| random.byte()));
         match kind {
-            1 | 2 => items += 1,
+            1 | 2 | 21 => items += 1,
             3 | 4 => items -= 1,
             _ => {}
         }
@@ -92,7 +97,7 @@ pub fn least() -> Draft {
 /// A sheet at a limit; one over it may have a second fault in that record.
 pub fn at_a_limit(random: &mut Random) -> Vec<u8> {
     let mut sheet = many(random);
-    if let Err(Refusal { number: 6 | 20, place: Some(at) }) = reference::read(&LARGE, &sheet) {
+    if let Err(Refusal { number: 6 | 20, place: Some(at) }) = reference::read(&FOUR, &sheet) {
         if random.once_in(3) {
             let at = if sheet[at] < 7 { at } else { at + 1 };
             sheet[at] = 3;
@@ -105,11 +110,11 @@ pub fn at_a_limit(random: &mut Random) -> Vec<u8> {
 fn many(random: &mut Random) -> Vec<u8> {
     let over = random.below(2);
     let mut draft = Draft { new_edition: random.once_in(2), ..least() };
-    match random.below(12) {
+    match random.below(15) {
         0 => draft.conditions.resize(256 + over, Tree::Empty),
         1 => draft.conditions.push((0..95 + over).fold(Tree::Empty, |tree, _| tree.star())),
         2 => draft.conditions.push(row(31 + over)),
-        3 => draft.points.resize(LARGE.points + over, [0; 3]),
+        3 => draft.points.resize(FOUR.points + over, [0; 3]),
         4 => {
             let both = random.once_in(2);
             for _ in 1..64 + over {
@@ -118,7 +123,7 @@ fn many(random: &mut Random) -> Vec<u8> {
         }
         5 => draft.steps.resize(512 + over, Step::Pass(0, 0)),
         6 => draft.steps.resize(512 + over, Step::Call(0, 0, 0)),
-        7 => return long(draft, LARGE.bytes + over),
+        7 => return long(draft, FOUR.bytes + over),
         8 => {
             draft.methods.push(Method::new(&[0; 5], &[]));
             draft.steps.resize(512 + over, Step::Failing(0, 0, 0, 1));
@@ -128,7 +133,14 @@ fn many(random: &mut Random) -> Vec<u8> {
             draft.steps.resize(511 + over, Step::Pass(0, 0));
             draft.steps.push(Step::Stop(0));
         }
-        _ => return vec![random.below(8) as u8; LARGE.bytes + over],
+        11 => draft.conditions.push(alike(u64::MAX, 31 + over)),
+        12 => draft.conditions.push(row(15).either(alike(u64::MAX, 16 + over))),
+        13 => {
+            draft.methods.push(Method::new(&[0; 3], &[]));
+            let channel = random.below(4) as u8;
+            draft.steps.resize(512 + over, Step::Channel(0, 0, 1, channel));
+        }
+        _ => return vec![random.below(8) as u8; FOUR.bytes + over],
     }
     draft.certified()
 }
@@ -143,9 +155,14 @@ fn any_method(random: &mut Random, both: bool) -> Method {
     }
 }
 
-/// As many leaves, one or the other.
+/// As many leaves with this set, one or the other.
+pub fn alike(set: u64, leaves: usize) -> Tree {
+    (1..leaves).fold(Tree::Leaf(set), |tree, _| tree.either(Tree::Leaf(set)))
+}
+
+/// As many leaves of events 0 to 31, one or the other.
 pub fn row(leaves: usize) -> Tree {
-    (1..leaves).fold(Tree::Leaf(u32::MAX), |tree, _| tree.either(Tree::Leaf(u32::MAX)))
+    alike(TWO_CHANNELS, leaves)
 }
 
 /// A sheet with pairs up to a length.

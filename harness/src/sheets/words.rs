@@ -1,5 +1,5 @@
 //! Words to try on a sheet's conditions.
-use crate::instrument::LARGE;
+use crate::instrument::FOUR;
 use crate::naive;
 use crate::random::Random;
 use crate::tree::Tree;
@@ -12,7 +12,7 @@ pub struct Test {
 
 /// A few words for a sheet; half of them are words of a condition of it.
 pub fn words(sheet: &[u8], random: &mut Random) -> Vec<Test> {
-    let conditions = naive::read_sheet(&LARGE, sheet).map_or(vec![], |sheet| sheet.conditions);
+    let conditions = naive::read_sheet(&FOUR, sheet).map_or(vec![], |sheet| sheet.conditions);
     if conditions.is_empty() {
         let word = some_events(random);
         return vec![Test { condition: random.below(3), word }];
@@ -32,7 +32,7 @@ fn one(conditions: &[Tree], random: &mut Random, held: bool) -> Test {
     }
     if random.once_in(25) {
         let at = random.below(word.len() + 1);
-        word.insert(at, 32 + random.below(224) as u8);
+        word.insert(at, no_event(random));
     }
     if random.once_in(100) {
         let length = 4_095 + random.below(3);
@@ -53,11 +53,22 @@ fn repeated_word(tree: &Tree, random: &mut Random, out: &mut Vec<u8>) -> bool {
     (0..times.max(1)).all(|_| tree.word(random, out))
 }
 
+/// An event that not every instrument has, or none has.
+fn no_event(random: &mut Random) -> u8 {
+    let number = match random.below(3) {
+        0 => random.below(32),
+        1 => 32 + random.below(2),
+        _ => random.below(224),
+    };
+    32 + number as u8
+}
+
 fn some_events(random: &mut Random) -> Vec<u8> {
     let length = if random.once_in(10) { random.below(200) } else { random.below(7) };
+    let last = if random.once_in(3) { 63 } else { 31 };
     let event = |random: &mut Random| match random.below(8) {
-        0 => 31,
-        1 => random.below(32) as u8,
+        0 => last,
+        1 => random.below(last as usize + 1) as u8,
         _ => random.below(3) as u8,
     };
     (0..length).map(|_| event(random)).collect()

@@ -1,7 +1,8 @@
 //! Certificates from numbers, so that a search can change them.
-use super::hostile::{by_call, fitting, spread, turning, Order, Pair, TURNS};
+use super::hostile::{by_call, fitting, spread, turning_over, Order, Pair, TURNS};
+use crate::instrument::Instrument;
 use crate::random::Random;
-use crate::tree::Tree;
+use crate::tree::{Tree, TWO_CHANNELS};
 
 /// How to make a certificate: some pairs serve, one for each follower and block of
 /// events; the others, fillers, serve nothing that these do not serve.
@@ -78,7 +79,20 @@ pub const WORST_ENTRY: Recipe = Recipe {
     places: 1,
 };
 
-/// The least and the greatest number for each part of a recipe.
+/// Which part of a recipe is the number of events, and the most of it with 64 events.
+const EVENTS: usize = 2;
+const MOST_EVENTS: usize = 64;
+
+/// The least and the greatest number for each part of a recipe on an instrument.
+fn ranges(on: &Instrument) -> [(usize, usize); 15] {
+    let mut ranges = RANGES;
+    if on.events as usize == MOST_EVENTS {
+        ranges[EVENTS].1 = MOST_EVENTS;
+    }
+    ranges
+}
+
+/// The same on an instrument of two channels.
 const RANGES: [(usize, usize); 15] = [
     (4, 31),
     (0, 31),
@@ -98,20 +112,20 @@ const RANGES: [(usize, usize); 15] = [
 ];
 
 impl Recipe {
-    pub fn random(random: &mut Random) -> Recipe {
+    pub fn random(on: &Instrument, random: &mut Random) -> Recipe {
         let mut recipe = WORST;
-        for (part, range) in recipe.parts().into_iter().zip(RANGES) {
+        for (part, range) in recipe.parts().into_iter().zip(ranges(on)) {
             *part = draw(range, random);
         }
         recipe
     }
 
     /// The same with one part or two drawn anew.
-    pub fn changed(&self, random: &mut Random) -> Recipe {
+    pub fn changed(&self, on: &Instrument, random: &mut Random) -> Recipe {
         let mut recipe = self.clone();
         for _ in 0..1 + random.below(2) {
             let number = random.below(RANGES.len());
-            *recipe.parts()[number] = draw(RANGES[number], random);
+            *recipe.parts()[number] = draw(ranges(on)[number], random);
         }
         recipe
     }
@@ -166,8 +180,8 @@ impl Recipe {
     }
 
     /// The events of each left leaf.
-    fn mask(&self) -> u32 {
-        (1 << self.events) - 1
+    fn mask(&self) -> u64 {
+        u64::MAX >> (64 - self.events)
     }
 
     /// The right places that serve; with links, the first one of each.
@@ -191,7 +205,7 @@ impl Recipe {
     }
 
     /// The events that a server holds.
-    fn held(&self, number: usize) -> u32 {
+    fn held(&self, number: usize) -> u64 {
         let (events, blocks) = self.blocks();
         self.mask() & ((1 << events) - 1) << (number % blocks * events)
     }
@@ -206,7 +220,8 @@ impl Recipe {
         let all = all.reduce(Tree::either).unwrap_or(Tree::Empty);
         match self.change {
             1 => all.star().either(Tree::Leaf(0)),
-            2 => turning(all),
+            2 if self.events > 32 => turning_over(u64::MAX, all),
+            2 => turning_over(TWO_CHANNELS, all),
             _ => all.star(),
         }
     }
@@ -252,6 +267,6 @@ fn draw((least, most): (usize, usize), random: &mut Random) -> usize {
 }
 
 /// One of some leaves; the empty word if there is none.
-fn either(sets: impl Iterator<Item = u32>) -> Tree {
+fn either(sets: impl Iterator<Item = u64>) -> Tree {
     sets.map(Tree::Leaf).reduce(Tree::either).unwrap_or(Tree::Empty)
 }

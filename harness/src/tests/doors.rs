@@ -2,7 +2,7 @@
 //! written into slices of every length.
 use super::{hex, least, BODY, PAIR, POINT};
 use crate::library::header::{
-    ACCEPTED, ENTRY, LARGE, NO, NOT_WRITTEN, NO_PLACE, READ_WHOLE, REFUSED, ROOM,
+    ACCEPTED, ENTRY, FOUR, LARGE, NO, NOT_WRITTEN, NO_PLACE, READ_WHOLE, REFUSED, ROOM,
     UNKNOWN_INSTRUMENT, UNPROVED, YES,
 };
 use crate::library::raw;
@@ -34,9 +34,11 @@ fn gives(door: impl Fn(&mut [usize]) -> usize, status: usize, number: usize, val
     }
 }
 
-/// On both instruments, and by the door that the entry instrument has alone.
+/// On every instrument, and by the door that the entry instrument has alone.
 fn load(sheet: &[u8], status: usize, number: usize, values: &[usize]) {
-    gives(|out| raw::load(LARGE, sheet, out), status, number, values);
+    for on in [LARGE, FOUR] {
+        gives(|out| raw::load(on, sheet, out), status, number, values);
+    }
     load_entry(sheet, status, number, values);
 }
 
@@ -124,7 +126,8 @@ fn the_statuses_differ() {
 
 #[test]
 fn the_instruments_differ() {
-    assert!(LARGE != ENTRY && !UNKNOWN.contains(&LARGE) && !UNKNOWN.contains(&ENTRY));
+    assert!(LARGE != ENTRY && LARGE != FOUR && ENTRY != FOUR);
+    assert!([LARGE, ENTRY, FOUR].iter().all(|on| !UNKNOWN.contains(on)));
 }
 
 #[test]
@@ -143,19 +146,62 @@ fn loading() {
     load(&owned(), ACCEPTED, 0, &[6]);
     load(&other_owner(), REFUSED, 24, &[42]);
     load(&unknown_owner(), REFUSED, 25, &[9]);
-    gives(|out| raw::load(LARGE, &[0; 65_537], out), REFUSED, 1, &[65_536]);
+    for on in [LARGE, FOUR] {
+        gives(|out| raw::load(on, &[0; 65_537], out), REFUSED, 1, &[65_536]);
+    }
     load_entry(&[0; 8_193], REFUSED, 1, &[8_192]);
     load_entry(&[0; 65_537], REFUSED, 1, &[8_192]);
     load(&[0; 8_192], REFUSED, 2, &[0]);
     let points = hex(&format!("02 06 {} {BODY}", POINT.repeat(65)));
     load_entry(&points, REFUSED, 6, &[450]);
-    gives(|out| raw::load(LARGE, &points, out), REFUSED, 10, &[468]);
+    for on in [LARGE, FOUR] {
+        gives(|out| raw::load(on, &points, out), REFUSED, 10, &[468]);
+    }
+}
+
+/// The four-channel instrument alone: a call by a channel, one that 26 is about, and an
+/// event above 31 at fault.
+#[test]
+fn four_channels() {
+    let call = |method: &str, channel: &str| {
+        let certificates = format!("{PAIR} 0E").repeat(8);
+        let methods = format!("{BODY} 08 0000 0000 0000");
+        hex(&format!("02 06 {POINT} {methods} 16 0000 0000 {method} {channel} {certificates}"))
+    };
+    let high = hex(&format!(
+        "02 06 02 15 00000000 00000080 04 06 {POINT} 09 0100 0000 0000 0000 0000 {}",
+        format!("{PAIR} 0E").repeat(3)
+    ));
+    let loads = |sheet: &[u8], status, number, values: &[usize]| {
+        gives(|out| raw::load(FOUR, sheet, out), status, number, values);
+    };
+    for channel in ["00", "01", "02", "03"] {
+        loads(&call("0100", channel), ACCEPTED, 0, &[11]);
+        gives(|out| raw::read(FOUR, &call("0100", channel), out), READ_WHOLE, 0, &[1, 1, 2, 1, 8]);
+        for on in [LARGE, ENTRY] {
+            gives(|out| raw::load(on, &call("0100", channel), out), REFUSED, 2, &[27]);
+        }
+    }
+    for sheet in [call("0000", "00"), call("0100", "04")] {
+        loads(&sheet, REFUSED, 26, &[27]);
+        gives(|out| raw::read(FOUR, &sheet, out), REFUSED, 26, &[27]);
+        gives(|out| raw::word_test(FOUR, &sheet, 9, &[99], out), REFUSED, 26, &[27]);
+    }
+    loads(&high, UNPROVED, 11, &[3, 0, 4, 0, 63, 1]);
+    for on in [LARGE, ENTRY] {
+        gives(|out| raw::load(on, &high, out), REFUSED, 2, &[3]);
+    }
+    gives(|out| raw::word_test(FOUR, &high, 1, &[63], out), YES, 0, &[]);
+    gives(|out| raw::word_test(FOUR, &high, 1, &[62], out), NO, 0, &[]);
+    gives(|out| raw::word_test(FOUR, &high, 1, &[63, 64], out), REFUSED, 13, &[1]);
+    for on in [LARGE, ENTRY] {
+        gives(|out| raw::word_test(on, &least(), 0, &[31, 32], out), REFUSED, 13, &[1]);
+    }
 }
 
 /// Numbers of no instrument.
 const UNKNOWN: [usize; 13] = [
     0,
-    3,
     4,
     5,
     8,
@@ -165,6 +211,7 @@ const UNKNOWN: [usize; 13] = [
     65_538,
     LARGE | 1 << 32,
     ENTRY | 1 << 32,
+    FOUR | 1 << 32,
     usize::MAX - 1,
     usize::MAX,
 ];
@@ -219,7 +266,7 @@ fn stack_of_the_entry_instrument() {
 fn testing_words() {
     let sheet = condition();
     let tests = |condition: usize, word: &[u8], status, number, values: &[usize]| {
-        for on in [LARGE, ENTRY] {
+        for on in [LARGE, ENTRY, FOUR] {
             gives(|out| raw::word_test(on, &sheet, condition, word, out), status, number, values);
         }
     };
@@ -228,14 +275,14 @@ fn testing_words() {
     tests(0, &[0, 2], NO, 0, &[]);
     tests(0, &[2; 4_096], YES, 0, &[]);
     tests(0, &[2; 4_097], REFUSED, 12, &[NO_PLACE]);
-    tests(0, &[2, 32], REFUSED, 13, &[1]);
+    tests(0, &[2, 64], REFUSED, 13, &[1]);
     tests(1, &[2], REFUSED, 14, &[NO_PLACE]);
     tests(usize::MAX, &[2], REFUSED, 14, &[NO_PLACE]);
-    for on in [LARGE, ENTRY] {
+    for on in [LARGE, ENTRY, FOUR] {
         gives(|out| raw::word_test(on, &[15], 0, &[], out), REFUSED, 3, &[0]);
         gives(|out| raw::word_test(on, &[18], 0, &[], out), REFUSED, 9, &[1]);
         gives(|out| raw::word_test(on, &[20], 0, &[], out), REFUSED, 3, &[0]);
-        gives(|out| raw::word_test(on, &[21], 0, &[], out), REFUSED, 2, &[0]);
+        gives(|out| raw::word_test(on, &[23], 0, &[], out), REFUSED, 2, &[0]);
         gives(|out| raw::word_test(on, &other_outcomes(), 0, &[], out), REFUSED, 18, &[20]);
         gives(|out| raw::word_test(on, &late_edition(), 0, &[], out), REFUSED, 19, &[2]);
         gives(|out| raw::word_test(on, &old_stop(), 0, &[], out), REFUSED, 20, &[20]);
@@ -246,13 +293,15 @@ fn testing_words() {
         gives(|out| raw::word_test(on, &stop(false), 1, &[], out), NO, 0, &[]);
     }
     let long = [0; 8_193];
-    gives(|out| raw::word_test(LARGE, &long, 0, &[], out), REFUSED, 2, &[0]);
+    for on in [LARGE, FOUR] {
+        gives(|out| raw::word_test(on, &long, 0, &[], out), REFUSED, 2, &[0]);
+    }
     gives(|out| raw::word_test(ENTRY, &long, 0, &[], out), REFUSED, 1, &[8_192]);
 }
 
 #[test]
 fn reading() {
-    for on in [LARGE, ENTRY] {
+    for on in [LARGE, ENTRY, FOUR] {
         gives(|out| raw::read(on, &least(), out), READ_WHOLE, 0, &[1, 1, 1, 0, 3]);
         gives(|out| raw::read(on, &unproved(), out), READ_WHOLE, 0, &[2, 1, 1, 0, 3]);
         gives(|out| raw::read(on, &failed_future(), out), READ_WHOLE, 0, &[2, 1, 1, 0, 5]);
@@ -266,7 +315,9 @@ fn reading() {
         gives(|out| raw::read(on, &unknown_owner(), out), REFUSED, 25, &[9]);
     }
     let points = hex(&format!("02 06 {} {BODY}", POINT.repeat(65)));
-    gives(|out| raw::read(LARGE, &points, out), READ_WHOLE, 0, &[1, 65, 1, 0, 0]);
+    for on in [LARGE, FOUR] {
+        gives(|out| raw::read(on, &points, out), READ_WHOLE, 0, &[1, 65, 1, 0, 0]);
+    }
     gives(|out| raw::read(ENTRY, &points, out), REFUSED, 6, &[450]);
     gives(|out| raw::read(ENTRY, &points[..450], out), REFUSED, 9, &[450]);
 }
@@ -276,19 +327,23 @@ fn reading() {
 fn from_c() {
     for standard in ["c89", "c99"] {
         let Some(program) = compiled(standard) else { return };
-        from_c_prints(&program, &least(), ["accepted 0 6 0 0 0 0 0"; 2]);
-        from_c_prints(&program, &[15], ["refused 3 0 0 0 0 0 0"; 2]);
-        from_c_prints(&program, &[18], ["refused 9 1 0 0 0 0 0"; 2]);
-        from_c_prints(&program, &[20], ["refused 3 0 0 0 0 0 0"; 2]);
-        from_c_prints(&program, &[21], ["refused 2 0 0 0 0 0 0"; 2]);
-        from_c_prints(&program, &other_owner(), ["refused 24 42 0 0 0 0 0"; 2]);
-        from_c_prints(&program, &unknown_owner(), ["refused 25 9 0 0 0 0 0"; 2]);
-        from_c_prints(&program, &old_stop(), ["refused 20 20 0 0 0 0 0"; 2]);
-        from_c_prints(&program, &call_due(), ["unproved 11 26 0 3 0 0 0"; 2]);
-        from_c_prints(&program, &unproved(), ["unproved 11 5 0 3 0 0 0"; 2]);
-        from_c_prints(&program, &other_outcomes(), ["refused 18 20 0 0 0 0 0"; 2]);
+        from_c_prints(&program, &least(), ["accepted 0 6 0 0 0 0 0"; 3]);
+        from_c_prints(&program, &[15], ["refused 3 0 0 0 0 0 0"; 3]);
+        from_c_prints(&program, &[18], ["refused 9 1 0 0 0 0 0"; 3]);
+        from_c_prints(&program, &[20], ["refused 3 0 0 0 0 0 0"; 3]);
+        from_c_prints(&program, &[23], ["refused 2 0 0 0 0 0 0"; 3]);
+        for kind in [21, 22] {
+            let lines = ["refused 2 0 0 0 0 0 0"; 2];
+            from_c_prints(&program, &[kind], [lines[0], lines[1], "refused 3 0 0 0 0 0 0"]);
+        }
+        from_c_prints(&program, &other_owner(), ["refused 24 42 0 0 0 0 0"; 3]);
+        from_c_prints(&program, &unknown_owner(), ["refused 25 9 0 0 0 0 0"; 3]);
+        from_c_prints(&program, &old_stop(), ["refused 20 20 0 0 0 0 0"; 3]);
+        from_c_prints(&program, &call_due(), ["unproved 11 26 0 3 0 0 0"; 3]);
+        from_c_prints(&program, &unproved(), ["unproved 11 5 0 3 0 0 0"; 3]);
+        from_c_prints(&program, &other_outcomes(), ["refused 18 20 0 0 0 0 0"; 3]);
         let lines = ["refused 2 0 0 0 0 0 0", "refused 1 8192 0 0 0 0 0"];
-        from_c_prints(&program, &[0; 8_193], lines);
+        from_c_prints(&program, &[0; 8_193], [lines[0], lines[1], lines[0]]);
         std::fs::remove_file(program).unwrap();
     }
 }
@@ -307,13 +362,15 @@ fn compiled(standard: &str) -> Option<PathBuf> {
     Some(program)
 }
 
-/// The program prints these answers of the large and of the entry instrument.
-fn from_c_prints(program: &Path, sheet: &[u8], [large, entry]: [&str; 2]) {
+/// The program prints these answers of the large, the entry and the four-channel
+/// instrument.
+fn from_c_prints(program: &Path, sheet: &[u8], [large, entry, four]: [&str; 3]) {
     let mut child =
         Command::new(program).stdin(Stdio::piped()).stdout(Stdio::piped()).spawn().unwrap();
     child.stdin.take().unwrap().write_all(sheet).unwrap();
     let output = child.wait_with_output().unwrap();
-    let lines = format!("large: {large}\nentry: {entry}\nentry alone: {entry}\nnot written\n");
+    let lines = format!("large: {large}\nentry: {entry}\nentry alone: {entry}\n");
+    let lines = format!("{lines}four: {four}\nnot written\n");
     let unknown = "0: unknown instrument 0 0 0 0 0 0 0\n";
     assert_eq!(String::from_utf8(output.stdout).unwrap(), lines + unknown);
 }

@@ -1,10 +1,10 @@
-//! The limits of both instruments, and what request 8 states of them.
+//! The limits of the instruments, and what requests 8 and 11 state of them.
 use super::{every, hex, least, loads_on, tests_on, BODY, BOTH, POINT};
 use crate::answer::{Refusal, Verdict};
-use crate::instrument::{self, Instrument, ENTRY, LARGE};
+use crate::instrument::{self, Instrument, ENTRY, FOUR, LARGE};
 use crate::random::Random;
-use crate::sheets;
-use crate::smaller::{way, Way};
+use crate::sheets::{self, Test};
+use crate::smaller::{way, Way, Ways};
 
 /// An accepted sheet of a length.
 fn of_length(length: usize) -> Vec<u8> {
@@ -34,7 +34,7 @@ fn reads_on(on: &Instrument, sheet: &[u8], refusal: Option<Refusal>) {
 
 #[test]
 fn bytes() {
-    for on in instrument::BOTH {
+    for on in instrument::ALL {
         for length in [on.bytes - 1, on.bytes] {
             loads_on(&on, &of_length(length), "accepted 6");
             loads_on(&on, &vec![0; length], "refused 2 at 0");
@@ -56,7 +56,7 @@ fn bytes() {
 
 #[test]
 fn points() {
-    for on in instrument::BOTH {
+    for on in instrument::ALL {
         loads_on(&on, &with_points(on.points - 1), "accepted 6");
         loads_on(&on, &with_points(on.points), "accepted 6");
         let sheet = hex(&format!("02 06 {} {BODY}", POINT.repeat(on.points + 1)));
@@ -76,7 +76,7 @@ fn a_point_too_many_and_another_fault() {
         sheet[point_at(point) + 3] = 1;
         sheet
     };
-    for on in instrument::BOTH {
+    for on in instrument::ALL {
         let at = point_at(on.points);
         for point in [on.points, on.points + 1] {
             loads_on(&on, &misnamed(&on, point), &format!("refused 6 at {at}"));
@@ -84,7 +84,7 @@ fn a_point_too_many_and_another_fault() {
         let before = format!("refused 7 at {}", point_at(on.points - 1));
         loads_on(&on, &misnamed(&on, on.points - 1), &before);
         let mut sheet = with_points(on.points + 1);
-        for (kind, number) in [(0, 2), (21, 2), (3, 4), (18, 4), (20, 6)] {
+        for (kind, number) in [(0, 2), (on.kinds + 1, 2), (3, 4), (18, 4), (20, 6)] {
             sheet[at] = kind;
             loads_on(&on, &sheet, &format!("refused {number} at {at}"));
         }
@@ -96,14 +96,14 @@ fn a_point_too_many_and_another_fault() {
     loads_on(&LARGE, &misnamed(&ENTRY, ENTRY.points), &format!("refused 7 at {at}"));
 }
 
-/// What has nothing to do with bytes and points is equal on both.
+/// What has nothing to do with bytes, points, kinds and events is equal on all.
 #[test]
 fn other_refusals() {
     let steps = |count: usize| format!("02 06 {POINT} {BODY} {}", "0C 0000 0000".repeat(count));
     let methods = |count: usize| format!("02 06 {POINT} {}", BODY.repeat(count));
     let leaves = |count: usize| format!("01 00000000 {} 06", "01 00000000 04".repeat(count - 1));
     let sheets = [
-        ("15".to_string(), "refused 2 at 0"),
+        ("17".to_string(), "refused 2 at 0"),
         ("14".to_string(), "refused 3 at 0"),
         ("0F".to_string(), "refused 3 at 0"),
         ("01".to_string(), "refused 3 at 0"),
@@ -123,7 +123,7 @@ fn other_refusals() {
         ("02 06 08 0000 0000 0000".to_string(), "refused 9 at 2"),
         (String::new(), "refused 9 at 0"),
     ];
-    for on in instrument::BOTH {
+    for on in instrument::ALL {
         for (text, line) in &sheets {
             loads_on(&on, &hex(text), line);
         }
@@ -131,8 +131,8 @@ fn other_refusals() {
         loads_on(&on, &sheet[..40], "refused 8 at 40");
         tests_on(&on, &sheet, 0, &[0; 4_096], "no");
         tests_on(&on, &sheet, 0, &[0; 4_097], "refused 12");
-        tests_on(&on, &sheet, 0, &[0, 32], "refused 13 at 1");
-        tests_on(&on, &sheet, 1, &[32; 4_097], "refused 14");
+        tests_on(&on, &sheet, 0, &[0, on.events], "refused 13 at 1");
+        tests_on(&on, &sheet, 1, &[64; 4_097], "refused 14");
     }
 }
 
@@ -150,24 +150,25 @@ fn the_entry_instruments_own_function() {
 
 /// How often the statement holds in each way, and how often it is false, for random
 /// limits: the first instrument no larger than the second, or the other way round.
-fn ways(turned: bool) -> [usize; 4] {
+fn ways(turned: bool) -> Ways {
     let mut random = Random::new(22);
-    let mut seen = [0; 4];
+    let mut seen = Ways::default();
     for _ in 0..1_500 {
         let sheet = sheets::sheet(&mut random);
-        let [mut small, mut large] = sheets::limits(&sheet, &mut random);
+        let [small, large] = sheets::limits(&sheet, &mut random);
         assert!(small.bytes <= large.bytes && small.points <= large.points);
-        if turned {
-            (small, large) = (large, small);
-        }
+        assert!(small.kinds <= large.kinds && small.events <= large.events);
+        let pair = if turned { [large, small] } else { [small, large] };
+        let words = sheets::words(&sheet, &mut random);
         for doors in BOTH {
-            let [one, two] = [small, large].map(|on| (doors.load)(&on, &sheet));
-            seen[match way(&small, one.refusal(), one == two) {
-                Some(Way::TooLong) => 0,
-                Some(Way::TooMany) => 1,
-                Some(Way::Same) => 2,
-                None => 3,
-            }] += 1;
+            let [one, two] = pair.map(|on| (doors.load)(&on, &sheet));
+            let same = one == two;
+            seen.count(way(&pair, &sheet, &[], one.refusal(), same), same);
+            for Test { condition, word } in &words {
+                let [one, two] = pair.map(|on| (doors.word_test)(&on, &sheet, *condition, word));
+                let same = one == two;
+                seen.count(way(&pair, &sheet, word, one.refusal(), same), same);
+            }
         }
     }
     seen
@@ -175,18 +176,20 @@ fn ways(turned: bool) -> [usize; 4] {
 
 #[test]
 fn the_statement_over_any_limits() {
-    let [too_long, too_many, same, broken] = ways(false);
-    assert!(too_long.min(too_many).min(same) > 300, "{too_long} {too_many} {same}");
-    assert_eq!(broken, 0);
-    let [.., broken] = ways(true);
-    assert!(broken > 300, "{broken}");
+    let seen = ways(false);
+    assert!(seen.ways.iter().all(|&count| count > 20), "{:?}", seen.ways);
+    assert_eq!(seen.broken, 0);
+    let seen = ways(true);
+    assert!(seen.broken > 300, "{}", seen.broken);
 }
 
 /// Each way to break the statement is seen.
 #[test]
 fn the_statement_can_be_false() {
     let refused = |number, place| Verdict::Refused(Refusal::at(number, place));
-    let of = |one: Verdict, two: Verdict| way(&ENTRY, one.refusal(), one == two);
+    let of = |one: Verdict, two: Verdict| {
+        way(&[ENTRY, LARGE], &[7; 500], &[], one.refusal(), one == two)
+    };
     let accepted = Verdict::Accepted;
     assert_eq!(of(accepted(6), accepted(6)), Some(Way::Same));
     assert_eq!(of(refused(1, 8_192), accepted(6)), Some(Way::TooLong));
@@ -198,7 +201,36 @@ fn the_statement_can_be_false() {
         (refused(1, 65_536), accepted(6)),
         (refused(7, 9), refused(7, 8)),
         (refused(7, 9), accepted(6)),
+        (refused(2, 9), accepted(6)),
     ] {
         assert_eq!(of(one, two), None);
     }
+}
+
+/// The same of the large and the four-channel instrument: records of kinds 20 to 23, and
+/// event steps with events around the bounds.
+#[test]
+fn the_statement_of_four_channels_can_be_false() {
+    let sheet = [&[20, 21, 22, 23][..], &[10, 0, 0, 0, 0, 31], &[10, 0, 0, 0, 0, 32]].concat();
+    let sheet = [&sheet[..], &[10, 0, 0, 0, 0, 63], &[10, 0, 0, 0, 0, 64], &[11; 8]].concat();
+    let word = [31, 32, 63, 64];
+    let of = |number, place, same| {
+        let refusal = Some(Refusal::at(number, place));
+        way(&[LARGE, FOUR], &sheet, &word, refusal, same)
+    };
+    for at in 0..sheet.len() + 2 {
+        let kind = [1, 2].contains(&at).then_some(Way::LaterKind);
+        let event = [10, 16].contains(&at).then_some(Way::LaterEvent);
+        let index = [1, 2].contains(&at).then_some(Way::LaterEvent);
+        for (number, expected) in [(2, kind), (7, event), (13, index), (5, None)] {
+            assert_eq!(of(number, at, false), expected, "{number} {at}");
+            assert_eq!(of(number, at, true), expected.or(Some(Way::Same)), "{number} {at}");
+        }
+    }
+    // Bytes and points are equal.
+    for (number, place) in [(1, LARGE.bytes), (6, 9), (26, 2)] {
+        assert_eq!(of(number, place, false), None);
+        assert_eq!(of(number, place, true), Some(Way::Same));
+    }
+    assert_eq!(way(&[LARGE, FOUR], &sheet, &word, None, false), None);
 }

@@ -4,7 +4,7 @@ use crate::answer::{Counts, Doors, Refusal};
 use crate::instrument::{self, Instrument, FORMER_KINDS};
 
 /// Each kind with the length of its body.
-const LENGTHS: [(u8, usize); 20] = [
+const LENGTHS: [(u8, usize); 22] = [
     (1, 4),
     (2, 0),
     (3, 0),
@@ -25,6 +25,8 @@ const LENGTHS: [(u8, usize); 20] = [
     (18, 0),
     (19, 2),
     (20, 8),
+    (21, 8),
+    (22, 7),
 ];
 
 /// One more than the longest body.
@@ -66,7 +68,7 @@ fn agree(on: &Instrument, loaders: &[Doors], front: &[u8], byte: u8) {
 
 #[test]
 fn lengths_at_the_first_byte() {
-    for on in instrument::BOTH {
+    for on in instrument::ALL {
         for byte in [0, 1, 255] {
             agree(&on, &every(), &[], byte);
         }
@@ -75,7 +77,7 @@ fn lengths_at_the_first_byte() {
 
 #[test]
 fn lengths_behind_records() {
-    for on in instrument::BOTH {
+    for on in instrument::ALL {
         for front in fronts() {
             agree(&on, &every(), &front, 0);
         }
@@ -85,7 +87,7 @@ fn lengths_behind_records() {
 /// The library has no instruments with fewer kinds.
 #[test]
 fn lengths_with_fewer_kinds() {
-    for on in instrument::BOTH {
+    for on in instrument::ALL {
         for kinds in FORMER_KINDS {
             for front in [vec![], least()[..20].to_vec()] {
                 agree(&on.former(kinds), &BOTH, &front, 0);

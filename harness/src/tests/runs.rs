@@ -142,13 +142,13 @@ fn missing_words() {
 /// Sheets that are not accepted have runs that break each part.
 #[test]
 fn breaks_are_found() {
-    let path = vectors::sheets_file(concat!(env!("CARGO_MANIFEST_DIR"), "/../crates"));
+    let crates = concat!(env!("CARGO_MANIFEST_DIR"), "/../crates");
     let mut totals = Totals::default();
     let mut random = Random::new(3);
-    for sheet in vectors::sheets(&fs::read(path).unwrap()).unwrap() {
+    for sheet in vectors::stored_sheets(crates, vectors::SHEETS).unwrap() {
         let line = naive::load(&LARGE, &sheet).to_string();
         if line.starts_with("unproved") && line.contains("clause 3") {
-            totals.sheet(&sheet, &mut random);
+            totals.sheet(&LARGE, &sheet, &mut random);
         }
     }
     for broken in [Broken::Pre, Broken::Trace, Broken::Future, Broken::Owed] {

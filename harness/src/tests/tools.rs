@@ -1,7 +1,7 @@
 //! The tools themselves.
 use super::{hex, least, BOTH};
 use crate::answer::Verdict;
-use crate::instrument::{ENTRY, LARGE};
+use crate::instrument::{ENTRY, FOUR, LARGE};
 use crate::random::Random;
 use crate::tree::Tree;
 use crate::{compare, naive, reference, sheets, stack, vectors};
@@ -43,6 +43,39 @@ fn timed_sheets_are_accepted() {
     assert_eq!(counts.certificates, 65_516);
     for (sheet, word) in [sheets::steady_word(), sheets::changing_word(), sheets::single_word()] {
         assert_eq!(reference::word_test(&LARGE, &sheet, 1, &word).to_string(), "yes");
+    }
+}
+
+#[test]
+fn timed_sheets_of_four_channels() {
+    for sheet in [sheets::channel_rules(), sheets::starred_channel_rules()] {
+        assert_eq!(sheet.len(), 65_536);
+        assert!(sheets::has_channel(&sheet));
+        assert_eq!(reference::load(&FOUR, &sheet), Verdict::Accepted(2_566));
+    }
+    let large = sheets::four_certificate();
+    assert_eq!(sheets::pairs(&large), 10_371);
+    assert_eq!(reference::load(&FOUR, &large), Verdict::Accepted(6));
+    for make in sheets::FOUR_WORDS {
+        let (sheet, word) = make();
+        assert!(word.contains(&63));
+        assert_eq!(reference::word_test(&FOUR, &sheet, 1, &word).to_string(), "yes");
+    }
+    for sheet in sheets::small_channels(200) {
+        assert!(sheets::has_channel(&sheet));
+        assert!(matches!(reference::load(&FOUR, &sheet), Verdict::Accepted(_)));
+    }
+}
+
+#[test]
+fn hostile_sheets_of_four_channels() {
+    let doubled = sheets::HOSTILE.map(|(name, make)| (name, sheets::doubled(make)));
+    let each = ("each of 64 events", sheets::each_of_64(usize::MAX));
+    for (name, sheet) in doubled.into_iter().chain([each]) {
+        assert!((65_526..=65_536).contains(&sheet.len()), "{name}: {}", sheet.len());
+        assert!(sheets::pairs(&sheet) > 10_700, "{name}: {}", sheets::pairs(&sheet));
+        assert!(matches!(reference::load(&FOUR, &sheet), Verdict::Accepted(_)), "{name}");
+        assert_eq!(reference::load(&LARGE, &sheet).refusal().map(|r| r.number), Some(2), "{name}");
     }
 }
 

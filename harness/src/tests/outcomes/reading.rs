@@ -1,7 +1,7 @@
 //! The records of kinds 15 to 17, and refusal 18.
 use crate::answer::{Counts, Refusal};
 use crate::former::{way, Way};
-use crate::instrument::{Instrument, BOTH, ENTRY, FORMER_KINDS, LARGE};
+use crate::instrument::{Instrument, ALL, FORMER_KINDS};
 use crate::random::Random;
 use crate::sheets;
 use crate::tests::{every, hex, loads_on, refused, tests_on, BODY, BOTH as LOADERS, POINT};
@@ -23,7 +23,7 @@ fn body_lengths() {
     for (kind, length) in [(15, 10), (16, 16), (17, 8u8)] {
         for shorter in 0..length as usize {
             let sheet = [&[kind][..], &vec![0; shorter]].concat();
-            for on in BOTH {
+            for on in ALL {
                 loads_on(&on, &sheet, "refused 3 at 0");
             }
         }
@@ -46,13 +46,15 @@ fn body_lengths() {
 
 #[test]
 fn kinds() {
-    for kind in 21..=255u8 {
-        refused(&format!("{kind:02X}"), "refused 2 at 0");
+    for on in ALL {
+        for kind in on.kinds + 1..=255 {
+            loads_on(&on, &[kind], "refused 2 at 0");
+        }
     }
     refused("00", "refused 2 at 0");
-    // Without request 2, 15 to 20 are no kinds.
-    for kind in 15..=20u8 {
-        for on in BOTH {
+    // Without request 2, 15 to 22 are no kinds.
+    for kind in 15..=22u8 {
+        for on in ALL {
             for doors in LOADERS {
                 let refusal = (doors.read)(&on.former(14), &[kind; 40]);
                 assert_eq!(refusal, Err(Refusal::at(2, 0)), "{}", doors.name);
@@ -128,7 +130,7 @@ fn names() {
                     true => format!("refused 10 at {}", sheet.len()),
                     false => format!("refused 7 at {at}"),
                 };
-                for on in BOTH {
+                for on in ALL {
                     loads_on(&on, &sheet, &line);
                 }
             }
@@ -176,7 +178,7 @@ fn the_first_method() {
     for field in 0..5 {
         let mut sheet = hex(&format!("02 06 {FAILING_PRIMITIVE}"));
         sheet[3 + 2 * field] = 1;
-        for on in BOTH {
+        for on in ALL {
             loads_on(&on, &sheet, "refused 7 at 2");
         }
     }
@@ -226,7 +228,7 @@ fn the_order_of_18() {
 fn tally() {
     let sheet = hex(&format!("{} {FAILING_CALL} 0300 {CALL} 0100 0E", four_methods()));
     let counts = Counts { conditions: 1, points: 1, methods: 4, steps: 2, certificates: 1 };
-    for on in BOTH {
+    for on in ALL {
         for doors in every() {
             assert_eq!((doors.read)(&on, &sheet), Ok(counts), "{}", doors.name);
         }
@@ -237,11 +239,15 @@ fn tally() {
 /// Each way to be judged otherwise than before is seen.
 #[test]
 fn judged_as_before_can_be_false() {
-    let sheet = [2, 6, 15, 16, 17, 18, 19, 20, 21, 14];
+    let sheet = [2, 6, 15, 16, 17, 18, 19, 20, 21, 22, 23, 14];
     let two = |at| Some(Refusal::at(2, at));
-    for (kinds, later) in FORMER_KINDS.into_iter().zip([2..8, 5..8, 7..8]) {
+    let highest = [20, 22].into_iter().zip([8, 10]);
+    let cases = highest.flat_map(|(now, end)| {
+        FORMER_KINDS.into_iter().zip([2, 5, 7]).map(move |(kinds, at)| ([kinds, now], at..end))
+    });
+    for (kinds, later) in cases {
         let way = |refusal, same| way(&sheet, kinds, refusal, same);
-        for at in 0..11 {
+        for at in 0..13 {
             let other = later.contains(&at).then_some(Way::LaterKind);
             assert_eq!(way(two(at), false), other);
             assert_eq!(way(two(at), true), other.or(Some(Way::Same)));
@@ -260,11 +266,12 @@ fn judged_as_before() {
     let mut seen = [[0; 2]; FORMER_KINDS.len()];
     for _ in 0..1_500 {
         let sheet = sheets::sheet(&mut random);
-        for on in [LARGE, ENTRY, Instrument::of(sheet.len(), 5)] {
+        for on in ALL.into_iter().chain([Instrument::of(sheet.len(), 5)]) {
             for doors in LOADERS {
                 let now = (doors.load)(&on, &sheet);
                 for (kinds, seen) in FORMER_KINDS.into_iter().zip(&mut seen) {
                     let former = (doors.load)(&on.former(kinds), &sheet);
+                    let kinds = [kinds, on.kinds];
                     let way = way(&sheet, kinds, former.refusal(), former == now);
                     assert!(way.is_some(), "{}: {former}, {now}", doors.name);
                     seen[(way == Some(Way::LaterKind)) as usize] += 1;

@@ -7,7 +7,7 @@ use crate::random::Random;
 use crate::sheets::{self, certificate, Draft, Method, Step};
 use crate::smaller::{self, Way};
 use crate::tests::{loads, BOTH};
-use crate::tree::Tree;
+use crate::tree::{Tree, TWO_CHANNELS};
 use std::collections::BTreeSet;
 
 const THIRD: &str = "clause 3 pair 0 event 0 place 0";
@@ -305,7 +305,7 @@ fn lines() {
 #[test]
 fn steps_behind_65536_bytes() {
     // 95 records with 31 leaves; its words have 31 events.
-    let every = || Tree::Leaf(u32::MAX);
+    let every = || Tree::Leaf(TWO_CHANNELS);
     let long = (0..17).fold(every(), |tree, _| tree.join(Tree::Empty));
     let long = (1..31).fold(long, |tree, _| tree.join(every()));
     let mut draft = Draft { conditions: vec![long; 256], ..Draft::default() };
@@ -382,11 +382,13 @@ fn on_a_smaller_instrument() {
         for pair in [pair, [ENTRY, LARGE]] {
             for doors in BOTH {
                 let [one, two] = pair.map(|on| (doors.load)(&on, &sheet));
-                let way = smaller::way(&pair[0], one.refusal(), one == two);
+                let way = smaller::way(&pair, &sheet, &[], one.refusal(), one == two);
                 seen[match way.unwrap() {
                     Way::TooLong => 0,
                     Way::TooMany => 1,
                     Way::Same => 2,
+                    // Nothing in these sheets is of the four-channel instrument alone.
+                    other => panic!("{other:?}"),
                 }] += 1;
             }
         }

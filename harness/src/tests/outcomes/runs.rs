@@ -257,8 +257,12 @@ fn random_runs() {
         }
         let sheet = draft.certified();
         match naive::load(&LARGE, &sheet) {
-            Verdict::Accepted(_) if accepted.sheets < 60 => accepted.sheet(&sheet, &mut random),
-            Verdict::Unproved { .. } if unproved.sheets < 60 => unproved.sheet(&sheet, &mut random),
+            Verdict::Accepted(_) if accepted.sheets < 60 => {
+                accepted.sheet(&LARGE, &sheet, &mut random)
+            }
+            Verdict::Unproved { .. } if unproved.sheets < 60 => {
+                unproved.sheet(&LARGE, &sheet, &mut random)
+            }
             _ => {}
         }
     }

@@ -1,6 +1,6 @@
 //! What comes before 24 and 25, and what behind them.
 use super::{body, head, judged, names, owned, pass, FAILING_PRIMITIVE, PRIMITIVE};
-use crate::instrument::BOTH;
+use crate::instrument::ALL;
 use crate::tests::{hex, loads_on, refused, BODY, PAIR, POINT};
 
 /// A point without owner, one of each of three methods: a body with the first point, a
@@ -24,7 +24,7 @@ fn before_24_at_a_step() {
     judge("0C", &[1, 3], "", 24);
     judge("0C", &[1, 4], "", 7);
     judge("0A", &[1, 3], "1F", 24);
-    judge("0A", &[1, 3], "20", 7);
+    judge("0A", &[1, 3], "40", 7);
     judge("0B", &[1, 3, 1], "", 24);
     judge("0B", &[1, 3, 3], "", 7);
     judge("0B", &[1, 3, 2], "", 18);
@@ -126,7 +126,7 @@ fn before_rules() {
     };
     refused(&sheet(1, "02"), "refused 25 at 9");
     refused(&sheet(1, "01 00000000"), "refused 25 at 13");
-    for on in BOTH {
+    for on in ALL {
         loads_on(&on, &hex(&sheet(0, "02")), "accepted 6");
         let line = "unproved rule 1 method 0 clause 5 pair 0 event 0 place 0";
         loads_on(&on, &hex(&sheet(0, "01 00000000")), line);

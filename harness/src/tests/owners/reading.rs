@@ -1,7 +1,7 @@
 //! The records of kind 20, and what 24 and 25 are about.
 use super::{body, head, judged, names, owned, pass, FAILING_PRIMITIVE, PRIMITIVE};
 use crate::answer::{Counts, Refusal, Verdict};
-use crate::instrument::{BOTH, FORMER_KINDS, LARGE};
+use crate::instrument::{ALL, FORMER_KINDS, LARGE};
 use crate::random::Random;
 use crate::sheets;
 use crate::tests::{every, hex, loads_on, refused, tests_on, BODY, BOTH as LOADERS, PAIR, POINT};
@@ -24,7 +24,7 @@ fn body_length() {
 fn kinds() {
     for kinds in FORMER_KINDS {
         for (text, at) in [("14".to_string(), 0), (format!("02 06 {POINT} {}", owned(0)), 9)] {
-            for on in BOTH {
+            for on in ALL {
                 for doors in LOADERS {
                     let refusal = (doors.read)(&on.former(kinds), &hex(&text));
                     assert_eq!(refusal, Err(Refusal::at(2, at)), "{}", doors.name);
@@ -81,7 +81,7 @@ fn names_of_a_point() {
 /// Points of both kinds count together.
 #[test]
 fn limits() {
-    for on in BOTH {
+    for on in ALL {
         let mixed = |kinds: [&str; 3], count: usize| -> String {
             (0..count).map(|number| kinds[number % 3]).collect()
         };
@@ -207,7 +207,7 @@ fn tally_and_words() {
     let front = head(&[None, Some(0), None, Some(1)]);
     let sheet = hex(&format!("{front} {BODY} {PRIMITIVE} {} {PAIR} 0E", pass(1, 2)));
     let counts = Counts { conditions: 1, points: 4, methods: 2, steps: 1, certificates: 1 };
-    for on in BOTH {
+    for on in ALL {
         for doors in every() {
             assert_eq!((doors.read)(&on, &sheet), Ok(counts), "{}", doors.name);
         }
@@ -256,7 +256,7 @@ fn random_sheets() {
     let mut seen: BTreeMap<(&str, String), usize> = BTreeMap::new();
     for _ in 0..8_000 {
         let sheet = sheets::sheet(&mut random);
-        for on in BOTH {
+        for on in ALL {
             let what = match (reference::load(&on, &sheet), sheets::points(&sheet)) {
                 (Verdict::Refused(Refusal { number: 24, place: Some(at) }), _) => {
                     format!("24 at kind {}", sheet[at])
@@ -272,7 +272,7 @@ fn random_sheets() {
     }
     let kinds = [9, 10, 11, 12, 16, 17].map(|kind| format!("24 at kind {kind}"));
     let others = ["25", "all owned", "some owned", "unproved, owned"].map(str::to_string);
-    for on in BOTH {
+    for on in ALL {
         for what in kinds.iter().chain(&others) {
             let count = seen.get(&(on.name, what.clone()));
             assert!(count.is_some_and(|&count| count > 20), "{what}: {seen:?}");

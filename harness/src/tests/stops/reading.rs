@@ -1,6 +1,6 @@
 //! The records of kinds 18 and 19, and refusals 19 and 20.
 use crate::answer::{Counts, Refusal, Verdict};
-use crate::instrument::{BOTH, FORMER_KINDS, LARGE};
+use crate::instrument::{ALL, FORMER_KINDS, LARGE};
 use crate::naive::{self, Act};
 use crate::random::Random;
 use crate::sheets::{self, Step};
@@ -41,7 +41,7 @@ fn kinds() {
         for (text, at) in
             [("12", 0), ("13 0000", 0), ("02 06 12", 2), ("02 12", 1), ("02 06 13", 2)]
         {
-            for on in BOTH {
+            for on in ALL {
                 for doors in LOADERS {
                     let refusal = (doors.read)(&on.former(kinds), &hex(text));
                     assert_eq!(refusal, Err(Refusal::at(2, at)), "{}", doors.name);
@@ -202,7 +202,7 @@ fn steps() {
     let mut draft = sheets::least();
     draft.new_edition = true;
     draft.steps = vec![Step::Stop(0); 512];
-    for on in BOTH {
+    for on in ALL {
         loads_on(&on, &draft.certified(), "accepted 518");
     }
 }
@@ -211,7 +211,7 @@ fn steps() {
 fn tally() {
     let sheet = hex(&format!("{} {STOP} {PASS} {STOP} 0E", new()));
     let counts = Counts { conditions: 1, points: 1, methods: 1, steps: 3, certificates: 1 };
-    for on in BOTH {
+    for on in ALL {
         for doors in every() {
             assert_eq!((doors.read)(&on, &sheet), Ok(counts), "{}", doors.name);
         }
@@ -223,7 +223,7 @@ fn tally() {
 fn words() {
     let rest = format!("01 04000000 06 02 01 08000000 04 06 {POINT} {BODY}");
     for text in [rest.clone(), format!("12 {rest}")] {
-        for on in BOTH {
+        for on in ALL {
             let test = |condition, word: &[u8], line| {
                 tests_on(&on, &hex(&text), condition, word, line);
             };
@@ -252,7 +252,7 @@ fn calls_a_body(sheet: &[u8]) -> bool {
 fn an_old_sheet_in_the_new_edition() {
     let mut random = Random::new(61);
     let mut seen = [0; 4];
-    for _ in 0..3_000 {
+    for _ in 0..4_500 {
         let sheet = sheets::sheet(&mut random);
         if sheet.contains(&18) || sheet.contains(&19) || sheet.len() == LARGE.bytes {
             continue;

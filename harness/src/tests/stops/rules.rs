@@ -7,7 +7,7 @@ use crate::random::Random;
 use crate::sheets::{self, certificate, Draft, Method, Step};
 use crate::smaller::{self, Way};
 use crate::tests::{loads, BOTH};
-use crate::tree::Tree;
+use crate::tree::{Tree, TWO_CHANNELS};
 use std::collections::BTreeSet;
 
 /// The points of `stopping` that the rules are about.
@@ -342,7 +342,7 @@ fn behind_65536_bytes() {
     let starred = |leaves: Tree| (0..35).fold(leaves, |tree, _| tree.star());
     let mut draft = Draft { new_edition: true, ..Draft::default() };
     draft.conditions = vec![starred(dead(31)); 256];
-    draft.conditions[255] = starred(dead(30)).join(Tree::Leaf(u32::MAX));
+    draft.conditions[255] = starred(dead(30)).join(Tree::Leaf(TWO_CHANNELS));
     draft.points = vec![[0; 3]; 876];
     draft.points[875] = [0, 0, 255];
     // Those that no record names have owners.
@@ -453,11 +453,13 @@ fn on_a_smaller_instrument() {
         for pair in [pair, [ENTRY, LARGE]] {
             for doors in BOTH {
                 let [one, two] = pair.map(|on| (doors.load)(&on, &sheet));
-                let way = smaller::way(&pair[0], one.refusal(), one == two);
+                let way = smaller::way(&pair, &sheet, &[], one.refusal(), one == two);
                 seen[match way.unwrap() {
                     Way::TooLong => 0,
                     Way::TooMany => 1,
                     Way::Same => 2,
+                    // Nothing in these sheets is of the four-channel instrument alone.
+                    other => panic!("{other:?}"),
                 }] += 1;
             }
         }

@@ -309,8 +309,12 @@ fn random_runs() {
         }
         let sheet = draft.certified();
         match naive::load(&LARGE, &sheet) {
-            Verdict::Accepted(_) if accepted.sheets < 80 => accepted.sheet(&sheet, &mut random),
-            Verdict::Unproved { .. } if unproved.sheets < 80 => unproved.sheet(&sheet, &mut random),
+            Verdict::Accepted(_) if accepted.sheets < 80 => {
+                accepted.sheet(&LARGE, &sheet, &mut random)
+            }
+            Verdict::Unproved { .. } if unproved.sheets < 80 => {
+                unproved.sheet(&LARGE, &sheet, &mut random)
+            }
             _ => {}
         }
     }
