@@ -828,7 +828,14 @@ class Documents(unittest.TestCase):
         self.assertEqual([line for _, line in owners],
                          [load_line(data) for data in
                           (M[:2] + stray + M[9:], M[:9] + stray + M[9:])])
-        rows = [row for row in rows if row not in entry + editions + owners]
+        four = [row for row in rows if row[0].endswith("four-channel instrument")]
+        self.assertEqual([shown[:2] for shown, _ in four], ["15", "16", "17"])
+        for shown, line in four:
+            self.assertEqual(load_line(bytes.fromhex(shown[:2]), FOUR_CHANNEL), line)
+        unknown = [row for row in rows if row[0] == "15"]
+        self.assertEqual([line for _, line in unknown], [load_line(b"\x15")])
+        others = entry + editions + owners + four + unknown
+        rows = [row for row in rows if row not in others]
         self.assertEqual([line for _, line in rows],
                          [case.line for case in starred()])
         for (shown, line), case in zip(rows, starred()):
