@@ -66,7 +66,7 @@ complete events left right c inc exact =
                 (only-in right (p .set) below);
             clause3 = λ h. someEnds-in right (p .set) below (reach-leads events left right inc reached [] h);
             clause4 = λ e q m n t.
-                let s = step right (p .set) e in
+                let s = step right (p .set) e .set in
                 listed-in right c q s (step-lt right (p .set) e) (exact .all-reachable (pair q s) (onward e q reached m n t));
           };
     })

@@ -46,7 +46,7 @@ module _ (n n′ : ℕ) (more : n ≤ n′) (left right : Condition) (below : Ev
     finding-fine : (i : ℕ) (p : Pair) (e q : ℕ) → n ≤ e → Fine (finding i p e q)
     finding-fine i p e q l =
         unless-in (test4 n′ left right c p e q) (fault 4 i e q)
-        (if-in (follows left (p .place) q && leafHolds left q e) (listed right c q (step right (p .set) e))
+        (if-in (follows left (p .place) q && leafHolds left q e) (listed right c q (step right (p .set) e .set))
         (λ h.
         let (_, t) = and-out (follows left (p .place) q) (leafHolds left q e) h in
         let m = held-lt q e t in

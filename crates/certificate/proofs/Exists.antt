@@ -60,7 +60,7 @@ module _ (events : ℕ) (left right : Condition) where
 
   -- the pair q comes next after the pair p, by the event e
   abbrev isNextBy : Pair → Pair → ℕ → Bool
-  isNextBy p q e = follows left (p .place) (q .place) && (leafHolds left (q .place) e && eqb (q .set) (step right (p .set) e))
+  isNextBy p q e = follows left (p .place) (q .place) && (leafHolds left (q .place) e && eqb (q .set) (step right (p .set) e .set))
 
   -- the pair q comes next after one of the pairs c
   abbrev isNext : Certificate → Pair → Bool
@@ -78,23 +78,23 @@ module _ (events : ℕ) (left right : Condition) where
           let (e, l, x) = any-out events (isNextBy p q) u in
           let (f, y) = and-out (follows left (p .place) (q .place)) _ x in
           let (g, z) = and-out (leafHolds left (q .place) e) _ y in
-          subst (λ s. Reached (pair (q .place) s)) (sym (eqb→eq (q .set) (step right (p .set) e) z))
+          subst (λ s. Reached (pair (q .place) s)) (sym (eqb→eq (q .set) (step right (p .set) e .set) z))
           (onward e (q .place) (h p (List·Memᴰ·head refl)) l f g)
 
   next-in : (c : Certificate) (p : Pair) (e q : ℕ) → List·Memᴰ p c → e < events → T (follows left (p .place) q) → T (leafHolds left q e)
-      → T (isNext c (pair q (step right (p .set) e)))
+      → T (isNext c (pair q (step right (p .set) e .set)))
   next-in [] p e q m l f g = absurd (List·Memᴰ·not-nil m)
   next-in (x ∷ c) p e q m l f g =
       ⊎-elim
       (λ i. or-left (anyBelow events (isNextBy x y)) (isNext c y)
       (any-in events (isNextBy x y) e l
       (subst (λ (z : Pair). T (isNextBy z y e)) i
-      (and-in (follows left (p .place) q) _ f (and-in (leafHolds left q e) _ g (eqb-refl (step right (p .set) e)))))))
+      (and-in (follows left (p .place) q) _ f (and-in (leafHolds left q e) _ g (eqb-refl (step right (p .set) e .set)))))))
       (λ k. or-right (anyBelow events (isNextBy x y)) (isNext c y) (next-in c p e q k l f g))
       (List·Memᴰ·cases-cons m)
     where
       y : Pair
-      y = pair q (step right (p .set) e)
+      y = pair q (step right (p .set) e .set)
 
   -- Growing a list of pairs -----------------------------------------------------------------------------------------------
 
@@ -170,7 +170,7 @@ module _ (events : ℕ) (left right : Condition) where
   all-listed : {p : Pair} → Reached p → List·Memᴰ p (fromStart (all-grown .grown))
   all-listed start = List·Memᴰ·head refl
   all-listed (onward {l = l} {s = s} e q r h n t) =
-      let p = pair q (step right s e) in
+      let p = pair q (step right s e .set) in
       let reached = onward e q r h n t in
       all-grown .closed p
       (below-member (places left) (2 ^ places right) p (reach-place events left right reached) (reach-set events left right reached))

@@ -37,9 +37,9 @@ module _ (events : ℕ) (left right : Condition) (c : Certificate) (ok : Valid e
   carried (e ∷ w) o i l h =
       let (q, n, t, k) = h in
       let (j, m, x) = any-out (length c) _ (ok .pairs i l .clause4 e q (o .0) n t) in
-      let (y, z) = and-out (eqb (pairOf c j .place) q) (within right (pairOf c j .set) (step right (pairOf c i .set) e)) x in
+      let (y, z) = and-out (eqb (pairOf c j .place) q) (within right (pairOf c j .set) (step right (pairOf c i .set) e .set)) x in
       let (p, a, d) = carried w (o .1) j m (rw (eqb→eq (pairOf c j .place) q y) k) in
-      let (p′, a′, n′, t′) = step-out right (pairOf c i .set) e p (within-out right (pairOf c j .set) (step right (pairOf c i .set) e) p z a) in
+      let (p′, a′, n′, t′) = step-out right (pairOf c i .set) e p (within-out right (pairOf c j .set) (step right (pairOf c i .set) e .set) p z a) in
       (p′, a′, (p, n′, t′, d))
 
   included : (w : Word) → Over events w → Holds left w → Holds right w

@@ -18,7 +18,7 @@ module _ (events : ℕ) (left right : Condition) (c : Certificate) where
   pub record ValidPair (p : Pair) : Type 0 where
     pub clause2 : T (ltb (p .place) (places left) && onlyPlaces right (p .set))
     pub clause3 : T (ends left (p .place)) → T (someEnds right (p .set))
-    pub clause4 : (e q : ℕ) → e < events → T (follows left (p .place) q) → T (leafHolds left q e) → T (listed right c q (step right (p .set) e))
+    pub clause4 : (e q : ℕ) → e < events → T (follows left (p .place) q) → T (leafHolds left q e) → T (listed right c q (step right (p .set) e .set))
 
   pub record Valid : Type 0 where
     pub clause1 : T (startsRight c)
@@ -32,7 +32,7 @@ module _ (events : ℕ) (left right : Condition) (c : Certificate) where
   test3 p = ends left (p .place) ⇒ someEnds right (p .set)
 
   abbrev pub test4 : Pair → ℕ → ℕ → Bool
-  test4 p e q = (follows left (p .place) q && leafHolds left q e) ⇒ listed right c q (step right (p .set) e)
+  test4 p e q = (follows left (p .place) q && leafHolds left q e) ⇒ listed right c q (step right (p .set) e .set)
 
   -- and their findings for pair i
   abbrev finding2 : ℕ → Pair → Finding
@@ -53,7 +53,7 @@ module _ (events : ℕ) (left right : Condition) (c : Certificate) where
         clause2 = unless-out (test2 p) _ x;
         clause3 = if-out (ends left (p .place)) (someEnds right (p .set)) (unless-out (test3 p) _ y);
         clause4 = λ e q l n t.
-            if-out (follows left (p .place) q && leafHolds left q e) (listed right c q (step right (p .set) e))
+            if-out (follows left (p .place) q && leafHolds left q e) (listed right c q (step right (p .set) e .set))
             (unless-out (test4 p e q) _
             (inOrder-out (places left) (λ q. unless (test4 p e q) (fault 4 i e q))
             (inOrder-out events (finding4 i p) d e l)
@@ -72,7 +72,7 @@ module _ (events : ℕ) (left right : Condition) (c : Certificate) where
       (inOrder-in events (finding4 i p)
       (λ e l. inOrder-in (places left) (λ q. unless (test4 p e q) (fault 4 i e q))
       (λ q m. unless-in (test4 p e q) (fault 4 i e q)
-      (if-in (follows left (p .place) q && leafHolds left q e) (listed right c q (step right (p .set) e))
+      (if-in (follows left (p .place) q && leafHolds left q e) (listed right c q (step right (p .set) e .set))
       (λ h. let (n, t) = and-out (follows left (p .place) q) (leafHolds left q e) h in v .clause4 e q l n t)))))
 
   -- clause 1, and then the pairs in order

@@ -84,7 +84,7 @@ module _ (events : ℕ) (left right : Condition) (c : Certificate) where
   -- clause 4 of pair i at the event e, with t "the pair's set stepped by e": "each follower l of the place holding e, ascending"
   unfoldable pub clause4At : ℕ → Pair → ℕ → Finding
   clause4At i p e =
-      let t = step right (p .set) e in
+      let t = step right (p .set) e .set in
       inOrder (places left) (λ l. unless ((follows left (p .place) l && leafHolds left l e) ⇒ listed right c l t) (fault 4 i e l))
 
   -- "for each pair in order: 2 its place is on the left side, and its set has only right places; 3 if the place ends a word, so does one of
@@ -107,7 +107,7 @@ module _ (events : ℕ) (left right : Condition) (c : Certificate) where
 pub data Reachable (events : ℕ) (left right : Condition) : Pair → Type 0 where
   start : Reachable events left right (pair 0 1)
   onward : {l s : ℕ} (e q : ℕ) → Reachable events left right (pair l s) → e < events → T (follows left l q) → T (leafHolds left q e)
-      → Reachable events left right (pair q (step right s e))
+      → Reachable events left right (pair q (step right s e .set))
 
 -- Demand 3, second half: the certificate "lists exactly the reachable pairs, the start first", in any order after it, repeats allowed
 pub record Exact (events : ℕ) (left right : Condition) (c : Certificate) : Type 0 where

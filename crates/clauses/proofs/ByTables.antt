@@ -86,19 +86,19 @@ module _ (g : Condition) (side : Side) (follow sets : List ℕ) (tg : Tables g s
     holder-is : (q : ℕ) → q ≤ leaves g → has holders q ≡ leafHolds g q e
     holder-is q l = set-in (places g) (λ q. leafHolds g q e) q (le-place g side follow sets tg q l)
 
-    stepped-is : (q : ℕ) → has (step g s e) q ≡ (has onward q && has holders q)
+    stepped-is : (q : ℕ) → has (step g s e .set) q ≡ (has onward q && has holders q)
     stepped-is q =
         ap (λ (t : ℕ). has t q) (sym (step-mask g s e onward holders followed-is (λ k _ l. holder-is k l)))
         ∙ has-and onward holders q
 
     module _ (t : ℕ) where
       abbrev isWithin : ℕ → Bool
-      isWithin k = has t k ⇒ has (step g s e) k
+      isWithin k = has t k ⇒ has (step g s e .set) k
 
       abbrev holds : ℕ → Bool
       holds k = has t k ⇒ rowHas sets k e
 
-      within-in : T (serving m onward sets t e) → T (within g t (step g s e))
+      within-in : T (serving m onward sets t e) → T (within g t (step g s e .set))
       unfolding within onlyPlaces
       within-in h =
           let (x, y) = and-out (eqb (bitAnd t onward) t) (allHold m sets t e) h in
@@ -108,20 +108,20 @@ module _ (g : Condition) (side : Side) (follow sets : List ℕ) (tg : Tables g s
           and-in (onlyPlaces g t) (allBelow (places g) isWithin)
           (lt→ltb t (2 ^ places g) (lt-has (places g) t (λ k w. le-place g side follow sets tg k (onward-leaf k (on k w) .1))))
           (all-in (places g) isWithin
-          (λ k l. if-in (has t k) (has (step g s e) k)
+          (λ k l. if-in (has t k) (has (step g s e .set) k)
           (λ w.
           let (a, b) = onward-leaf k (on k w) in
           let v = if-out (has t k) (rowHas sets k e) (all-out m holds y k (rw (places-are g side follow sets tg m m-is) l)) w in
           rw (stepped-is k) (and-in (has onward k) (has holders k) (on k w) (rw (holder-is k b, ← leaf-row g side follow sets tg k e a b) v)))))
 
-      within-out : T (within g t (step g s e)) → T (serving m onward sets t e)
+      within-out : T (within g t (step g s e .set)) → T (serving m onward sets t e)
       unfolding within onlyPlaces
       within-out h =
           let (x, y) = and-out (onlyPlaces g t) (allBelow (places g) isWithin) h in
           let both : (k : ℕ) → T (has t k) → T (has onward k) × T (has holders k) =
           λ k w.
           let l = has-lt (places g) t k (ltb→lt t (2 ^ places g) x) w in
-          and-out (has onward k) (has holders k) (rw (← stepped-is k) (if-out (has t k) (has (step g s e) k) (all-out (places g) isWithin y k l) w)) in
+          and-out (has onward k) (has holders k) (rw (← stepped-is k) (if-out (has t k) (has (step g s e .set) k) (all-out (places g) isWithin y k l) w)) in
           let z : bitAnd t onward ≡ t =
           bits-ext (bitAnd t onward) t (λ k. has-and t onward k ∙ and-absorb (has t k) (has onward k) (λ w. both k w .0)) in
           and-in (eqb (bitAnd t onward) t) (allHold m sets t e) (rw z (eqb-refl t))
@@ -129,10 +129,10 @@ module _ (g : Condition) (side : Side) (follow sets : List ℕ) (tg : Tables g s
           (λ k l. if-in (has t k) (rowHas sets k e)
           (λ w. let (a, b) = onward-leaf k (both k w .0) in rw (leaf-row g side follow sets tg k e a b, ← holder-is k b) (both k w .1))))
 
-      serving-is : serving m onward sets t e ≡ within g t (step g s e)
-      serving-is = T-ext (serving m onward sets t e) (within g t (step g s e)) within-in within-out
+      serving-is : serving m onward sets t e ≡ within g t (step g s e .set)
+      serving-is = T-ext (serving m onward sets t e) (within g t (step g s e .set)) within-in within-out
 
-    listed-is : (c : Certificate) (l : ℕ) → servedBy c m onward sets (length c) l e ≡ listed g c l (step g s e)
+    listed-is : (c : Certificate) (l : ℕ) → servedBy c m onward sets (length c) l e ≡ listed g c l (step g s e .set)
     unfolding listed
     listed-is c l =
         any-cong (length c) _ _

@@ -49,7 +49,7 @@ IsLeaf r k = (0 < k) × (k ≤ leaves r)
 
 module _ (a b : Condition) where
   -- two tests that only leaves of each side pass, one after the other
-  beside-leaf : (f g : ℕ → Bool) → ((k : ℕ) → T (f k) → IsLeaf a k) → ((k : ℕ) → T (g k) → IsLeaf b k)
+  pub beside-leaf : (f g : ℕ → Bool) → ((k : ℕ) → T (f k) → IsLeaf a k) → ((k : ℕ) → T (g k) → IsLeaf b k)
       → (k : ℕ) → T (beside (leaves a) f g k) → (0 < k) × (k ≤ leaves a + leaves b)
   beside-leaf f g p q k t =
       ⊎-elim

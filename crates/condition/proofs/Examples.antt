@@ -1,11 +1,11 @@
--- Words that document 01's conditions hold, and words that they do not, by evaluation of the word test over 32 events; sets with two channels
--- exchanged, and words of conditions so exchanged, over 64.
+-- Words that document 01's conditions hold, and words that they do not, by evaluation of the word test over 32 events, and where words go wrong; sets with
+-- two channels exchanged, and words of conditions so exchanged, over 64.
 use mathlib.Core.Path.{_≡_, refl}
 use mathlib.Core.Bool.{Bool, true, false}
 use mathlib.Core.List.{List, [], _∷_, map}
 use Prim.Native.Nat.{ℕ}
 use Rattle.condition.specs.Condition.{Condition, leaf, empty, join, either, star, Word, Holds, noWord, event, any, finally, globally, next}
-use Rattle.condition.specs.Places.{accepts}
+use Rattle.condition.specs.Places.{live, step, accepts, longest}
 use Rattle.condition.specs.Exchange.{swap, exchange}
 use Rattle.condition.proofs.Words.{words}
 
@@ -63,6 +63,56 @@ finally-holds = words (finally 32 2) (0 ∷ 1 ∷ 31 ∷ []) .0 tt
 finally-lacks : Holds (finally 32 2) (0 ∷ 31 ∷ []) → ⊥
 unfolding accepts
 finally-lacks h = words (finally 32 2) (0 ∷ 31 ∷ []) .1 h
+
+-- Where a word went wrong: document 02, Ask 3 ---------------------------------------------------------------------------
+
+record Beginning : Type 0 where
+  condition : Condition
+  word : Word
+  length : ℕ
+
+abbrev beginning : Condition → Word → ℕ → Beginning
+beginning r w n = record { condition = r; word = w; length = n }
+
+-- event 0 and then event 1, or events 0 and 2 and then a leaf that holds nothing
+abbrev hopeless : Condition
+hopeless = either (join (event 0) (event 1)) (join (event 0) (join (event 2) noWord))
+
+abbrev beginnings : List Beginning
+beginnings =
+    beginning emptyOrTwoFirst (0 ∷ []) 0
+    ∷ beginning emptyOrTwoFirst (0 ∷ 2 ∷ []) 0
+    ∷ beginning emptyOrTwoFirst (2 ∷ 0 ∷ 32 ∷ 0 ∷ []) 2
+    -- a word that begins words and is none itself; the empty word
+    ∷ beginning (finally 32 2) (0 ∷ 31 ∷ []) 2
+    ∷ beginning (event 0) [] 0
+    -- "A condition with no words gives 0": the leaf first, in the middle of a join and last
+    ∷ beginning noWord (0 ∷ []) 0
+    ∷ beginning noWord [] 0
+    ∷ beginning (join noWord (event 0)) (0 ∷ []) 0
+    ∷ beginning (join (event 0) (join noWord (event 1))) (0 ∷ 1 ∷ []) 0
+    ∷ beginning (join (event 0) (join (event 1) noWord)) (0 ∷ 1 ∷ []) 0
+    -- "Leaves with the set 0 can make a follower hopeless": in one arm of an either
+    ∷ beginning hopeless (0 ∷ 2 ∷ []) 1
+    ∷ beginning hopeless (0 ∷ 1 ∷ 1 ∷ []) 2
+    -- the star of an item without words has the empty word
+    ∷ beginning (star (join (event 0) noWord)) (0 ∷ 0 ∷ []) 0
+    ∷ beginning (join (star (join (event 0) noWord)) (event 1)) (1 ∷ 1 ∷ []) 1
+    ∷ []
+
+measured : map (λ (x : Beginning). longest (x .condition) (x .word)) beginnings ≡ map (λ (x : Beginning). x .length) beginnings
+unfolding longest
+measured = refl
+
+-- leaf 5 of `hopeless` holds nothing: it ends a word, and no word leads to it; from leaves 3 and 4 no word is finished
+live-places : map (live hopeless) (0 ∷ 1 ∷ 2 ∷ 3 ∷ 4 ∷ 5 ∷ 6 ∷ []) ≡ true ∷ true ∷ true ∷ false ∷ false ∷ true ∷ false ∷ []
+unfolding longest
+live-places = refl
+
+-- "besides its old set": after the events 0 and 2 a place is left, and no word can be finished; nothing is taken from the set
+stepped : (step hopeless 0b1010 2 .set ≡ 0b10000) × (step hopeless 0b1010 2 .finishes ≡ false)
+unfolding longest
+stepped = (refl, refl)
 
 -- Exchanged channels: document 02, Ask 11 -------------------------------------------------------------------------------
 

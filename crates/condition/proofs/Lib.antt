@@ -2,6 +2,8 @@ pub mod Beside
 pub mod Paths
 pub mod Words
 pub mod Steps
+pub mod Live
+pub mod Longest
 pub mod Narrow
 pub mod Swap
 pub mod Exchange

@@ -18,14 +18,14 @@ Leads r p (e ∷ w) = (q : ℕ) × T (follows r p q) × T (leafHolds r q e) × L
 -- Parts -----------------------------------------------------------------------------------------------------------------
 
 module _ {r b : Condition} {at : ℕ → ℕ} (part : Part r b at) where
-  part→ : (w : Word) (j : ℕ) → suc j ≤ leaves b → Leads r (at j) w → Leads b (suc j) w
+  pub part→ : (w : Word) (j : ℕ) → suc j ≤ leaves b → Leads r (at j) w → Leads b (suc j) w
   part→ [] j l h = rw (part .part-ends j l) at h
   part→ (e ∷ w) j l h =
       let (q, n, t, k) = h in
       let (i, m, g, o) = part .follower-out j q l n in
       (suc i, o, rw (g, part .part-holds i e m) at t, part→ w i m (rw g at k))
 
-  part← : (w : Word) (j : ℕ) → suc j ≤ leaves b → Leads b (suc j) w → Leads r (at j) w
+  pub part← : (w : Word) (j : ℕ) → suc j ≤ leaves b → Leads b (suc j) w → Leads r (at j) w
   part← [] j l h = rw (part .part-ends j l) h
   part← (e ∷ w) j l h =
       let (q, n, t, k) = h in
@@ -37,7 +37,7 @@ module _ {r b : Condition} {at : ℕ → ℕ} (part : Part r b at) where
   unfolding follows
   first→ e w j n t k = let l = follows-leaf b 0 (suc j) n .1 in (suc j, n, rw (part .part-holds j e l) at t, part→ w j l k)
 
-  first← : (e : ℕ) (w : Word) → Leads b 0 (e ∷ w)
+  pub first← : (e : ℕ) (w : Word) → Leads b 0 (e ∷ w)
       → (j : ℕ) × (suc j ≤ leaves b) × T (first b (suc j)) × T (leafHolds r (at j) e) × Leads r (at j) w
   unfolding follows
   first← e w h =
@@ -123,7 +123,7 @@ module _ (a : Condition) (P : Word → Type 0) where
   first-word all e u v w q g n t y z = rw g (once-more {u = e ∷ u} {v = v} (all (e ∷ u) (q, n, t, y)) z)
 
   -- from a leaf, a word of the star is the rest of a word of the item, and then further ones
-  star-leaf→ : ((w : Word) → Leads a 0 w → P w) → (w : Word) (p : ℕ) → Leads (star a) (suc p) w
+  pub star-leaf→ : ((w : Word) → Leads a 0 w → P w) → (w : Word) (p : ℕ) → Leads (star a) (suc p) w
       → (u : Word) × (v : Word) × (w ≡ u ++ v) × Leads a (suc p) u × Repeated P v
   unfolding ends follows last follow leafHolds leafSet
   star-leaf→ all [] p h = ([], [], refl, h, never)
@@ -148,7 +148,7 @@ module _ (a : Condition) (P : Word → Type 0) where
       let (u, v, g, y, z) = star-leaf→ all w j (rw f at k) in
       first-word all e u v w (suc j) g (rw f at n) (rw f at t) y z
 
-  star-leaf← : (u v : Word) (p : ℕ) → Leads a (suc p) u → Leads (star a) 0 v → Leads (star a) (suc p) (u ++ v)
+  pub star-leaf← : (u v : Word) (p : ℕ) → Leads a (suc p) u → Leads (star a) 0 v → Leads (star a) (suc p) (u ++ v)
   unfolding ends follows last first follow leafHolds leafSet
   star-leaf← [] [] p h k = h
   star-leaf← [] (e ∷ v) p h k =

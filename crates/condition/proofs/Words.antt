@@ -1,6 +1,6 @@
 -- The word test is right: it accepts exactly the words that the condition holds.
 use mathlib.Core.Path.{_≡_, refl}
-use mathlib.Core.Bool.{Bool, false, _&&_}
+use mathlib.Core.Bool.{Bool, _&&_}
 use mathlib.Core.Logic.{inl, inr, ⊎-elim, _↔_}
 use mathlib.Core.List.{[], _∷_}
 use Prim.Native.Nat.{ℕ, _^_, _<_, zero-le, suc-le-suc}
@@ -8,9 +8,9 @@ use native.Mathlib.Nat.{pow-suc}
 use native.Mathlib.Omega.{arith}
 use lib.Dec.{T}
 use lib.Pow.{pow-pos}
-use Rattle.bits.specs.Bits.{has, anyBelow}
-use Rattle.bits.proofs.Tests.{and-out, and-in, T-ext, any-out, any-in}
-use Rattle.bits.proofs.Sets.{has-none, start-has, has-start, set-in, set-lt, has-lt}
+use Rattle.bits.specs.Bits.{has, anyBelow, setOf}
+use Rattle.bits.proofs.Tests.{and-out, and-in, any-out, any-in}
+use Rattle.bits.proofs.Sets.{start-has, has-start, set-in, set-lt, has-lt}
 use Rattle.condition.specs.Condition.{Condition, leaf, empty, join, either, star, Word, Holds}
 use Rattle.condition.specs.Places.{leaves, places, leafSet, leafHolds, nullable, first, last, follows, ends, step, stepAll, someEnds, accepts}
 use Rattle.condition.proofs.Beside.{follows-leaf}
@@ -52,27 +52,30 @@ module _ (r : Condition) where
   unfolding places
   start-lt = omega (arith, pow-pos (leaves r), pow-suc 2 (leaves r))
 
-  pub step-lt : (s e : ℕ) → step r s e < 2 ^ places r
-  unfolding step
-  step-lt s e = set-lt (places r) _
-
   -- some place of the set s is followed by leaf q
   abbrev followed : ℕ → ℕ → Bool
   followed s q = anyBelow (places r) (λ p. has s p && follows r p q)
 
-  pub step-out : (s e q : ℕ) → T (has (step r s e) q) → (p : ℕ) × T (has s p) × T (follows r p q) × T (leafHolds r q e)
+  -- the set that stepping gives has every follower that holds the event
+  step-is : (s e : ℕ) → step r s e .set ≡ setOf (places r) (λ q. followed s q && leafHolds r q e)
   unfolding step
+  step-is s e = refl
+
+  pub step-lt : (s e : ℕ) → step r s e .set < 2 ^ places r
+  step-lt s e = rw (step-is s e) (set-lt (places r) _)
+
+  pub step-out : (s e q : ℕ) → T (has (step r s e .set) q) → (p : ℕ) × T (has s p) × T (follows r p q) × T (leafHolds r q e)
   step-out s e q h =
-      let l = has-lt (places r) (step r s e) q (step-lt s e) h in
-      let (x, t) = and-out (followed s q) (leafHolds r q e) (rw (set-in (places r) (λ q. followed s q && leafHolds r q e) q l) at h) in
+      let l = has-lt (places r) (step r s e .set) q (step-lt s e) h in
+      let (x, t) = and-out (followed s q) (leafHolds r q e) (rw (step-is s e, set-in (places r) (λ q. followed s q && leafHolds r q e) q l) at h) in
       let (p, _, y) = any-out (places r) (λ p. has s p && follows r p q) x in
       let (z, n) = and-out (has s p) (follows r p q) y in
       (p, z, n, t)
 
-  pub step-in : (s e p q : ℕ) → p < places r → T (has s p) → T (follows r p q) → T (leafHolds r q e) → T (has (step r s e) q)
-  unfolding step places
+  pub step-in : (s e p q : ℕ) → p < places r → T (has s p) → T (follows r p q) → T (leafHolds r q e) → T (has (step r s e .set) q)
+  unfolding places
   step-in s e p q l h n t =
-      rw (set-in (places r) (λ q. followed s q && leafHolds r q e) q (suc-le-suc (follows-leaf r p q n .1)))
+      rw (step-is s e, set-in (places r) (λ q. followed s q && leafHolds r q e) q (suc-le-suc (follows-leaf r p q n .1)))
       (and-in (followed s q) (leafHolds r q e)
       (any-in (places r) (λ p. has s p && follows r p q) p l (and-in (has s p) (follows r p q) h n))
       t)
@@ -90,28 +93,21 @@ module _ (r : Condition) where
       let (p, z, n) = h in
       any-in (places r) (λ p. has s p && ends r p) p (has-lt (places r) s p l z) (and-in (has s p) (ends r p) z n)
 
-  stepAll-out : (w : Word) (s : ℕ) → T (someEnds r (stepAll r s w)) → SomeLeads r s w
+  pub stepAll-out : (w : Word) (s : ℕ) → T (someEnds r (stepAll r s w)) → SomeLeads r s w
   unfolding stepAll
   stepAll-out [] s h = someEnds-out s h
   stepAll-out (e ∷ w) s h =
-      let (q, x, k) = stepAll-out w (step r s e) h in
+      let (q, x, k) = stepAll-out w (step r s e .set) h in
       let (p, y, n, t) = step-out s e q x in
       (p, y, (q, n, t, k))
 
-  stepAll-in : (w : Word) (s : ℕ) → s < 2 ^ places r → SomeLeads r s w → T (someEnds r (stepAll r s w))
+  pub stepAll-in : (w : Word) (s : ℕ) → s < 2 ^ places r → SomeLeads r s w → T (someEnds r (stepAll r s w))
   unfolding stepAll
   stepAll-in [] s l h = someEnds-in s l h
   stepAll-in (e ∷ w) s l h =
       let (p, y, k) = h in
       let (q, n, t, z) = k in
-      stepAll-in w (step r s e) (step-lt s e) (q, step-in s e p q (has-lt (places r) s p l y) y n t, z)
-
--- no word is accepted from no place
-pub none-ends : (r : Condition) (w : Word) → someEnds r (stepAll r 0 w) ≡ false
-none-ends r w =
-    T-ext (someEnds r (stepAll r 0 w)) false
-    (λ h. let (p, x, _) = stepAll-out r w 0 h in absurd (rw (has-none p) at x))
-    (λ h. absurd h)
+      stepAll-in w (step r s e .set) (step-lt s e) (q, step-in s e p q (has-lt (places r) s p l y) y n t, z)
 
 -- The word test ---------------------------------------------------------------------------------------------------------
 

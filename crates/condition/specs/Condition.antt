@@ -2,8 +2,9 @@
 use mathlib.Core.Path.{_≡_}
 use mathlib.Core.Logic.{_⊎_}
 use mathlib.Core.List.{List, [], _∷_, _++_}
-use Prim.Native.Nat.{ℕ, _-_, _^_}
+use Prim.Native.Nat.{ℕ, _-_, _^_, _≤_, _<_}
 use lib.Dec.{T}
+use lib.ListN.{length, take}
 use Rattle.bits.specs.Bits.{has}
 
 -- "A word is a finite list of events." An event here is any number: no condition holds a word with an event that is in no set of its leaves.
@@ -40,6 +41,16 @@ Holds (star a) w = Repeated (λ u. Holds a u) w
 infix 40 _⊆_
 abbrev pub _⊆_ : Condition → Condition → Type 0
 a ⊆ b = (w : Word) → Holds a w → Holds b w
+
+-- Document 02, Ask 3: the word u "begins some word of the condition"
+abbrev pub Begins : Condition → Word → Type 0
+Begins r u = (v : Word) × Holds r (u ++ v)
+
+-- n is "the length of the longest beginning of the word that begins some word of the condition. A condition with no words gives 0."
+pub record Longest (r : Condition) (w : Word) (n : ℕ) : Type 0 where
+  pub beginning : n ≤ length w
+  pub begins : Begins r (take n w) ⊎ ((n ≡ 0) × ((v : Word) → Holds r v → ⊥))
+  pub no-longer : (m : ℕ) → n < m → m ≤ length w → Begins r (take m w) → ⊥
 
 -- "the set 0 holds no word"
 abbrev pub noWord : Condition

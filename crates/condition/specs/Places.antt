@@ -1,6 +1,6 @@
 -- The places of a condition and the word test: document 01, "Places and certificates". The places are the positions of the Glushkov
 -- automaton; stepping a set of them is its subset construction.
-use mathlib.Core.Bool.{Bool, true, false, _&&_, _||_}
+use mathlib.Core.Bool.{Bool, true, false, cond, not, _&&_, _||_}
 use mathlib.Core.List.{[], _∷_}
 use Prim.Native.Nat.{ℕ, zero, suc, _+_, _-_}
 use lib.Dec.{eqb, leb}
@@ -85,14 +85,52 @@ unfoldable pub ends : Condition → ℕ → Bool
 ends r zero = nullable r
 ends r (suc p) = last r (suc p)
 
--- "Stepping a set of places by e gives all followers whose leaf holds e."
-unfoldable pub step : Condition → ℕ → ℕ → ℕ
-step r s e = setOf (places r) (λ q. anyBelow (places r) (λ p. has s p && follows r p q) && leafHolds r q e)
+-- Which words can still be finished -------------------------------------------------------------------------------------
+
+-- the condition has a word
+unfoldable pub hasWord : Condition → Bool
+hasWord (leaf s) = not (eqb s 0)
+hasWord empty = true
+hasWord (join a b) = hasWord a && hasWord b
+hasWord (either a b) = hasWord a || hasWord b
+hasWord (star a) = true
+
+-- A word can be finished after leaf k has matched an event. Document 02, Ask 3: "Leaves with the set 0 can make a follower hopeless": in AB, where B has
+-- no word, the leaves of A are.
+unfoldable pub liveLeaf : Condition → ℕ → Bool
+liveLeaf (leaf s) k = eqb k 1
+liveLeaf empty k = false
+liveLeaf (join a b) k = beside (leaves a) (λ i. liveLeaf a i && hasWord b) (λ i. liveLeaf b i) k
+liveLeaf (either a b) k = beside (leaves a) (λ i. liveLeaf a i) (λ i. liveLeaf b i) k
+liveLeaf (star a) k = liveLeaf a k
+
+-- the live places: those from which a word leads to a place that ends a word
+unfoldable pub live : Condition → ℕ → Bool
+live r zero = hasWord r
+live r (suc p) = liveLeaf r (suc p)
+
+-- "whether any word can still be finished": one of the places of the set s is live
+unfoldable pub someLive : Condition → ℕ → Bool
+someLive r s = anyBelow (places r) (λ p. has s p && live r p)
+
+-- Stepping --------------------------------------------------------------------------------------------------------------
+
+-- what stepping tells: the set of places, and whether a word can be finished from it
+pub record Stepped : Type 0 where
+  pub set : ℕ
+  pub finishes : Bool
+
+-- "Stepping a set of places by e gives all followers whose leaf holds e." Document 02, Ask 3: "stepping must tell, besides its old set, whether any word
+-- can still be finished"
+unfoldable pub step : Condition → ℕ → ℕ → Stepped
+step r s e =
+    let t = setOf (places r) (λ q. anyBelow (places r) (λ p. has s p && follows r p q) && leafHolds r q e) in
+    record { set = t; finishes = someLive r t }
 
 -- the set s stepped by each event of a word
 unfoldable pub stepAll : Condition → ℕ → Word → ℕ
 stepAll r s [] = s
-stepAll r s (e ∷ w) = stepAll r (step r s e) w
+stepAll r s (e ∷ w) = stepAll r (step r s e .set) w
 
 -- one of the places of the set s ends a word
 unfoldable pub someEnds : Condition → ℕ → Bool
@@ -102,3 +140,16 @@ someEnds r s = anyBelow (places r) (λ p. has s p && ends r p)
 unfoldable pub accepts : Condition → Word → Bool
 unfolding leaves places beside leafSet leafHolds nullable first last follow follows ends has anyBelow setOf step stepAll someEnds
 accepts r w = someEnds r (stepAll r 1 w)
+
+-- how many events of a word the set s can be stepped by such that after each of them a word can still be finished
+unfoldable pub longestFrom : Condition → ℕ → Word → ℕ
+longestFrom r s [] = 0
+longestFrom r s (e ∷ w) =
+    let t = step r s e in
+    let more = suc (longestFrom r (t .set) w) in
+    cond (t .finishes) more 0
+
+-- Document 02, Ask 3: "the length of the longest beginning of the word that begins some word of the condition. A condition with no words gives 0."
+unfoldable pub longest : Condition → Word → ℕ
+unfolding leaves places beside leafSet leafHolds nullable first last follow follows ends hasWord liveLeaf live someLive has anyBelow setOf step longestFrom
+longest r w = longestFrom r 1 w
