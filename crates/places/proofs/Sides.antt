@@ -1,25 +1,19 @@
--- From the stack to the tables of a side, and from these to stepping a word.
-use mathlib.Core.Path.{_≡_, refl, sym, ap, ap₂, _∙_, subst}
-use mathlib.Core.Bool.{Bool, false, cond, not, _&&_, _||_, or-false, and-false, and-true}
+-- From the stack to the tables of a side.
+use mathlib.Core.Path.{_≡_, ap, ap₂, _∙_, subst}
+use mathlib.Core.Bool.{Bool, false, cond, _&&_, _||_, or-false, and-false, and-true}
 use mathlib.Core.List.{List, [], _∷_}
 use Prim.Native.Nat.{ℕ, zero, suc, _+_, _≤_, _<_}
 use native.Mathlib.Omega.{arith}
-use native.Mathlib.Nat.{le-of-suc-le-suc}
-use native.Mathlib.Numerals.{add-one}
-use lib.ListN.{length, getD, set, take, length-set}
-use lib.Seq.{getD-set-same, getD-set-other, take-all}
-use lib.Dec.{eqb}
-use lib.Bits.{bitAnd, bitOr}
-use Rattle.bits.specs.Bits.{has, anyBelow}
-use Rattle.bits.specs.Rows.{inRows, Holding}
-use Rattle.bits.proofs.Tests.{T-true, any-cong}
+use lib.ListN.{length, getD, set, length-set}
+use lib.Seq.{getD-set-same, getD-set-other}
+use lib.Bits.{bitOr}
+use Rattle.bits.specs.Bits.{has}
+use Rattle.bits.proofs.Tests.{T-true}
 use Rattle.bits.proofs.Sets.{start-has, has-start}
 use Rattle.bits.proofs.Masks.{has-or, has-cond}
 use Rattle.condition.specs.Condition.{Condition}
-use Rattle.condition.specs.Places.{leaves, places, leafSet, leafHolds, nullable, first, last, follow, follows, ends, step, stepAll, someEnds, accepts}
+use Rattle.condition.specs.Places.{leaves, leafSet, nullable, first, last, follow, follows, ends}
 use Rattle.condition.proofs.Beside.{first-leaf, last-leaf, follow-leaf}
-use Rattle.condition.proofs.Words.{accepts-is}
-use Rattle.condition.proofs.Steps.{step-mask, ends-mask, stepAll-take, none-left}
 use Rattle.places.specs.declared.Side.{Side}
 use Rattle.places.specs.Tables.{Tables, Settled}
 use Rattle.items.specs.Stack.{ItemIs, RowsAre, Stacked, bottom, above, Rows}
@@ -105,44 +99,3 @@ settled-rows {firsts = firsts} {F = F} e w = record {
   rows-follow = ap length (e .row-start) ∙ length-set F 0 firsts ∙ w .rows-follow;
   rows-sets = w .rows-sets;
 }
-
--- The word test ---------------------------------------------------------------------------------------------------------
-
-module _ {r : Condition} {side : Side} {F S H : List ℕ} {events : ℕ} (t : Tables r side F S) (h : Holding S (side .leaves) events H) where
-  stepped : (s e u : ℕ) → e < events → ((q : ℕ) → has u q ≡ inRows F (side .leaves + 1) s q)
-      → bitAnd u (getD H e 0) ≡ step r s e
-  unfolding places leafHolds
-  stepped s e u l f =
-      let n = t .leaves-is in
-      let k : side .leaves + 1 ≡ suc (leaves r) = omega arith in
-      step-mask r s e u (getD H e 0)
-      (λ q.
-      f q
-      ∙ ap (λ (x : ℕ). anyBelow x (λ p. has s p && has (getD F p 0) q)) k
-      ∙ any-cong (suc (leaves r)) _ _ (λ p i. ap (λ (x : Bool). has s p && x) (t .follow-is p q (le-of-suc-le-suc i))))
-      (λ q a b. h .holding-is e q l a (omega arith) ∙ ap (λ (x : ℕ). has x e) (t .sets-is q a b))
-
-  -- one event more
-  pub word-more : (w : List ℕ) (i s u : ℕ) → i < length w → getD w i 0 < events → s ≡ stepAll r 1 (take i w)
-      → ((q : ℕ) → has u q ≡ inRows F (side .leaves + 1) s q)
-      → bitAnd u (getD H (getD w i 0) 0) ≡ stepAll r 1 (take (i + 1) w)
-  word-more w i s u l b e f =
-      stepped s (getD w i 0) u b f
-      ∙ ap (λ (x : ℕ). step r x (getD w i 0)) e
-      ∙ sym (stepAll-take r 1 w i l)
-      ∙ ap (λ (x : ℕ). stepAll r 1 (take x w)) (sym (add-one i))
-
-pub word-none : (r : Condition) (w : List ℕ) → 1 ≡ stepAll r 1 (take 0 w)
-unfolding stepAll
-word-none r w = refl
-
-pub word-all : {r : Condition} {side : Side} {F S : List ℕ} → Tables r side F S → (w : List ℕ) (i s : ℕ) → length w ≤ i → s ≡ stepAll r 1 (take i w)
-    → not (eqb (bitAnd s (side .ends)) 0) ≡ accepts r w
-word-all {r} {side} t w i s l e =
-    ends-mask r s (side .ends) (t .ends-is)
-    ∙ ap (λ (x : ℕ). someEnds r x) (e ∙ ap (λ (x : List ℕ). stepAll r 1 x) (take-all i w l))
-    ∙ sym (accepts-is r w)
-
--- no place is left
-pub word-left : (r : Condition) (w : List ℕ) (i s : ℕ) → s ≡ 0 → s ≡ stepAll r 1 (take i w) → false ≡ accepts r w
-word-left r w i s z e = sym (accepts-is r w ∙ none-left r 1 w i (sym e ∙ z))

@@ -1,15 +1,11 @@
 // The places of a condition, or of two joined, as tables: from the postfix records in the sheet's bytes.
 ghost use mathlib.Core.Path.{_≡_};
-ghost use Prim.Native.Nat.{ℕ, _<_, _≤_};
-ghost use lib.ListN.{length, getD};
+ghost use Prim.Native.Nat.{_≤_};
+ghost use lib.ListN.{length};
 ghost use Rattle.condition.specs.Condition.{Condition, join};
-ghost use Rattle.condition.specs.Places.{accepts};
 ghost use Rattle.items.specs.Stack.{Roomy, Rows};
-ghost use Rattle.postfix.specs.Parts.{StandsAt, PartIs};
+ghost use Rattle.postfix.specs.Parts.{PartIs};
 ghost use Rattle.places.specs.Tables.{Tables, Settled};
-use bits::rows::fill_holding;
-use bits::rows::union_of;
-use fields::index;
 use items::ends_of;
 use items::join_top;
 use postfix::Part;
@@ -76,44 +72,4 @@ pub fn joined_side(
     let n = push_part(s, b, 1, m, nullable, first, last, follow, sets);
     join_top(2, nullable, first, last, follow);
     settle(n, nullable[0], first[0], last[0], follow)
-}
-
-// The condition at an offset holds the word: the places after each event are the followers of those before that hold it.
-pub fn holds_word(s: &[u8], at: usize, events: usize, word: &[u8]) -> bool
-    requires { ⌜ (events ≤ 64) × ((i : ℕ) → i < length (now word) → getD (now word) i 0 < events) ⌝ }
-    ensures { λ b. ⌜ ((r : Condition) → StandsAt (now (s .entry)) at r → b ≡ accepts r (now (word .entry))) ⌝ }
-{
-    let mut follow: [u64; 64] = [0; 64];
-    let mut sets: [u64; 64] = [0; 64];
-    let mut holding: [u64; 64] = [0; 64];
-    let mut nulls: [bool; 50] = [false; 50];
-    let mut first: [u64; 50] = [0; 50];
-    let mut last: [u64; 50] = [0; 50];
-    let side = side_of(
-        s,
-        Part::Condition(at),
-        &mut nulls,
-        &mut first,
-        &mut last,
-        &mut follow,
-        &mut sets,
-    );
-    let leaves = side.leaves;
-    let ends = side.ends;
-    fill_holding(&sets, leaves, events, &mut holding);
-    let mut places: u64 = 1;
-    let mut known: [u64; 64] = [0; 64];
-    let mut unions: [u64; 64] = [0; 64];
-    let mut i: usize = 0;
-    while i < word.len() {
-        // from no place no word is accepted
-        if places == 0 {
-            return false;
-        }
-        let e = index(word[i]);
-        let union = union_of(&follow, leaves + 1, places, &mut known, &mut unions);
-        places = union & holding[e];
-        i += 1;
-    }
-    places & ends != 0
 }
