@@ -5,3 +5,4 @@ pub mod Stopping
 mod StoppingRuns
 pub mod Channels
 mod ChannelRuns
+mod LongWords

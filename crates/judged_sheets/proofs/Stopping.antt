@@ -1,14 +1,13 @@
 -- Document 02, Ask 4, of bytes and the verdict, by evaluation: counts and certificates of sheets of the new edition, beside those of the old one; the rules 25
 -- and 26, each false alone; the refusals 19 and 20; and what an instrument answers that takes the kinds up to 17.
 use mathlib.Core.Path.{_≡_, refl}
-use mathlib.Core.Bool.{true}
 use mathlib.Core.Option.{some}
 use mathlib.Core.List.{List, [], _∷_, _++_}
 use Prim.Native.Nat.{ℕ}
 use lib.ListN.{take}
 use Rattle.sheet.specs.Model.{large, entry, withKinds}
 use Rattle.verdict.specs.Verdict.{verdictOf}
-use Rattle.verdict.specs.WordTest.{tested, untested, wordTest}
+use Rattle.verdict.specs.WordTest.{held, not-held, untested, wordTest}
 use Rattle.verdict.specs.Line.{line}
 use Rattle.verdict.specs.Cases.{point0, method0, M, W}
 use Rattle.verdict.proofs.Parts.{Printed, printed, AsPrinted, recordOf, ones, allEmpty, withPrimitive}
@@ -141,9 +140,10 @@ refusals-on-entry = refl
 -- the word test gives them before 14, and tests the words of a new sheet
 words-tested : (wordTest large (new (new W)) 5 [] ≡ untested 19 (some 1))
     × (wordTest large oldStop 5 [] ≡ untested 20 (some 20))
-    × (wordTest large (new W) 0 (2 ∷ []) ≡ tested true)
+    × (wordTest large (new W) 0 (2 ∷ []) ≡ held)
+    × (wordTest large (new W) 0 (0 ∷ 2 ∷ []) ≡ not-held 0)
 unfolding wordTest
-words-tested = (refl, refl, refl)
+words-tested = (refl, refl, refl, refl)
 
 -- before Ask 4: 2 at a record of kind 18 or 19, and the same answer to a sheet without them
 before : List Printed

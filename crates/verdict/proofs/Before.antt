@@ -1,8 +1,7 @@
 -- "judged as before": document 01's kinds, 1 to 14, those of Ask 2, 15 to 17, those of Ask 4, 18 and 19, that of Ask 9, 20, and those of Ask 11, 21
 -- and 22. Sheets and words by evaluation, with each of the two cases; sheets without the kinds of a request; what the promise alone says of a sheet; and
 -- answers that break it.
-use mathlib.Core.Path.{_≡_, refl, sym, ap, _∙_}
-use mathlib.Core.Bool.{true, false}
+use mathlib.Core.Path.{_≡_, refl, sym, ap, _∙_, subst}
 use mathlib.Core.Logic.{⊎-elim}
 use mathlib.Core.Option.{some}
 use mathlib.Core.List.{List, [], _∷_, map}
@@ -18,12 +17,12 @@ use Rattle.sheet.specs.Reading.{Reading, ReadResult, whole, refusal, readSheet}
 use Rattle.sheet_laws.proofs.States.{Reached}
 use Rattle.sheet_laws.proofs.Before.{WithoutKindsAbove, fewer-kinds}
 use Rattle.verdict.specs.Verdict.{Report, accepted, refused, unproved, verdictOf}
-use Rattle.verdict.specs.WordTest.{Answer, tested, untested, wordTest}
+use Rattle.verdict.specs.WordTest.{Answer, held, not-held, untested, wordTest}
 use Rattle.verdict.specs.Reply.{Reply, _giving_, replyOf, answerReply}
 use Rattle.verdict.specs.Promise.{RefusedFor, while-reading, wrong-count, AsBefore, of-new-kind, the-same-answer, Loads, TestsWord}
 use Rattle.verdict.specs.Cases.{M, M′, W}
 use Rattle.verdict.proofs.Parts.{ones, allEmpty, withPrimitive, method16}
-use Rattle.verdict.proofs.Reply.{orZero, same-number, same-value}
+use Rattle.verdict.proofs.Reply.{IsHeld, orZero, same-number, same-value}
 use Rattle.verdict.proofs.Models.{judged-the-same, tested-the-same}
 use Rattle.verdict.proofs.Bytes.{allBelow, none-above}
 
@@ -190,7 +189,7 @@ keeps-kind-0 l =
     as-then replyOf 14 large (0 ∷ []) (l .as-before 14 (omega arith))
     (λ at e. let here : byteAt (0 ∷ []) at ≡ 0 = ap (byteAt (0 ∷ [])) (sym (same-value 0 e)) in omega (arith, here))
 
-keeps-word : {answer : Answer} → TestsWord large W 0 [] answer → tested true ≡ answer
+keeps-word : {answer : Answer} → TestsWord large W 0 [] answer → held ≡ answer
 unfolding wordTest
 keeps-word t = as-other answerReply 14 large W (t .as-before 14 (omega arith)) (λ e. omega (arith, e))
 
@@ -210,13 +209,8 @@ accepts-M′ n l = omega (arith, same-number (ap replyOf (keeps-M′ l)))
 unknown-to-W : TestsWord large W 0 [] (untested 2 (some 0)) → ⊥
 unknown-to-W t = omega (arith, same-number (ap answerReply (keeps-word t)))
 
-abbrev saidIn : Answer → ℕ
-saidIn (tested true) = 1
-saidIn (tested false) = 0
-saidIn (untested n at) = 0
-
-no-for-yes : TestsWord large W 0 [] (tested false) → ⊥
-no-for-yes t = omega (arith, ap saidIn (keeps-word t))
+no-for-yes : (n : ℕ) → TestsWord large W 0 [] (not-held n) → ⊥
+no-for-yes n t = subst IsHeld (keeps-word t) tt
 
 -- a loader that answers 0F as before: not by this part of the promise, but by its refusals
 abbrev numberIn : ReadResult → ℕ

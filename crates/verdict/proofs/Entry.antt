@@ -1,7 +1,6 @@
 -- Request 8 of the entry and the large instrument: sheets and words by evaluation, with each way in which the two may answer; that it is false the other
 -- way round; what each part of the promise alone says; and answers that break it.
 use mathlib.Core.Path.{_≡_, refl, sym, ap, _∙_, subst}
-use mathlib.Core.Bool.{Bool, true, false}
 use mathlib.Core.Option.{some}
 use mathlib.Core.List.{List, [], _∷_, _++_, map}
 use Prim.Native.Nat.{ℕ, zero, suc}
@@ -12,11 +11,11 @@ use Rattle.certificate.specs.Certificate.{Fault}
 use Rattle.sheet.specs.Model.{Model, large, entry, as-many, NoLarger}
 use Rattle.sheet.proofs.Examples.{entry-no-larger}
 use Rattle.verdict.specs.Verdict.{Report, accepted, refused, unproved, verdictOf}
-use Rattle.verdict.specs.WordTest.{Answer, tested, untested, wordTest}
+use Rattle.verdict.specs.WordTest.{Answer, held, not-held, untested, wordTest}
 use Rattle.verdict.specs.Reply.{_giving_, replyOf, answerReply}
 use Rattle.verdict.specs.Promise.{LikeLarger, too-long, over-limit, unknown-kind, step-above, the-same, TestsLikeLarger, as-loaded, word-above, OnLarger, Loads, TestsWord}
 use Rattle.verdict.specs.Cases.{point0, method0, threeStarts, M, M′, W}
-use Rattle.verdict.proofs.Reply.{IsAccepted, same-number, same-value}
+use Rattle.verdict.proofs.Reply.{IsAccepted, IsTested, same-number, same-value, tested-number}
 
 -- By evaluation -----------------------------------------------------------------------------------------------------------
 
@@ -77,7 +76,7 @@ many-on-larger : verdictOf (taking 2) (withPoints 2) ≡ accepted 6
 unfolding verdictOf
 many-on-larger = refl
 
-words-on-entry : map (λ (w : Word). wordTest entry W 0 w) ([] ∷ (0 ∷ []) ∷ (2 ∷ 32 ∷ []) ∷ []) ≡ tested true ∷ tested false ∷ untested 13 (some 1) ∷ []
+words-on-entry : map (λ (w : Word). wordTest entry W 0 w) ([] ∷ (0 ∷ []) ∷ (2 ∷ 32 ∷ []) ∷ []) ≡ held ∷ not-held 0 ∷ untested 13 (some 1) ∷ []
 unfolding wordTest
 words-on-entry = refl
 
@@ -109,18 +108,18 @@ pub refused-by-large : {s : List ℕ} {answer : Report} → Loads entry s answer
     → (n ≡ 1 → ⊥) → (n ≡ 6 → ⊥) → replyOf (verdictOf large s) ≡ n giving values
 refused-by-large l n values h not1 not6 = l .on-larger large entry-no-larger .refused-too n values h not1 not6 (λ e. refl) (λ e. refl)
 
--- and where it says yes or no of a word, the large one says the same
-pub said-by-large : {s : List ℕ} {c : ℕ} {w : Word} (b : Bool) → TestsWord entry s c w (tested b) → wordTest large s c w ≡ tested b
-said-by-large {s} {c} {w} b t = go (t .on-larger large entry-no-larger)
+-- and where it says yes or no of a word, the large one says the same, and no with the same length
+pub said-by-large : {s : List ℕ} {c : ℕ} {w : Word} {answer : Answer} → IsTested answer → TestsWord entry s c w answer → wordTest large s c w ≡ answer
+said-by-large {s} {c} {w} {answer} said t = go (t .on-larger large entry-no-larger)
   where
-    loaded : {x : Answer} → LikeLarger answerReply entry large s (tested b) x → x ≡ tested b
-    loaded (too-long fewer e) = absurd (omega (arith, same-number e))
-    loaded (over-limit fewer e) = absurd (omega (arith, same-number e))
-    loaded (unknown-kind above taken e) = absurd (omega (arith, same-number e))
+    loaded : {x : Answer} → LikeLarger answerReply entry large s answer x → x ≡ answer
+    loaded (too-long fewer e) = absurd (omega (arith, tested-number answer said, same-number e))
+    loaded (over-limit fewer e) = absurd (omega (arith, tested-number answer said, same-number e))
+    loaded (unknown-kind above taken e) = absurd (omega (arith, tested-number answer said, same-number e))
     loaded (step-above event above below e) = absurd (omega (arith, above, below))
     loaded (the-same e) = sym e
 
-    go : {x : Answer} → TestsLikeLarger entry large s w (tested b) x → x ≡ tested b
+    go : {x : Answer} → TestsLikeLarger entry large s w answer x → x ≡ answer
     go (as-loaded like) = loaded like
     go (word-above above below e) = absurd (omega (arith, above, below))
 

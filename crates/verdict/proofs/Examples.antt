@@ -1,7 +1,6 @@
--- More sheets and words by evaluation: refusal 10, owners, rules of steps and of the empty word, the word test's own refusals and their order; and the lines,
--- numbers and values of answers of each kind.
+-- More sheets and words by evaluation: refusal 10, owners, rules of steps and of the empty word, the word test's own refusals and their order; the lines,
+-- numbers and values of answers of each kind; and the lines of words that go wrong.
 use mathlib.Core.Path.{_≡_, refl}
-use mathlib.Core.Bool.{true, false}
 use mathlib.Core.Option.{none, some}
 use mathlib.Core.List.{List, [], _∷_, _++_, map}
 use Prim.Native.Nat.{ℕ}
@@ -10,7 +9,7 @@ use lib.ListN.{take, replicate}
 use Rattle.condition.specs.Condition.{Word}
 use Rattle.sheet.specs.Model.{large}
 use Rattle.verdict.specs.Verdict.{refused, unproved, verdictOf}
-use Rattle.verdict.specs.WordTest.{Answer, tested, untested, wordTest}
+use Rattle.verdict.specs.WordTest.{Answer, held, not-held, untested, wordTest}
 use Rattle.verdict.specs.Reply.{Reply, _giving_, replyOf, answerReply}
 use Rattle.verdict.specs.Line.{ascii, line, answerLine}
 use Rattle.verdict.specs.Cases.{point0, method0, startOnly, threeStarts, M, W}
@@ -132,8 +131,8 @@ words-asked =
     -- as long as a word may be
     ∷ asked 0 (replicate 4096 32) (untested 13 (some 0))
     ∷ asked 0 (0 ∷ 32 ∷ 33 ∷ []) (untested 13 (some 1))
-    ∷ asked 0 (2 ∷ 31 ∷ []) (tested true)
-    ∷ asked 0 (31 ∷ []) (tested false)
+    ∷ asked 0 (2 ∷ 31 ∷ []) held
+    ∷ asked 0 (31 ∷ []) (not-held 0)
     ∷ []
 
 words-answered : map (λ x. wordTest large W (x .number) (x .word)) words-asked ≡ map (λ x. x .answer) words-asked
@@ -142,15 +141,24 @@ words-answered = refl
 
 -- what the word test's program prints, and the numbers and values
 answers : List Answer
-answers = tested true ∷ tested false ∷ untested 14 none ∷ untested 12 none ∷ untested 13 (some 104) ∷ untested 9 (some 0) ∷ []
+answers =
+    held ∷ not-held 0 ∷ not-held 104 ∷ not-held 4096 ∷ untested 14 none ∷ untested 12 none ∷ untested 13 (some 104) ∷ untested 9 (some 0) ∷ []
 
 answers-print : map answerLine answers
-    ≡ map ascii ("yes" ∷ "no" ∷ "refused 14" ∷ "refused 12" ∷ "refused 13 at 104" ∷ "refused 9 at 0" ∷ [])
+    ≡ map ascii ("yes" ∷ "no 0" ∷ "no 104" ∷ "no 4096" ∷ "refused 14" ∷ "refused 12" ∷ "refused 13 at 104" ∷ "refused 9 at 0" ∷ [])
 unfolding answers answerLine
 answers-print = refl
 
 answers-reply : map answerReply answers
-    ≡ none-giving [] ∷ none-giving [] ∷ (14 giving []) ∷ (12 giving []) ∷ (13 giving (104 ∷ [])) ∷ (9 giving (0 ∷ [])) ∷ []
+    ≡ none-giving []
+    ∷ none-giving (0 ∷ [])
+    ∷ none-giving (104 ∷ [])
+    ∷ none-giving (4096 ∷ [])
+    ∷ (14 giving [])
+    ∷ (12 giving [])
+    ∷ (13 giving (104 ∷ []))
+    ∷ (9 giving (0 ∷ []))
+    ∷ []
 unfolding answers
 answers-reply = refl
 
@@ -160,7 +168,7 @@ answers-reply = refl
 abbrev two : List ℕ
 two = (0x01 ∷ 0x01 ∷ 0 ∷ 0 ∷ 0 ∷ 0x06 ∷ 0x01 ∷ 0x02 ∷ 0 ∷ 0 ∷ 0 ∷ 0x06 ∷ []) ++ (point0 ++ method0 0)
 
-by-number : map (λ (c : ℕ). wordTest large two c (1 ∷ [])) (0 ∷ 1 ∷ 2 ∷ []) ≡ tested false ∷ tested true ∷ untested 14 none ∷ []
+by-number : map (λ (c : ℕ). wordTest large two c (1 ∷ [])) (0 ∷ 1 ∷ 2 ∷ []) ≡ not-held 0 ∷ held ∷ untested 14 none ∷ []
 unfolding wordTest
 by-number = refl
 
@@ -179,3 +187,53 @@ refused-owners = refl
 on-two-events : wordTest (record { bytes = 65536; points = 512; events = 2; kinds = 14 }) two 1 (1 ∷ 2 ∷ []) ≡ untested 13 (some 1)
 unfolding wordTest
 on-two-events = refl
+
+-- Where a word went wrong: document 02, Ask 3 --------------------------------------------------------------------------
+
+-- A sheet with four conditions, a point and a method. 0: event 0, or event 1 and then a leaf that holds nothing, and then event 2; 1: event 0, and then event
+-- 2, or event 1 and then such a leaf; 2: event 0 and then such a leaf, which holds no word; 3: the latter any number of times, which holds the empty word.
+abbrev pub withSet0 : List ℕ
+withSet0 =
+    (0x01 ∷ 0x01 ∷ 0 ∷ 0 ∷ 0 ∷ 0x01 ∷ 0x02 ∷ 0 ∷ 0 ∷ 0 ∷ 0x01 ∷ 0 ∷ 0 ∷ 0 ∷ 0 ∷ 0x03 ∷ 0x04 ∷ 0x01 ∷ 0x04 ∷ 0 ∷ 0 ∷ 0 ∷ 0x03 ∷ 0x06 ∷ [])
+    ++ (0x01 ∷ 0x01 ∷ 0 ∷ 0 ∷ 0 ∷ 0x01 ∷ 0x04 ∷ 0 ∷ 0 ∷ 0 ∷ 0x01 ∷ 0x02 ∷ 0 ∷ 0 ∷ 0 ∷ 0x01 ∷ 0 ∷ 0 ∷ 0 ∷ 0 ∷ 0x03 ∷ 0x04 ∷ 0x03 ∷ 0x06 ∷ [])
+    ++ (0x01 ∷ 0x01 ∷ 0 ∷ 0 ∷ 0 ∷ 0x01 ∷ 0 ∷ 0 ∷ 0 ∷ 0 ∷ 0x03 ∷ 0x06 ∷ [])
+    ++ (0x01 ∷ 0x01 ∷ 0 ∷ 0 ∷ 0 ∷ 0x01 ∷ 0 ∷ 0 ∷ 0 ∷ 0 ∷ 0x03 ∷ 0x05 ∷ 0x06 ∷ [])
+    ++ (point0 ++ method0 0)
+
+-- a condition's number, a word and the line that the word test's program prints
+record Line : Type 0 where
+  number : ℕ
+  word : Word
+  prints : String
+
+abbrev gives : ℕ → Word → String → Line
+gives c w t = record { number = c; word = w; prints = t }
+
+lines : List Line
+lines =
+    -- a word that begins one of the condition gives its own length, the empty word 0
+    gives 0 [] "no 0"
+    ∷ gives 0 (0 ∷ []) "no 1"
+    ∷ gives 0 (0 ∷ 2 ∷ []) "yes"
+    ∷ gives 0 (0 ∷ 2 ∷ 2 ∷ []) "no 2"
+    -- after event 1 a place is left, and no word can be finished; so, too, after events 0 and 1 in condition 1
+    ∷ gives 0 (1 ∷ []) "no 0"
+    ∷ gives 0 (1 ∷ 2 ∷ []) "no 0"
+    ∷ gives 1 (0 ∷ 1 ∷ 2 ∷ []) "no 1"
+    ∷ gives 1 (0 ∷ 2 ∷ []) "yes"
+    ∷ gives 1 (0 ∷ 2 ∷ 1 ∷ []) "no 2"
+    -- "A condition with no words gives 0."
+    ∷ gives 2 [] "no 0"
+    ∷ gives 2 (0 ∷ []) "no 0"
+    ∷ gives 2 (1 ∷ 0 ∷ []) "no 0"
+    -- its star holds the empty word alone
+    ∷ gives 3 [] "yes"
+    ∷ gives 3 (0 ∷ []) "no 0"
+    -- refusals come first
+    ∷ gives 4 [] "refused 14"
+    ∷ gives 2 (0 ∷ 32 ∷ []) "refused 13 at 1"
+    ∷ []
+
+lines-print : map (λ x. answerLine (wordTest large withSet0 (x .number) (x .word))) lines ≡ map (λ x. ascii (x .prints)) lines
+unfolding lines wordTest answerLine
+lines-print = refl

@@ -1,5 +1,13 @@
 -- The facts of the definitions hold.
-use Rattle.condition.proofs.Words.{nullable-holds, words}
+use mathlib.Core.Path.{sym, subst}
+use mathlib.Core.Bool.{Bool}
+use mathlib.Core.Logic.{_↔_}
+use Prim.Native.Nat.{ℕ}
+use lib.Dec.{T}
+use Rattle.condition.specs.Condition.{Condition, Word}
+use Rattle.condition.specs.Places.{step, stepAll, someEnds}
+use Rattle.condition.proofs.Words.{step-lt, stepAll-in, stepAll-out, nullable-holds, words}
+use Rattle.condition.proofs.Longest.{someLive-in, someLive-out, step-finishes, longest-meets}
 use Rattle.condition.proofs.Exchange.{exchange-holds, exchange-any, exchange-zeroth}
 use Rattle.sheet.specs.Model.{Model}
 use Rattle.sheet.specs.Decode.{sheetOf}
@@ -19,11 +27,21 @@ use Rattle.verdict.proofs.Loads.{loads, promised-when-open}
 use Rattle.verdict.proofs.Former.{old-edition, one-outcome}
 use Rattle.verdict.proofs.Witnesses.{exact-exist}
 
+-- whether a word can be finished after a step is whether a word leads on to a place that ends one
+finishes : (r : Condition) (s e : ℕ) → T (step r s e .finishes) ↔ ((v : Word) × T (someEnds r (stepAll r (step r s e .set) v)))
+finishes r s e =
+    subst (λ (b : Bool). T b ↔ ((v : Word) × T (someEnds r (stepAll r (step r s e .set) v)))) (sym (step-finishes r s e)) (
+      λ h. let (v, k) = someLive-out r (step r s e .set) h in (v, stepAll-in r v (step r s e .set) (step-lt r s e) k),
+      λ x. someLive-in r (step r s e .set) (step-lt r s e) (x .0) (stepAll-out r (x .0) (step r s e .set) (x .1)),
+    )
+
 pub facts : (M : Model) → FactsHold M
 facts M wide s bytes =
     record {
       words = words;
       empty-word = nullable-holds;
+      finishes = finishes;
+      longest-beginning = longest-meets;
       exchanged = exchange-holds;
       any-stays = exchange-any;
       channel-0 = exchange-zeroth;

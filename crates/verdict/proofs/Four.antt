@@ -1,7 +1,6 @@
 -- Request 11 of the large and the four-channel instrument: the promises hold of the latter; sheets and words by evaluation, with the ways in which the two
 -- may answer; what the promise alone says of the two; and answers that break it.
 use mathlib.Core.Path.{_≡_, refl, sym, ap, subst}
-use mathlib.Core.Bool.{Bool, true, false}
 use mathlib.Core.Logic.{⊎-elim}
 use mathlib.Core.Option.{Option, some}
 use mathlib.Core.List.{List, [], _∷_, _++_, map}
@@ -21,13 +20,13 @@ use Rattle.sheet.proofs.Each.{each-getD}
 use Rattle.sheet_laws.proofs.ReadOn.{Ends, too-long as ends-too-long, at-record, at-the-end, read-ends, numberOf, end-number, owners-number}
 use Rattle.sheet_laws.proofs.States.{Reached, at-start, past}
 use Rattle.verdict.specs.Verdict.{Report, accepted, refused, unproved, verdictOf}
-use Rattle.verdict.specs.WordTest.{Answer, tested, untested, wordTest}
+use Rattle.verdict.specs.WordTest.{Answer, held, not-held, untested, wordTest}
 use Rattle.verdict.specs.Reply.{Reply, _giving_, replyOf, answerReply}
 use Rattle.verdict.specs.Line.{ascii, line}
 use Rattle.verdict.specs.Promise.{RefusedFor, while-reading, wrong-count, LikeLarger, too-long, over-limit, unknown-kind, step-above, the-same, TestsLikeLarger, as-loaded, word-above, OnLarger, Loads, WordRefusedFor, sheet-refused, no-such-condition, word-too-long, stray-event, TestsWord}
 use Rattle.verdict.specs.Cases.{point0, method0, M, M′, W}
 use Rattle.verdict.proofs.Parts.{recordOf, ones, allEmpty}
-use Rattle.verdict.proofs.Reply.{orZero, same-number, same-value}
+use Rattle.verdict.proofs.Reply.{IsTested, orZero, same-number, same-value, tested-number}
 use Rattle.verdict.proofs.Loads.{loads-as-promised}
 use Rattle.verdict.proofs.WordTest.{tests-as-promised}
 
@@ -97,13 +96,13 @@ print-on-four = refl
 abbrev after2 : Model → List ℕ → List Answer
 after2 I s = map (λ (e : ℕ). wordTest I s 0 (2 ∷ e ∷ [])) (31 ∷ 32 ∷ 63 ∷ 64 ∷ [])
 
-words-of-W : (after2 large W ≡ tested true ∷ replicate 3 (untested 13 (some 1)))
-    × (after2 four W ≡ tested true ∷ tested false ∷ tested false ∷ untested 13 (some 1) ∷ [])
+words-of-W : (after2 large W ≡ held ∷ replicate 3 (untested 13 (some 1)))
+    × (after2 four W ≡ held ∷ not-held 1 ∷ not-held 1 ∷ untested 13 (some 1) ∷ [])
 unfolding wordTest
 words-of-W = (refl, refl)
 
 words-of-longW : (after2 large longW ≡ replicate 4 (untested 2 (some 6)))
-    × (after2 four longW ≡ tested true ∷ tested true ∷ tested true ∷ untested 13 (some 1) ∷ [])
+    × (after2 four longW ≡ held ∷ held ∷ held ∷ untested 13 (some 1) ∷ [])
 unfolding wordTest
 words-of-longW = (refl, refl)
 
@@ -121,20 +120,20 @@ module _ {I : Model} (no-larger : NoLarger I four) {s : List ℕ} where
   refused-by-four l n values h not1 not6 not2 not7 =
       l .on-larger four no-larger .refused-too n values h not1 not6 (λ e. absurd (not2 e)) (λ e. absurd (not7 e))
 
-  -- and where it says yes or no of a word, that one says the same
-  pub said-by-four : {c : ℕ} {w : Word} (b : Bool) → TestsWord I s c w (tested b) → wordTest four s c w ≡ tested b
-  said-by-four {c} {w} b t = go (t .on-larger four no-larger)
+  -- and where it says yes or no of a word, that one says the same, and no with the same length
+  pub said-by-four : {c : ℕ} {w : Word} {answer : Answer} → IsTested answer → TestsWord I s c w answer → wordTest four s c w ≡ answer
+  said-by-four {c} {w} {answer} said t = go (t .on-larger four no-larger)
     where
-      loaded : {x : Answer} → LikeLarger answerReply I four s (tested b) x → x ≡ tested b
-      loaded (too-long fewer e) = absurd (omega (arith, same-number e))
-      loaded (over-limit fewer e) = absurd (omega (arith, same-number e))
-      loaded (unknown-kind above taken e) = absurd (omega (arith, same-number e))
-      loaded (step-above event above below e) = absurd (omega (arith, same-number e))
+      loaded : {x : Answer} → LikeLarger answerReply I four s answer x → x ≡ answer
+      loaded (too-long fewer e) = absurd (omega (arith, tested-number answer said, same-number e))
+      loaded (over-limit fewer e) = absurd (omega (arith, tested-number answer said, same-number e))
+      loaded (unknown-kind above taken e) = absurd (omega (arith, tested-number answer said, same-number e))
+      loaded (step-above event above below e) = absurd (omega (arith, tested-number answer said, same-number e))
       loaded (the-same e) = sym e
 
-      go : {x : Answer} → TestsLikeLarger I four s w (tested b) x → x ≡ tested b
+      go : {x : Answer} → TestsLikeLarger I four s w answer x → x ≡ answer
       go (as-loaded like) = loaded like
-      go (word-above above below e) = absurd (omega (arith, same-number e))
+      go (word-above above below e) = absurd (omega (arith, tested-number answer said, same-number e))
 
 -- Sheets of two channels ------------------------------------------------------------------------------------------------------
 
@@ -229,7 +228,7 @@ module _ (I I′ : Model) (s : List ℕ) where
       subst (λ (at : ℕ). (byteAt s at ≡ 10) × (I .events ≤ byteAt s (at + 5)) × (byteAt s (at + 5) < I′ .events)) (sym here) (event, above, below)
   seven-needs (the-same e) = absurd (omega (arith, same-number (ap replyOf e)))
 
-  thirteen-needs : (w : Word) → TestsLikeLarger I I′ s w (untested 13 (some 0)) (tested true) → (I .events ≤ getD w 0 0) × (getD w 0 0 < I′ .events)
+  thirteen-needs : (w : Word) → TestsLikeLarger I I′ s w (untested 13 (some 0)) held → (I .events ≤ getD w 0 0) × (getD w 0 0 < I′ .events)
   thirteen-needs w (as-loaded (too-long fewer e)) = absurd (omega (arith, same-number e))
   thirteen-needs w (as-loaded (over-limit fewer e)) = absurd (omega (arith, same-number e))
   thirteen-needs w (as-loaded (unknown-kind above taken e)) = absurd (omega (arith, same-number e))
@@ -272,13 +271,13 @@ seven-beside-itself s h = let (event, above, below) = seven-needs four four s h 
 
 -- 13 at an event that both have, at one that neither has, and where the two have as many
 module _ (s : List ℕ) where
-  thirteen-at-31 : TestsLikeLarger large four s (31 ∷ []) (untested 13 (some 0)) (tested true) → ⊥
+  thirteen-at-31 : TestsLikeLarger large four s (31 ∷ []) (untested 13 (some 0)) held → ⊥
   thirteen-at-31 h = omega (arith, thirteen-needs large four s (31 ∷ []) h .0)
 
-  thirteen-at-64 : TestsLikeLarger large four s (64 ∷ []) (untested 13 (some 0)) (tested true) → ⊥
+  thirteen-at-64 : TestsLikeLarger large four s (64 ∷ []) (untested 13 (some 0)) held → ⊥
   thirteen-at-64 h = omega (arith, thirteen-needs large four s (64 ∷ []) h .1)
 
-  thirteen-beside-itself : (w : Word) → TestsLikeLarger four four s w (untested 13 (some 0)) (tested true) → ⊥
+  thirteen-beside-itself : (w : Word) → TestsLikeLarger four four s w (untested 13 (some 0)) held → ⊥
   thirteen-beside-itself w h = let (above, below) = thirteen-needs four four s w h in omega (arith, above, below)
 
   -- accepted with another count; unproved, where the other one names an event that the smaller one lacks

@@ -7,6 +7,7 @@ pub mod Facts
 pub mod Bytes
 pub mod Loop
 pub mod WordTest
+pub mod OldTest
 pub mod Cases
 pub mod Examples
 pub mod Witnesses

@@ -10,7 +10,6 @@ use lib.ListN.{length, getD}
 use lib.Dec.{eqb, ltb, leb}
 use borrow.Author.Tests.{ltb-true, ltb-false}
 use Rattle.condition.specs.Condition.{Word}
-use Rattle.condition.specs.Places.{accepts}
 use Rattle.certificate.specs.Certificate.{Certificate, Finding}
 use Rattle.certificate.proofs.Events.{check-more}
 use Rattle.sheet.specs.Model.{Model, NoMoreEvents, as-many, fewer as fewer-events, NoLarger, withKinds, wordLimit}
@@ -179,7 +178,7 @@ module _ (M M′ : Model) (N : NoLarger M M′) (s : List ℕ) where
         go (fewer-events wide less) (whole r) =
             behind (leb (length (sheetRead (isNew s) (r .own) .conditions)) c) (untested 14 none)
             (behind (ltb wordLimit (length w)) (untested 12 none)
-            (from-strays (strays-like (M .events) (M′ .events) (omega (arith, less)) 0 w (tested (accepts (condition (sheetRead (isNew s) (r .own)) c) w)))))
+            (from-strays (strays-like (M .events) (M′ .events) (omega (arith, less)) 0 w (tested (condition (sheetRead (isNew s) (r .own)) c) w))))
 
     tested-after : {x y : ReadResult} → ReadsLike M M′ s x y → Like (testedAfter M s c w x) (testedAfter M′ s c w y)
     unfolding testedAfter

@@ -7,7 +7,7 @@ use native.Mathlib.Omega.{arith}
 use lib.ListN.{length, getD}
 use Rattle.certificate.specs.Certificate.{Fault}
 use Rattle.verdict.specs.Verdict.{Report, accepted, refused, unproved}
-use Rattle.verdict.specs.WordTest.{Answer, tested, untested}
+use Rattle.verdict.specs.WordTest.{Answer, held, not-held, untested}
 use Rattle.verdict.specs.Reply.{Reply, _giving_, placeValue, faultValues, replyOf, answerReply}
 
 abbrev pub IsAccepted : Report → Type 0
@@ -20,9 +20,22 @@ IsUnproved (accepted n) = ⊥
 IsUnproved (refused n at) = ⊥
 IsUnproved (unproved r k f) = Unit {0}
 
+-- yes or no
 abbrev pub IsTested : Answer → Type 0
-IsTested (tested b) = Unit {0}
+IsTested held = Unit {0}
+IsTested (not-held n) = Unit {0}
 IsTested (untested n at) = ⊥
+
+abbrev pub IsHeld : Answer → Type 0
+IsHeld held = Unit {0}
+IsHeld (not-held n) = ⊥
+IsHeld (untested n at) = ⊥
+
+-- the number that no carries
+abbrev pub lengthIn : Answer → ℕ
+lengthIn held = 0
+lengthIn (not-held n) = n
+lengthIn (untested n at) = 0
 
 abbrev IsSome : Option ℕ → Type 0
 IsSome none = ⊥
@@ -68,5 +81,12 @@ reply-unproved (unproved r′ k′ f′) r k f e =
     rw (same-value 0 e, same-value 1 e, same-value 2 e, same-value 3 e, same-value 4 e, same-value 5 e) refl
 
 pub reply-untested : (x : Answer) (n : ℕ) (at : Option ℕ) → answerReply x ≡ n giving placeValue at → x ≡ untested n at
-reply-untested (tested b) n at e = absurd (has-number e tt)
+reply-untested held n at e = absurd (has-number e tt)
+reply-untested (not-held k) n at e = absurd (has-number e tt)
 reply-untested (untested k a) n at e = ap₂ (λ m p. untested m p) (same-number e) (same-place a at (same-length e) (same-value 0 e))
+
+-- yes and no have no number of document 01
+pub tested-number : (x : Answer) → IsTested x → orZero (answerReply x .number) ≡ 0
+tested-number held t = refl
+tested-number (not-held n) t = refl
+tested-number (untested n at) t = absurd t

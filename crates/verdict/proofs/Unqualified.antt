@@ -1,18 +1,20 @@
 -- The loaders and word tests that "do not qualify" in document 01: of each, an input at which its answer breaks the promise, by the part of it that
--- speaks for the demand named there, alone. And the other way round: what each part alone makes of an answer.
+-- speaks for the demand named there, alone; and word tests whose no carries another number than document 02, Ask 3, says. And the other way round: what
+-- each part alone makes of an answer.
 use mathlib.Core.Path.{_≡_, refl, sym, _∙_, subst}
-use mathlib.Core.Bool.{Bool, true, false}
+use mathlib.Core.Logic.{inl, inr, ⊎-elim}
 use mathlib.Core.Option.{Option, none, some}
 use mathlib.Core.List.{List, [], _∷_, _++_}
-use Prim.Native.Nat.{ℕ}
+use Prim.Native.Nat.{ℕ, zero, suc, _≤_, _<_}
 use native.Mathlib.Omega.{arith}
-use lib.ListN.{take, drop}
-use Rattle.condition.specs.Condition.{Word, leaf, empty}
-use Rattle.condition.specs.Places.{nullable, accepts}
+use lib.ListN.{length, take, drop}
+use Rattle.condition.specs.Condition.{Condition, Word, leaf, empty, Holds, Begins}
+use Rattle.condition.specs.Places.{nullable, accepts, longest}
 use Rattle.condition.proofs.Words.{words}
+use Rattle.condition.proofs.Longest.{live-begins}
 use Rattle.certificate.specs.Certificate.{Fault, check}
 use Rattle.sheet.specs.Model.{Model, large}
-use Rattle.sheet.specs.Each.{nil, cons}
+use Rattle.sheet.specs.Each.{Each, nil, cons}
 use Rattle.sheet.specs.Sheet.{normal, condition, owner}
 use Rattle.sheet.specs.Reading.{ReadResult, whole, refusal, readSheet}
 use Rattle.sheet.specs.Decode.{sheetOf}
@@ -21,7 +23,7 @@ use Rattle.runs.specs.Rules.{_isIn_, rules, count}
 use Rattle.runs.specs.Runs.{return, by-step, run}
 use Rattle.runs.specs.Owing.{ToldApart}
 use Rattle.verdict.specs.Verdict.{Report, accepted, refused, unproved, certificatesNeeded}
-use Rattle.verdict.specs.WordTest.{Answer, tested, untested}
+use Rattle.verdict.specs.WordTest.{Answer, held, not-held, untested}
 use Rattle.verdict.specs.Reply.{_giving_, replyOf, answerReply}
 use Rattle.verdict.specs.Promise.{WellFormed, EachCertified, done, bare, certified, Passes, FirstFault, RefusedFor, while-reading, wrong-count, AnswerForm, with-count, with-place, with-fault, Loads, WordRefusedFor, sheet-refused, no-such-condition, word-too-long, stray-event, TakesWord, TestsWord}
 use Rattle.verdict.specs.Cases.{method0, threeStarts, M, M′, W}
@@ -30,6 +32,7 @@ use Rattle.verdict.proofs.Reply.{IsAccepted, IsTested}
 use Rattle.verdict.proofs.Judged.{pass-all, fault-found}
 use Rattle.verdict.proofs.RulesMet.{all-pass}
 use Rattle.verdict.proofs.Witnesses.{M-premises}
+use Rattle.verdict.proofs.Examples.{withSet0}
 
 -- Answers told apart ------------------------------------------------------------------------------------------------------
 
@@ -162,20 +165,20 @@ called-owner l = l .owned _ refl (cons refl (cons refl nil)) (by-step 0 normal [
 -- The word test ---------------------------------------------------------------------------------------------------------------
 
 -- "a word test with a constant reply": no, yes, and a refusal
-always-no : TestsWord large W 0 [] (tested false) → ⊥
+always-no : (n : ℕ) → TestsWord large W 0 [] (not-held n) → ⊥
 unfolding sheetOf accepts
-always-no t = t .right false refl .1 (words (condition (sheetOf large W) 0) [] .0 tt)
+always-no n t = t .no-iff n .0 refl .1 (words (condition (sheetOf large W) 0) [] .0 tt)
 
-always-yes : TestsWord large W 0 (0 ∷ []) (tested true) → ⊥
+always-yes : TestsWord large W 0 (0 ∷ []) held → ⊥
 unfolding sheetOf accepts
-always-yes t = words (condition (sheetOf large W) 0) (0 ∷ []) .1 (t .right true refl .0 tt)
+always-yes t = words (condition (sheetOf large W) 0) (0 ∷ []) .1 (t .yes-iff .0 refl .1)
 
 W-taken : TakesWord large W 0 []
 unfolding sheetOf
 W-taken = record { found = record { reading = _; read = refl; exists = omega arith }; short = omega arith; none-stray = nil }
 
 never-tests : TestsWord large W 0 [] (untested 12 none) → ⊥
-never-tests t = let (b, e) = t .tests-all .0 W-taken in subst IsTested (sym e) tt
+never-tests t = ⊎-elim (λ e. subst IsTested (sym e) tt) (λ x. subst IsTested (sym (x .1)) tt) (t .tests-all W-taken)
 
 too-long-for-nothing : TestsWord large W 0 [] (untested 12 none) → ⊥
 too-long-for-nothing t = go (t .refused-iff 12 none .0 refl) refl
@@ -187,9 +190,11 @@ too-long-for-nothing t = go (t .refused-iff 12 none .0 refl) refl
     go (stray-event f short s) z = omega (arith, z)
 
 -- W has one condition: a word is not tested in a second, and 14 is given
-tests-no-other : (b : Bool) → TestsWord large W 1 [] (tested b) → ⊥
+tests-no-other : (answer : Answer) → IsTested answer → TestsWord large W 1 [] answer → ⊥
 unfolding sheetOf
-tests-no-other b t = omega (arith, t .tests-all .1 (b, refl) .found .exists)
+tests-no-other held said t = omega (arith, t .yes-iff .0 refl .0 .found .exists)
+tests-no-other (not-held n) said t = omega (arith, t .no-iff n .0 refl .0 .found .exists)
+tests-no-other (untested n at) said t = absurd said
 
 refuses-other : {answer : Answer} → TestsWord large W 1 [] answer → answerReply answer ≡ 14 giving []
 unfolding sheetOf
@@ -197,3 +202,82 @@ refuses-other t = t .refused-iff 14 none .1 (no-such-condition {r = _} refl (ome
 
 one-word-answer : {I : Model} {s : List ℕ} {c : ℕ} {w : Word} {a b : Answer} → TestsWord I s c w a → TestsWord I s c w b → a ≡ b
 one-word-answer t u = t .stated ∙ sym (u .stated)
+
+-- Request 3 -------------------------------------------------------------------------------------------------------------------
+
+-- the conditions of a sheet with leaves of the set 0 (proofs/Examples), and the words that are taken
+abbrev in0 : ℕ → Condition
+in0 c = condition (sheetOf large withSet0) c
+
+taken0 : (c : ℕ) {w : Word} → c < 4 → length w ≤ 4096 → Each (λ (e : ℕ). e < 32) w → TakesWord large withSet0 c w
+unfolding sheetOf
+taken0 c exists short below = record { found = record { reading = _; read = refl; exists = exists }; short = short; none-stray = below }
+
+-- "A condition with no words gives 0": a word test that gives the length of the word
+length-for-0 : TestsWord large withSet0 2 (0 ∷ []) (not-held 1) → ⊥
+unfolding sheetOf accepts longest
+length-for-0 t = ⊎-elim (λ b. live-begins (in0 2) (0 ∷ []) .1 b) (λ x. omega (arith, x .0)) (t .no-iff 1 .0 refl .2 .begins)
+
+-- one that counts while a place is left, though no word can be finished, and one that counts the event at which none is left
+while-places-left : TestsWord large withSet0 1 (0 ∷ 1 ∷ 2 ∷ []) (not-held 2) → ⊥
+unfolding sheetOf accepts longest
+while-places-left t = ⊎-elim (λ b. live-begins (in0 1) (0 ∷ 1 ∷ []) .1 b) (λ x. omega (arith, x .0)) (t .no-iff 2 .0 refl .2 .begins)
+
+one-too-far : TestsWord large withSet0 0 (0 ∷ 2 ∷ 2 ∷ []) (not-held 3) → ⊥
+unfolding sheetOf accepts longest
+one-too-far t = ⊎-elim (λ b. live-begins (in0 0) (0 ∷ 2 ∷ 2 ∷ []) .1 b) (λ x. omega (arith, x .0)) (t .no-iff 3 .0 refl .2 .begins)
+
+-- one that gives 0 always, and one that counts more events than the word has
+one-too-few : TestsWord large withSet0 1 (0 ∷ 1 ∷ 2 ∷ []) (not-held 0) → ⊥
+unfolding sheetOf accepts longest
+one-too-few t = t .no-iff 0 .0 refl .2 .no-longer 1 (omega arith) (omega arith) (live-begins (in0 1) (0 ∷ []) .0 tt)
+
+beyond-the-word : TestsWord large withSet0 0 (0 ∷ []) (not-held 2) → ⊥
+beyond-the-word t = omega (arith, t .no-iff 2 .0 refl .2 .beginning)
+
+-- one that says no of a word that is held, with its length
+no-with-length : TestsWord large withSet0 0 (0 ∷ 2 ∷ []) (not-held 2) → ⊥
+unfolding sheetOf accepts
+no-with-length t = t .no-iff 2 .0 refl .1 (words (in0 0) (0 ∷ 2 ∷ []) .0 tt)
+
+-- and the other way round: the longest beginning of a word that is not held is given, where the condition has no words,
+without-words : (v : Word) → Holds (in0 2) v → ⊥
+unfolding sheetOf accepts longest
+without-words v h = live-begins (in0 2) [] .1 (v, h)
+
+gives-0 : {answer : Answer} → TestsWord large withSet0 2 (0 ∷ []) answer → answer ≡ not-held 0
+unfolding sheetOf
+gives-0 t =
+    t .no-iff 0 .1 (
+      taken0 2 (omega arith) (omega arith) (cons (omega arith) nil),
+      without-words (0 ∷ []),
+      record { beginning = omega arith; begins = inr (refl, without-words); no-longer = λ m l k b. without-words _ (b .1) },
+    )
+
+-- where the word begins one,
+gives-length : {answer : Answer} → TestsWord large withSet0 0 (0 ∷ []) answer → answer ≡ not-held 1
+unfolding sheetOf accepts longest
+gives-length t =
+    t .no-iff 1 .1 (
+      taken0 0 (omega arith) (omega arith) (cons (omega arith) nil),
+      words (in0 0) (0 ∷ []) .1,
+      record { beginning = omega arith; begins = inl (live-begins (in0 0) (0 ∷ []) .0 tt); no-longer = λ m l k b. omega (arith, l, k) },
+    )
+
+-- and where it goes wrong with a place left
+no-more : (m : ℕ) → 1 < m → m ≤ 3 → Begins (in0 1) (take m (0 ∷ 1 ∷ 2 ∷ [])) → ⊥
+unfolding sheetOf accepts longest
+no-more zero l k b = omega (arith, l)
+no-more (suc zero) l k b = omega (arith, l)
+no-more (suc (suc zero)) l k b = live-begins (in0 1) (0 ∷ 1 ∷ []) .1 b
+no-more (suc (suc (suc zero))) l k b = live-begins (in0 1) (0 ∷ 1 ∷ 2 ∷ []) .1 b
+no-more (suc (suc (suc (suc m)))) l k b = omega (arith, k)
+
+gives-1 : {answer : Answer} → TestsWord large withSet0 1 (0 ∷ 1 ∷ 2 ∷ []) answer → answer ≡ not-held 1
+unfolding sheetOf accepts longest
+gives-1 t =
+    t .no-iff 1 .1 (
+      taken0 1 (omega arith) (omega arith) (cons (omega arith) (cons (omega arith) (cons (omega arith) nil))),
+      words (in0 1) (0 ∷ 1 ∷ 2 ∷ []) .1,
+      record { beginning = omega arith; begins = inl (live-begins (in0 1) (0 ∷ []) .0 tt); no-longer = no-more },
+    )

@@ -1,14 +1,16 @@
 -- The facts of the definitions, used: what each of them alone says of document 01's sheet M, or of every sheet.
 use mathlib.Core.Path.{_≡_, refl, sym, subst}
 use mathlib.Core.Bool.{true, false}
+use mathlib.Core.Logic.{⊎-elim}
 use mathlib.Core.Option.{none, some}
 use mathlib.Core.List.{List, [], _∷_, List·Memᴰ}
 use Prim.Native.Nat.{ℕ, _≤_, _<_}
 use native.Mathlib.Omega.{arith}
+use lib.Dec.{T}
 use lib.ListN.{length, getElem?}
-use Rattle.condition.specs.Condition.{Condition, Word, empty, event, Holds, any}
+use Rattle.condition.specs.Condition.{Condition, Word, empty, join, noWord, event, Holds, Begins, any}
 use Rattle.condition.specs.Exchange.{swapChannel, swap, exchange}
-use Rattle.condition.specs.Places.{nullable, accepts}
+use Rattle.condition.specs.Places.{nullable, step, someEnds, stepAll, accepts, longest}
 use Rattle.certificate.specs.Certificate.{Certificate, Exact}
 use Rattle.sheet.specs.Model.{Model, large, four, withKinds}
 use Rattle.sheet.specs.Sheet.{Outcome, failed, Point, Body, Method, CallStep, Step, event-step, call-step, stop-step, isSome, owner, declaredIn, onChannel, body, trace, targetFor}
@@ -50,6 +52,24 @@ module _ (f : Facts large M) where
   event-not-empty : Holds (event 0) [] → ⊥
   unfolding nullable
   event-not-empty h = f .empty-word (event 0) .1 h
+
+  -- of the events 0 and 0, the first begins the word of event 0, and both do not
+  event-begins : Begins (event 0) (0 ∷ [])
+  unfolding longest
+  event-begins = ⊎-elim (λ b. b) (λ x. absurd (omega (arith, x .0))) (f .longest-beginning (event 0) (0 ∷ 0 ∷ []) .begins)
+
+  event-begins-once : Begins (event 0) (0 ∷ 0 ∷ []) → ⊥
+  unfolding longest
+  event-begins-once b = f .longest-beginning (event 0) (0 ∷ 0 ∷ []) .no-longer 2 (omega arith) (omega arith) b
+
+  -- after event 0 a word of event 0 and event 1 can be finished, by event 1; none where a leaf with the set 0 comes next, though a place is left
+  event-finishes : T (step (join (event 0) (event 1)) 1 0 .finishes)
+  unfolding accepts
+  event-finishes = f .finishes (join (event 0) (event 1)) 1 0 .1 (1 ∷ [], tt)
+
+  none-finishes : (v : Word) → T (someEnds (join (event 0) noWord) (stepAll (join (event 0) noWord) 0b10 v)) → ⊥
+  unfolding longest
+  none-finishes v h = f .finishes (join (event 0) noWord) 1 0 .1 (v, h)
 
   -- on channel 1 the event 0 is read as 16, and 0 is not
   exchanged-holds : Holds (exchange 1 (event 0)) (16 ∷ [])

@@ -1,7 +1,8 @@
--- The word test says yes or no exactly of the words it takes, yes exactly of those that the condition holds, and else names the first refusal.
+-- The word test says yes or no exactly of the words it takes, yes exactly of those that the condition holds, no with the length of the longest beginning that
+-- begins a word of the condition, and else names the first refusal.
 use mathlib.Core.Path.{_≡_, refl, sym, ap, _∙_, subst}
 use mathlib.Core.Bool.{Bool, true, false, cond}
-use mathlib.Core.Logic.{_↔_}
+use mathlib.Core.Logic.{_⊎_, inl, inr, _↔_}
 use mathlib.Core.Option.{Option, none, some}
 use mathlib.Core.List.{List, [], _∷_}
 use Prim.Native.Nat.{ℕ, zero, suc, _+_, _≤_, _<_}
@@ -10,24 +11,69 @@ use native.Mathlib.Omega.{arith}
 use lib.ListN.{length, getD}
 use lib.Dec.{T, ltb, leb}
 use borrow.Author.Tests.{ltb-true, ltb-false, leb-true, leb-false, lt-ltb, le-ltb, le-leb, lt-leb}
-use Rattle.condition.specs.Condition.{Word, Holds}
-use Rattle.condition.specs.Places.{accepts}
+use Rattle.condition.specs.Condition.{Condition, Word, Holds, Longest}
+use Rattle.condition.specs.Places.{accepts, longest}
 use Rattle.condition.proofs.Words.{words}
+use Rattle.condition.proofs.Longest.{longest-meets, longest-only}
 use Rattle.sheet.specs.Model.{Model, wordLimit}
 use Rattle.sheet.specs.Each.{Each, nil, cons}
 use Rattle.sheet.specs.Sheet.{condition}
 use Rattle.sheet.specs.Reading.{Reading, ReadResult, whole, refusal, readSheet}
 use Rattle.sheet.specs.Decode.{sheetOf}
 use Rattle.sheet_laws.proofs.SheetOf.{sheet-is}
-use Rattle.verdict.specs.WordTest.{Answer, tested, untested, unlessStray, testedAfter, wordTest}
+use Rattle.verdict.specs.WordTest.{Answer, held, not-held, untested, tested, unlessStray, testedAfter, wordTest}
 use Rattle.verdict.specs.Reply.{answerReply}
 use Rattle.verdict.specs.Promise.{FindsCondition, FirstStray, WordRefusedFor, sheet-refused, no-such-condition, word-too-long, stray-event, TakesWord, TestsWord, TestsAsPromised}
-use Rattle.verdict.proofs.Reply.{IsTested, reply-untested}
+use Rattle.verdict.proofs.Reply.{IsTested, IsHeld, lengthIn, reply-untested}
 use Rattle.verdict.proofs.Models.{word-on-larger, tested-as-before}
 
-abbrev saidIn : Answer → Bool
-saidIn (tested b) = b
-saidIn (untested n at) = false
+-- Yes and no ------------------------------------------------------------------------------------------------------------
+
+module _ (r : Condition) (w : Word) where
+  -- yes or no, by whether the places accept the word
+  abbrev saying : Bool → Answer
+  saying b = cond b held (not-held (longest r w))
+
+  pub tested-either : (tested r w ≡ held) ⊎ ((n : ℕ) × (tested r w ≡ not-held n))
+  tested-either = go (accepts r w)
+    where
+      go : (b : Bool) → (saying b ≡ held) ⊎ ((n : ℕ) × (saying b ≡ not-held n))
+      go true = inl refl
+      go false = inr (longest r w, refl)
+
+  pub is-tested : IsTested (tested r w)
+  is-tested = go (accepts r w)
+    where
+      go : (b : Bool) → IsTested (saying b)
+      go true = tt
+      go false = tt
+
+  -- yes exactly of the words that the condition holds
+  pub tested-yes : (tested r w ≡ held) ↔ Holds r w
+  tested-yes = (λ e. words r w .0 (out (accepts r w) e), λ h. within (accepts r w) (words r w .1 h))
+    where
+      out : (b : Bool) → saying b ≡ held → T b
+      out true e = tt
+      out false e = absurd (subst IsHeld (sym e) tt)
+
+      within : (b : Bool) → T b → saying b ≡ held
+      within true t = refl
+      within false t = absurd t
+
+  -- no exactly of the others, with the length of the longest beginning
+  pub tested-no : (n : ℕ) → (tested r w ≡ not-held n) ↔ ((Holds r w → ⊥) × Longest r w n)
+  tested-no n = (
+    λ e. let (lacks, same) = out (accepts r w) e in (λ h. lacks (words r w .1 h), subst (Longest r w) same (longest-meets r w)),
+    λ x. within (accepts r w) (λ t. x .0 (words r w .0 t)) ∙ ap not-held (sym (longest-only r w n (x .1))),
+  )
+    where
+      out : (b : Bool) → saying b ≡ not-held n → (T b → ⊥) × (longest r w ≡ n)
+      out true e = absurd (subst IsHeld e tt)
+      out false e = (λ t. t, ap lengthIn e)
+
+      within : (b : Bool) → (T b → ⊥) → saying b ≡ not-held (longest r w)
+      within true f = absurd (f tt)
+      within false f = refl
 
 -- Stray events ----------------------------------------------------------------------------------------------------------
 
@@ -82,7 +128,7 @@ strays n (e ∷ w) = go (ltb e n) refl (strays n w)
 
 module _ (M : Model) (s : List ℕ) (c : ℕ) (w : Word) where
   abbrev pub said : Answer
-  said = tested (accepts (condition (sheetOf M s) c) w)
+  said = tested (condition (sheetOf M s) c) w
 
   abbrev tooLong : Answer
   tooLong = cond (ltb wordLimit (length w)) (untested 12 none) (unlessStray (M .events) 0 w said)
@@ -146,15 +192,16 @@ module _ (M : Model) (s : List ℕ) (c : ℕ) (w : Word) where
       by-reading (refusal n at r) e = refuses n (some at) (sheet-refused e)
       by-reading (whole r) e = by-number r e (leb (length (sheetOf M s .conditions)) c) refl
 
-  taken-out : (b : Bool) → wordTest M s c w ≡ tested b → TakesWord M s c w
-  taken-out b h = go decided
+  taken-out : {answer : Answer} → wordTest M s c w ≡ answer → IsTested answer → TakesWord M s c w
+  taken-out h said-of = go decided
     where
       go : Decided → TakesWord M s c w
-      go (refuses n at f) = absurd (subst IsTested (sym (sym (refused-in f) ∙ h)) tt)
+      go (refuses n at f) = absurd (subst IsTested (sym h ∙ refused-in f) said-of)
       go (tests t) = t
 
   abbrev RefusalIn : Answer → Type 0
-  RefusalIn (tested b) = ⊥
+  RefusalIn held = ⊥
+  RefusalIn (not-held n) = ⊥
   RefusalIn (untested n at) = WordRefusedFor M s c w n at
 
   refused-out : (n : ℕ) (at : Option ℕ) → wordTest M s c w ≡ untested n at → WordRefusedFor M s c w n at
@@ -162,17 +209,23 @@ module _ (M : Model) (s : List ℕ) (c : ℕ) (w : Word) where
     where
       go : Decided → WordRefusedFor M s c w n at
       go (refuses k o f) = subst RefusalIn (sym (refused-in f) ∙ h) f
-      go (tests t) = absurd (subst IsTested (sym (taken-in t) ∙ h) tt)
+      go (tests t) = absurd (subst IsTested (sym (taken-in t) ∙ h) (is-tested (condition (sheetOf M s) c) w))
+
+  yes-out : TakesWord M s c w → wordTest M s c w ≡ held → TakesWord M s c w × Holds (condition (sheetOf M s) c) w
+  yes-out t e = (t, tested-yes (condition (sheetOf M s) c) w .0 (sym (taken-in t) ∙ e))
+
+  no-out : (n : ℕ) → TakesWord M s c w → wordTest M s c w ≡ not-held n
+      → TakesWord M s c w × (Holds (condition (sheetOf M s) c) w → ⊥) × Longest (condition (sheetOf M s) c) w n
+  no-out n t e = let (lacks, most) = tested-no (condition (sheetOf M s) c) w n .0 (sym (taken-in t) ∙ e) in (t, lacks, most)
 
   -- what the word test promises is true of the definition's answer
   pub tests-word : TestsWord M s c w (wordTest M s c w)
   tests-word =
       record {
         stated = refl;
-        tests-all = (λ t. (accepts (condition (sheetOf M s) c) w, taken-in t), λ x. taken-out (x .0) (x .1));
-        right =
-            λ b h.
-            subst (λ (b : Bool). T b ↔ Holds (condition (sheetOf M s) c) w) (ap saidIn (sym (taken-in (taken-out b h)) ∙ h)) (words (condition (sheetOf M s) c) w);
+        yes-iff = (λ e. yes-out (taken-out e tt) e, λ x. taken-in (x .0) ∙ tested-yes (condition (sheetOf M s) c) w .1 (x .1));
+        no-iff = λ n. (λ e. no-out n (taken-out e tt) e, λ x. taken-in (x .0) ∙ tested-no (condition (sheetOf M s) c) w n .1 (x .1, x .2));
+        tests-all = λ t. subst (λ (a : Answer). (a ≡ held) ⊎ ((n : ℕ) × (a ≡ not-held n))) (sym (taken-in t)) (tested-either (condition (sheetOf M s) c) w);
         refused-iff = λ n at. (λ e. refused-out n at (reply-untested (wordTest M s c w) n at e), λ f. ap answerReply (refused-in f));
         on-larger = λ M′ N. word-on-larger M M′ N s c w;
         as-before = λ k l. tested-as-before M s k l c w;

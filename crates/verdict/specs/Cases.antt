@@ -1,33 +1,34 @@
--- The starred cases of document 01, "Sheets to try": one list, and what is shown of each (proofs/Cases). Document 02, Ask 2, changes one line: "The sheet
--- 0F now gives `refused 3 at 0`."
+-- The starred cases of document 01, "Sheets to try": one list, and what is shown of each (proofs/Cases). Document 02 changes three lines: by Ask 2, "The
+-- sheet 0F now gives `refused 3 at 0`", and by Ask 3 the two words that are not held give `no 0`, where document 01's word test gives a bare no.
 use Prim.Native.Nat.{ℕ}
 use Prim.Native.String.{String}
 use mathlib.Core.Path.{_≡_}
-use mathlib.Core.Bool.{Bool, true, false}
 use mathlib.Core.List.{List, [], _∷_, _++_}
 use lib.ListN.{take}
-use Rattle.condition.specs.Condition.{Word, Holds}
+use Rattle.condition.specs.Condition.{Condition, Word, Holds, Longest}
 use Rattle.sheet.specs.Model.{large}
 use Rattle.sheet.specs.Sheet.{condition}
 use Rattle.sheet.specs.Decode.{sheetOf}
 use Rattle.verdict.specs.Verdict.{verdictOf}
-use Rattle.verdict.specs.WordTest.{tested, wordTest}
-use Rattle.verdict.specs.Line.{ascii, line}
+use Rattle.verdict.specs.WordTest.{Answer, held, not-held, untested, wordTest}
+use Rattle.verdict.specs.Line.{ascii, line, answerLine}
 
--- a sheet's bytes and the line that the loading program prints; or a sheet's bytes, the number of a condition of it, a word, and whether the
--- condition holds it
+-- a sheet's bytes and the line that the loading program prints; or a sheet's bytes, the number of a condition of it, a word, the word test's answer and
+-- the line that its program prints
 pub data Case : Type 0 where
   sheet : (bytes : List ℕ) (prints : String) → Case
-  word : (bytes : List ℕ) (number : ℕ) (events : Word) (holds : Bool) → Case
+  word : (bytes : List ℕ) (number : ℕ) (events : Word) (answer : Answer) (prints : String) → Case
 
-abbrev pub HoldsIf : Bool → Type 0 → Type 0
-HoldsIf true P = P
-HoldsIf false P = P → ⊥
+-- what an answer says of a word in the language of a condition
+abbrev pub Says : Answer → Condition → Word → Type 0
+Says held r w = Holds r w
+Says (not-held n) r w = (Holds r w → ⊥) × Longest r w n
+Says (untested n at) r w = ⊥
 
--- the definitions answer as the document says; of a word, the word test and the language do
+-- the definitions answer as the document says; of a word, the word test gives the answer, its line is printed, and what it says is so in the language
 abbrev pub AsStated : Case → Type 0
 AsStated (sheet s prints) = line (verdictOf large s) ≡ ascii prints
-AsStated (word s c w b) = (wordTest large s c w ≡ tested b) × HoldsIf b (Holds (condition (sheetOf large s) c) w)
+AsStated (word s c w a prints) = (wordTest large s c w ≡ a) × (answerLine a ≡ ascii prints) × Says a (condition (sheetOf large s) c) w
 
 -- "07 and six 00"
 abbrev pub point0 : List ℕ
@@ -69,9 +70,9 @@ cases =
     ∷ sheet M "accepted 6"
     ∷ sheet (take 40 M) "refused 8 at 40"
     ∷ sheet M′ "unproved rule 5 method 0 clause 3 pair 0 event 0 place 0"
-    ∷ word W 0 [] true
-    ∷ word W 0 (2 ∷ []) true
-    ∷ word W 0 (2 ∷ 0 ∷ []) true
-    ∷ word W 0 (0 ∷ []) false
-    ∷ word W 0 (0 ∷ 2 ∷ []) false
+    ∷ word W 0 [] held "yes"
+    ∷ word W 0 (2 ∷ []) held "yes"
+    ∷ word W 0 (2 ∷ 0 ∷ []) held "yes"
+    ∷ word W 0 (0 ∷ []) (not-held 0) "no 0"
+    ∷ word W 0 (0 ∷ 2 ∷ []) (not-held 0) "no 0"
     ∷ []

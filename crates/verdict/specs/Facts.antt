@@ -7,9 +7,9 @@ use mathlib.Core.Option.{none, some}
 use mathlib.Core.List.{List, [], map}
 use lib.ListN.{length, getElem?}
 use lib.Dec.{T}
-use Rattle.condition.specs.Condition.{Condition, Word, Holds, any}
+use Rattle.condition.specs.Condition.{Condition, Word, Holds, Longest, any}
 use Rattle.condition.specs.Exchange.{swap, exchange}
-use Rattle.condition.specs.Places.{nullable, accepts}
+use Rattle.condition.specs.Places.{nullable, step, stepAll, someEnds, accepts, longest}
 use Rattle.certificate.specs.Certificate.{Certificate}
 use Rattle.sheet.specs.Model.{Model, setEvents}
 use Rattle.sheet.specs.Each.{Each}
@@ -44,6 +44,10 @@ pub record Facts (M : Model) (s : List ℕ) : Type 0 where
   -- the word test by places, and the test of the empty word, are the language: of every condition and every word, however long
   pub words : (r : Condition) (w : Word) → T (accepts r w) ↔ Holds r w
   pub empty-word : (r : Condition) → T (nullable r) ↔ Holds r []
+  -- Request 3: what stepping tells besides its set is "whether any word can still be finished", from whatever set; and the count of events by it is the length
+  -- of the longest beginning
+  pub finishes : (r : Condition) (s e : ℕ) → T (step r s e .finishes) ↔ ((v : Word) × T (someEnds r (stepAll r (step r s e .set) v)))
+  pub longest-beginning : (r : Condition) (w : Word) → Longest r w (longest r w)
   -- the exchange of a channel with channel 0 is that of the events of words; "so "any" remains "any"" where there are the events of that channel; channel 0
   -- exchanges nothing
   pub exchanged : (c : ℕ) (r : Condition) (w : Word) → Holds (exchange c r) w ↔ Holds r (map (swap c) w)

@@ -2,14 +2,14 @@
 use Prim.Native.Nat.{ℕ, zero, suc, _+_, _/_, _%_}
 use Prim.Native.String.{String, [] as noChars, _∷_ as _andThen_}
 use Prim.Native.Char.{code}
-use mathlib.Core.Bool.{true, false, cond}
+use mathlib.Core.Bool.{cond}
 use mathlib.Core.Option.{Option}
 use mathlib.Core.List.{List, [], _∷_, _++_}
 use lib.Dec.{ltb}
 use Rattle.runs.specs.Rules.{ofMethod}
 use Rattle.verdict.specs.Verdict.{Report, accepted, refused, unproved}
-use Rattle.verdict.specs.WordTest.{Answer, tested, untested}
-use Rattle.verdict.specs.Reply.{replyOf}
+use Rattle.verdict.specs.WordTest.{Answer, held, not-held, untested}
+use Rattle.verdict.specs.Reply.{replyOf, answerReply}
 
 -- the bytes of a text in ASCII
 unfoldable pub ascii : String → List ℕ
@@ -57,6 +57,6 @@ line (unproved r k f) = labelled (unprovedTexts r) (replyOf (unproved r k f) .va
 -- what the word test's program prints
 unfoldable pub answerLine : Answer → List ℕ
 unfolding ascii decimal
-answerLine (tested true) = ascii "yes"
-answerLine (tested false) = ascii "no"
+answerLine held = ascii "yes"
+answerLine (not-held n) = labelled (ascii "no " ∷ []) (answerReply (not-held n) .values)
 answerLine (untested n at) = refusedLine n at

@@ -3,13 +3,11 @@
 -- nothing into it" is in its type, which lends it the sheet to be read.
 use Prim.Native.Nat.{ℕ, _+_, _≤_, _<_}
 use mathlib.Core.Path.{_≡_}
-use mathlib.Core.Bool.{Bool}
-use mathlib.Core.Logic.{_↔_}
+use mathlib.Core.Logic.{_⊎_, _↔_}
 use mathlib.Core.Option.{Option, none, some}
 use mathlib.Core.List.{List, [], _∷_, _++_}
 use lib.ListN.{length, getD}
-use lib.Dec.{T}
-use Rattle.condition.specs.Condition.{Condition, Word, Holds}
+use Rattle.condition.specs.Condition.{Condition, Word, Holds, Longest}
 use Rattle.certificate.specs.Certificate.{Certificate, Fault, fine, found, Exact}
 use Rattle.sheet.specs.Model.{Model, setEvents, NoLarger, withKinds, wordLimit}
 use Rattle.sheet.specs.Each.{Each}
@@ -22,7 +20,7 @@ use Rattle.runs.specs.Runs.{Move, run, Safe}
 use Rattle.runs.specs.Owing.{Owing, ToldApart}
 use Rattle.runs.specs.Owners.{AllOwned, Belongs}
 use Rattle.verdict.specs.Verdict.{Report, accepted, refused, unproved, testOf, certificatesNeeded, nextOf, verdictOf}
-use Rattle.verdict.specs.WordTest.{Answer, tested, wordTest}
+use Rattle.verdict.specs.WordTest.{Answer, held, not-held, wordTest}
 use Rattle.verdict.specs.Reply.{Reply, _giving_, placeValue, faultValues, replyOf, answerReply}
 
 -- Of a sheet's bytes ----------------------------------------------------------------------------------------------------
@@ -199,10 +197,14 @@ pub record TakesWord (M : Model) (s : List ℕ) (c : ℕ) (w : Word) : Type 0 wh
 pub record TestsWord (M : Model) (s : List ℕ) (c : ℕ) (w : Word) (answer : Answer) : Type 0 where
   -- the answer is the definition's
   pub stated : answer ≡ wordTest M s c w
-  -- Demand 2: "The word test is exactly the regular language": it says yes or no of each word that it takes, and yes exactly of the condition's words
-  pub tests-all : TakesWord M s c w ↔ ((b : Bool) × (answer ≡ tested b))
-  pub right : (b : Bool) → answer ≡ tested b → T b ↔ Holds (condition (sheetOf M s) c) w
-  -- and else names the first refusal that applies
+  -- Demand 2: "The word test is exactly the regular language": of the words that it takes, it says yes exactly of the condition's
+  pub yes-iff : (answer ≡ held) ↔ (TakesWord M s c w × Holds (condition (sheetOf M s) c) w)
+  -- and no of each other. Request 3: no carries "the length of the longest beginning of the word that begins some word of the condition"
+  pub no-iff : (n : ℕ) → (answer ≡ not-held n)
+      ↔ (TakesWord M s c w × (Holds (condition (sheetOf M s) c) w → ⊥) × Longest (condition (sheetOf M s) c) w n)
+  -- one of both of each word that it takes
+  pub tests-all : TakesWord M s c w → (answer ≡ held) ⊎ ((n : ℕ) × (answer ≡ not-held n))
+  -- and else it names the first refusal that applies
   pub refused-iff : (n : ℕ) (at : Option ℕ) → (answerReply answer ≡ n giving placeValue at) ↔ WordRefusedFor M s c w n at
   -- Request 8: the answer of an instrument that is no smaller is this one, unless this one is 1, 6, 2 at a kind that only the other takes,
   -- or 7 or 13 at an event that only the other has

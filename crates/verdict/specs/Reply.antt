@@ -5,7 +5,7 @@ use mathlib.Core.Option.{Option, none, some}
 use mathlib.Core.List.{List, [], _∷_}
 use Rattle.certificate.specs.Certificate.{Fault}
 use Rattle.verdict.specs.Verdict.{Report, accepted, refused, unproved}
-use Rattle.verdict.specs.WordTest.{Answer, tested, untested}
+use Rattle.verdict.specs.WordTest.{Answer, held, not-held, untested}
 
 -- the number in the table's first column, none where the sheet is accepted or the word tested, and the values behind it
 pub record Reply : Type 0 where
@@ -32,7 +32,8 @@ replyOf (accepted n) = record { number = none; values = n ∷ [] }
 replyOf (refused n at) = n giving placeValue at
 replyOf (unproved r k f) = 11 giving (r ∷ k ∷ faultValues f)
 
--- of the word test, yes and no have neither; "12", "13, index", "14", and those of reading
+-- of the word test, yes has neither, and no has no number but the length of the longest beginning; "12", "13, index", "14", and those of reading
 abbrev pub answerReply : Answer → Reply
-answerReply (tested b) = record { number = none; values = [] }
+answerReply held = record { number = none; values = [] }
+answerReply (not-held n) = record { number = none; values = n ∷ [] }
 answerReply (untested n at) = n giving placeValue at
