@@ -1,8 +1,7 @@
 -- The documents' numbers and values of each answer: "What the loader returns", "Seventeen rules", and document 02, Asks 2 and 4.
 use Prim.Native.Nat.{ℕ}
-use mathlib.Core.Bool.{true, false}
 use Rattle.verdict.specs.Verdict.{Report, accepted, refused, unproved}
-use Rattle.verdict.specs.WordTest.{Answer, tested, untested}
+use Rattle.verdict.specs.WordTest.{Answer, held, not-held, untested}
 use Rattle.format.specs.Refusal.{numberOf, placeOf}
 use Rattle.faults.specs.Fault.{faultOf}
 use Rattle.answers.specs.declared.Rule.{Rule}
@@ -77,6 +76,6 @@ reportOf (RefusedSheet x) = refused (numberOf x) (placeOf x)
 reportOf (Unproved r f) = unproved (ruleNumber r) (ruleSubject r) (faultOf f)
 
 abbrev pub answerOf : WordAnswer → Answer
-answerOf Yes = tested true
-answerOf No = tested false
+answerOf Yes = held
+answerOf (No n) = not-held n
 answerOf (RefusedWord x) = untested (numberOf x) (placeOf x)

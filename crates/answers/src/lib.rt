@@ -46,10 +46,10 @@ pub enum Verdict {
     Unproved { rule: Rule, fault: Fault },
 }
 
-// What the word test returns.
+// What the word test returns. A no has the length of the longest beginning of the word that begins some word of the condition.
 pub enum WordAnswer {
     Yes,
-    No,
+    No(usize),
     Refused(Refusal),
 }
 

@@ -1,12 +1,11 @@
 -- The lines, and the pieces that are put for each.
 use mathlib.Core.Path.{_≡_, refl, ap}
-use mathlib.Core.Bool.{true, false}
 use mathlib.Core.Option.{Option, none, some}
 use mathlib.Core.List.{List, _++_, append-assoc, append-nil}
 use Prim.Native.Nat.{ℕ}
 use Rattle.certificate.specs.Certificate.{Fault}
 use Rattle.verdict.specs.Verdict.{accepted, refused, unproved}
-use Rattle.verdict.specs.WordTest.{tested, untested}
+use Rattle.verdict.specs.WordTest.{held, not-held, untested}
 use Rattle.verdict.specs.Line.{ascii, decimal, subjectName, refusedLine, line, answerLine}
 use Rattle.text.specs.Put.{Put}
 use Rattle.text.proofs.Put.{then}
@@ -19,13 +18,13 @@ pub refused-line : (n : ℕ) (at : Option ℕ) → line (refused n at) ≡ refus
 unfolding line
 refused-line n at = refl
 
-pub yes-line : answerLine (tested true) ≡ ascii "yes"
+pub yes-line : answerLine held ≡ ascii "yes"
 unfolding answerLine
 yes-line = refl
 
-pub no-line : answerLine (tested false) ≡ ascii "no"
+pub no-line : (n : ℕ) → answerLine (not-held n) ≡ ascii "no " ++ decimal n
 unfolding answerLine
-no-line = refl
+no-line n = ap (λ (d : List ℕ). ascii "no " ++ d) (append-nil (decimal n))
 
 pub untested-line : (n : ℕ) (at : Option ℕ) → answerLine (untested n at) ≡ refusedLine n at
 unfolding answerLine

@@ -100,7 +100,7 @@ fn put_answer(a: WordAnswer, out: &mut [u8; 160]) -> usize
 {
     match a {
         WordAnswer::Yes => put_text(b"yes", out, 0),
-        WordAnswer::No => put_text(b"no", out, 0),
+        WordAnswer::No(n) => put_value(b"no ", n, out, 0),
         WordAnswer::Refused(x) => put_refusal(x, out),
     }
 }

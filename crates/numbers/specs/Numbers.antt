@@ -1,6 +1,6 @@
 -- Answers as numbers, for callers in C and Rust: what the doors return and what they write into a lent slice.
 use Prim.Native.Nat.{ℕ, zero, suc, _-_, _^_}
-use mathlib.Core.Bool.{true, false, cond}
+use mathlib.Core.Bool.{cond}
 use mathlib.Core.Option.{Option, none, some}
 use mathlib.Core.List.{List, [], _∷_, _++_}
 use lib.ListN.{length, drop}
@@ -8,7 +8,7 @@ use lib.Dec.{leb}
 use Rattle.sheet.specs.Kind.{conditions, points, methods, steps, certificates}
 use Rattle.sheet.specs.Reading.{tally, ReadResult, whole, refusal}
 use Rattle.verdict.specs.Verdict.{Report, accepted, refused, unproved}
-use Rattle.verdict.specs.WordTest.{Answer, tested, untested}
+use Rattle.verdict.specs.WordTest.{Answer, held, not-held, untested}
 use Rattle.verdict.specs.Reply.{Reply, replyOf, answerReply}
 
 -- Status ----------------------------------------------------------------------------------------------------------------
@@ -29,8 +29,8 @@ reportStatus (unproved r k f) = 3
 
 -- 1 yes, 2 refused, 3 no
 abbrev pub answerStatus : Answer → ℕ
-answerStatus (tested true) = 1
-answerStatus (tested false) = 3
+answerStatus held = 1
+answerStatus (not-held n) = 3
 answerStatus (untested n at) = 2
 
 -- 1 read whole, 2 refused

@@ -93,7 +93,7 @@ pub fn answer_numbers(a: WordAnswer) -> [usize; ROOM]
 {
     match a {
         WordAnswer::Yes => [YES, 0, 0, 0, 0, 0, 0, 0],
-        WordAnswer::No => [NO, 0, 0, 0, 0, 0, 0, 0],
+        WordAnswer::No(n) => [NO, 0, n, 0, 0, 0, 0, 0],
         WordAnswer::Refused(x) => refusal_numbers(x),
     }
 }

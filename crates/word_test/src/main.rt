@@ -70,7 +70,8 @@ fn print_help() {
           \n\
           Tests whether a condition of the sheet in the file SHEET holds the word of the events, and prints one line.\n\
           CONDITION is the condition's number, counted from 0; each EVENT is a number, one of the instrument's events.\n\
-          \x20 yes, no             the condition holds the word, or not\n\
+          \x20 yes                 the condition holds the word\n\
+          \x20 no N                it does not; the first N events are the longest beginning that begins some word of the condition\n\
           \x20 refused N at P      the bytes are no well formed sheet, by refusal N, at the place P\n\
           \x20 refused 12          the word is longer than 4,096 events\n\
           \x20 refused 13 at I     the event at the index I is above the instrument's last\n\

@@ -1,17 +1,18 @@
 -- From a whole reading, or a refusal, to the word test's answer.
-use mathlib.Core.Path.{_≡_, sym, ap, _∙_, subst}
-use mathlib.Core.Bool.{Bool}
+use mathlib.Core.Path.{_≡_, refl, sym, ap, _∙_, subst}
+use mathlib.Core.Bool.{Bool, true, false, cond}
 use mathlib.Core.Option.{none, some}
 use mathlib.Core.List.{List}
 use Prim.Native.Nat.{ℕ, _≤_, _<_}
 use native.Mathlib.Omega.{arith}
 use lib.ListN.{length, getD}
-use Rattle.condition.specs.Places.{accepts}
+use Rattle.condition.specs.Condition.{Condition, Word}
+use Rattle.condition.specs.Places.{accepts, longest}
 use Rattle.sheet.specs.Model.{Model}
 use Rattle.sheet.specs.Sheet.{condition}
 use Rattle.sheet.specs.Decode.{sheetOf}
 use Rattle.sheet.proofs.Each.{each-index}
-use Rattle.verdict.specs.WordTest.{Answer, tested, untested, wordTest}
+use Rattle.verdict.specs.WordTest.{Answer, held, not-held, untested, tested, wordTest}
 use Rattle.verdict.specs.Promise.{TestsWord, FindsCondition, sheet-refused, no-such-condition, word-too-long, stray-event}
 use Rattle.verdict.proofs.WordTest.{tests-word, refused-in, taken-in}
 use Rattle.instrument.specs.declared.Instrument.{Instrument}
@@ -22,7 +23,22 @@ use Rattle.format.specs.Refusal.{numberOf, placeOf}
 use Rattle.sections.specs.declared.Contents.{Contents}
 use Rattle.reader.specs.Contract.{Refuses, ReadWhole}
 use Rattle.read_tables.proofs.Filled.{conditions-are}
+use Rattle.matching.specs.declared.Matched.{Matched}
+use Rattle.matching.specs.declared.Matched.the-variants.{Yes, No}
+use Rattle.matching.specs.Matched.{matched}
 use Rattle.words.specs.Stray.{StrayOrEnd}
+
+-- what matching tells, as an answer
+abbrev pub told : Matched → Answer
+told Yes = held
+told (No n) = not-held n
+
+told-is : (r : Condition) (w : Word) → told (matched r w) ≡ tested r w
+told-is r w = go (accepts r w)
+  where
+    go : (b : Bool) → told (cond b Yes (No (longest r w))) ≡ cond b held (not-held (longest r w))
+    go true = refl
+    go false = refl
 
 module _ {M : Model} {s : List ℕ} {c : Contents} (t : ReadWhole M s c) where
   pub condition-there : {k : ℕ} → k < c .tally .conditions → k < length (sheetOf M s .conditions)
@@ -43,8 +59,11 @@ module _ {M : Model} {s : List ℕ} {c : Contents} (t : ReadWhole M s c) where
         pub stray-at : (r : ℕ) → StrayOrEnd (M .events) w r → r < length w → untested 13 (some r) ≡ wordTest M s k w
         stray-at r f l = sym (refused-in M s k w (stray-event finds short (record { inside = l; before = f .before; stray = f .stops l })))
 
-        pub word-tested : ((i : ℕ) → i < length w → getD w i 0 < M .events) → (b : Bool) → b ≡ accepts (condition (sheetOf M s) k) w → tested b ≡ wordTest M s k w
-        word-tested below b e = ap tested e ∙ sym (taken-in M s k w (record { found = finds; short = short; none-stray = each-index _ 0 w below }))
+        pub word-tested : ((i : ℕ) → i < length w → getD w i 0 < M .events) → (m : Matched) → m ≡ matched (condition (sheetOf M s) k) w → told m ≡ wordTest M s k w
+        word-tested below m e =
+            ap told e
+            ∙ told-is (condition (sheetOf M s) k) w
+            ∙ sym (taken-in M s k w (record { found = finds; short = short; none-stray = each-index _ 0 w below }))
 
 module _ (M : Model) (s : List ℕ) (k : ℕ) (w : List ℕ) where
   -- a refusal that is met while reading

@@ -16,7 +16,8 @@ use fields::index;
 use format::Refusal;
 use instrument::Instrument;
 use instrument::limits_of;
-use places::holds_word;
+use matching::Matched;
+use matching::match_word;
 use reader::read_sheet;
 use sections::Contents;
 use sections::Read;
@@ -64,10 +65,10 @@ fn answer(
     if stray < word.len() {
         return WordAnswer::Refused(Refusal::StrayEvent(stray));
     }
-    if holds_word(s, conditions[condition] as usize, events, word) {
-        return WordAnswer::Yes;
+    match match_word(s, conditions[condition] as usize, events, word) {
+        Matched::Yes => WordAnswer::Yes,
+        Matched::No(n) => WordAnswer::No(n),
     }
-    WordAnswer::No
 }
 
 // The word test of an instrument, with a table for its points.

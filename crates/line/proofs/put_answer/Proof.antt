@@ -16,17 +16,17 @@ slice-aggregate-put-text c = search needs
 put-text-requires : tie.Need-put-text-requires
 put-text-requires c κs = search needs
 
-enum-told-2 : tie.Need-enum-told-2
-enum-told-2 c = search needs
-
-slice-aggregate-put-text-2 : tie.Need-slice-aggregate-put-text-2
-slice-aggregate-put-text-2 c = search needs
-
-put-text-requires-2 : tie.Need-put-text-requires-2
-put-text-requires-2 c κs = search needs
-
 enum-known-a : tie.Need-enum-known-a
 enum-known-a c = search needs
+
+slice-aggregate-put-value : tie.Need-slice-aggregate-put-value
+slice-aggregate-put-value c = search needs
+
+put-value-requires : tie.Need-put-value-requires
+put-value-requires c κs = search needs
+
+enum-known-a-2 : tie.Need-enum-known-a-2
+enum-known-a-2 c = search needs
 
 put-refusal-requires : tie.Need-put-refusal-requires
 put-refusal-requires c κs = search needs
@@ -40,13 +40,13 @@ returns c =
 returns-2 : tie.Need-returns-2
 unfolding ascii
 returns-2 c =
-    let arm = c .before .before .before in
-    rw (arm .enum-told2 .given .1, no-line) (begins (arm .before .before .pre) (omega arith) (c .put-text2 .ensures))
+    let arm = c .before .before .before .before in
+    rw (arm .a .given .1, no-line) (begins (arm .before .before .pre) (omega arith) (c .put-value .ensures .0))
 
 returns-3 : tie.Need-returns-3
 returns-3 c =
     let arm = c .before .before .before in
-    rw (arm .a .given .1, untested-line) (begins (arm .before .before .pre) (omega arith) (c .put-refusal .ensures .0))
+    rw (arm .a2 .given .1, untested-line) (begins (arm .before .before .pre) (omega arith) (c .put-refusal .ensures .0))
 
 pub put-answer-spec : {M : Type 1} → statement M
 put-answer-spec =
@@ -55,10 +55,10 @@ put-answer-spec =
     enum-told
     slice-aggregate-put-text
     put-text-requires
-    enum-told-2
-    slice-aggregate-put-text-2
-    put-text-requires-2
     enum-known-a
+    slice-aggregate-put-value
+    put-value-requires
+    enum-known-a-2
     put-refusal-requires
     returns
     returns-2

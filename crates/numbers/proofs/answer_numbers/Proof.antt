@@ -6,11 +6,11 @@ use Rattle.numbers.proofs.answer_numbers.Tie as tie
 enum-told : tie.Need-enum-told
 enum-told c = search needs
 
-enum-told-2 : tie.Need-enum-told-2
-enum-told-2 c = search needs
-
 enum-known-a : tie.Need-enum-known-a
 enum-known-a c = search needs
+
+enum-known-a-2 : tie.Need-enum-known-a-2
+enum-known-a-2 c = search needs
 
 refusal-numbers-requires : tie.Need-refusal-numbers-requires
 refusal-numbers-requires c κs = search needs
@@ -19,18 +19,18 @@ returns : tie.Need-returns
 returns c = rw (c .enum-told .given .1)
 
 returns-2 : tie.Need-returns-2
-returns-2 c = rw (c .enum-told2 .given .1)
+returns-2 c = rw (c .before .a .given .1)
 
 returns-3 : tie.Need-returns-3
-returns-3 c = rw (c .before .before .a .given .1) (c .refusal-numbers .ensures)
+returns-3 c = rw (c .before .before .a2 .given .1) (c .refusal-numbers .ensures)
 
 pub answer-numbers-spec : {M : Type 1} → statement M
 answer-numbers-spec =
     tie.close
     (tie.spec
     enum-told
-    enum-told-2
     enum-known-a
+    enum-known-a-2
     refusal-numbers-requires
     returns
     returns-2

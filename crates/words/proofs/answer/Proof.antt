@@ -1,10 +1,10 @@
-use mathlib.Core.Path.{sym, _∙_}
-use mathlib.Core.Bool.{true, false}
+use mathlib.Core.Path.{_≡_, sym, ap, _∙_}
 use native.Mathlib.Omega.{arith}
+use Rattle.verdict.specs.WordTest.{wordTest}
 use Rattle.instrument.specs.Model.{modelOf}
 use Rattle.instrument.proofs.Fits.{limits-fit}
 use Rattle.words.specs.Stray.{StrayOrEnd}
-use Rattle.words.proofs.Laws.{condition-there, condition-missing, too-long, stray-at, word-tested, stray-on}
+use Rattle.words.proofs.Laws.{condition-there, condition-missing, too-long, stray-at, told, word-tested, stray-on}
 use borrow.Author.Needs.{needs}
 use Rattle.words.proofs.answer.Statement.{statement}
 use Rattle.words.proofs.answer.Tie as tie
@@ -29,29 +29,36 @@ returns-3 : tie.Need-returns-3
 returns-3 c = let (t, named) = c .before .before .before .before .before .before .before .before .before .pre in
     stray-at t _ _ (condition-there t (c .before .before .before .before .if1 .left)) (c .before .before .before .if2 .left) _ (searched (c .before)) (c .if3 .taken)
 
-mul-holds-word : tie.Need-mul-holds-word
-mul-holds-word c = let (t, named) = c .before .before .before .before .before .before .before .before .before .pre in omega (arith, named _ (condition-there t (c .before .before .before .before .if1 .left)) .exists)
+mul-match-word : tie.Need-mul-match-word
+mul-match-word c = let (t, named) = c .before .before .before .before .before .before .before .before .before .pre in omega (arith, named _ (condition-there t (c .before .before .before .before .if1 .left)) .exists)
 
-element-copy-out-holds-word : tie.Need-element-copy-out-holds-word
-element-copy-out-holds-word c = let (t, named) = c .before .before .before .before .before .before .before .before .before .pre in named _ (condition-there t (c .before .before .before .before .if1 .left)) .exists
+element-copy-out-match-word : tie.Need-element-copy-out-match-word
+element-copy-out-match-word c = let (t, named) = c .before .before .before .before .before .before .before .before .before .pre in named _ (condition-there t (c .before .before .before .before .if1 .left)) .exists
 
-cast-holds-word : tie.Need-cast-holds-word
-cast-holds-word c = let (t, named) = c .before .before .before .before .before .before .before .before .before .before .pre in omega (arith, named _ (condition-there t (c .before .before .before .before .before .if1 .left)) .inside)
+cast-match-word : tie.Need-cast-match-word
+cast-match-word c = let (t, named) = c .before .before .before .before .before .before .before .before .before .before .pre in omega (arith, named _ (condition-there t (c .before .before .before .before .before .if1 .left)) .inside)
 
-holds-word-requires : tie.Need-holds-word-requires
-holds-word-requires c κs = (limits-fit (c .before .before .before .before .before .before .before .before .before .before .args .instrument) (c .before .before .before .limits-of .ensures) .few-events, λ i l. c .before .before .first-stray .ensures .before i (omega (arith, c .before .if3 .left)))
+match-word-requires : tie.Need-match-word-requires
+match-word-requires c κs = (limits-fit (c .before .before .before .before .before .before .before .before .before .before .args .instrument) (c .before .before .before .limits-of .ensures) .few-events, λ i l. c .before .before .first-stray .ensures .before i (omega (arith, c .before .if3 .left)))
+
+-- what matching tells is the answer
+tells : (c : tie.After-match-word) → let x = c .before .before .before .before .before .before .before .before .before .before .before .args in told (c .match-word .result) ≡ wordTest (modelOf (x .instrument)) (x .s .now) (x .condition) (x .word .now)
+tells c = let (t, named) = c .before .before .before .before .before .before .before .before .before .before .before .pre in
+    let there = condition-there t (c .before .before .before .before .before .before .if1 .left) in
+    word-tested t _ _ there (c .before .before .before .before .before .if2 .left) (λ i l. searched (c .before .before .before) .before i (omega (arith, c .before .before .if3 .left))) _
+    (c .match-word .ensures _ (named _ there .stands))
+
+enum-told : tie.Need-enum-told
+enum-told c = search needs
+
+enum-known-n : tie.Need-enum-known-n
+enum-known-n c = search needs
 
 returns-4 : tie.Need-returns-4
-returns-4 c = let (t, named) = c .before .before .before .before .before .before .before .before .before .before .before .before .pre in
-    let there = condition-there t (c .before .before .before .before .before .before .before .if1 .left) in
-    word-tested t _ _ there (c .before .before .before .before .before .before .if2 .left) (λ i l. searched (c .before .before .before .before) .before i (omega (arith, c .before .before .before .if3 .left))) true
-    (sym (c .if4 .taken) ∙ c .before .holds-word .ensures _ (named _ there .stands))
+returns-4 c = ap told (sym (c .enum-told .given .1)) ∙ tells (c .before .before)
 
 returns-5 : tie.Need-returns-5
-returns-5 c = let (t, named) = c .before .before .before .before .before .before .before .before .before .before .before .before .pre in
-    let there = condition-there t (c .before .before .before .before .before .before .before .if1 .left) in
-    word-tested t _ _ there (c .before .before .before .before .before .before .if2 .left) (λ i l. searched (c .before .before .before .before) .before i (omega (arith, c .before .before .before .if3 .left))) false
-    (sym (c .if4 .left) ∙ c .before .holds-word .ensures _ (named _ there .stands))
+returns-5 c = ap told (sym (c .before .n .given .1)) ∙ tells (c .before .before .before)
 
 pub answer-spec : {M : Type 1} → statement M
 answer-spec =
@@ -62,9 +69,11 @@ answer-spec =
     limits-of-requires
     first-stray-requires
     returns-3
-    mul-holds-word
-    element-copy-out-holds-word
-    cast-holds-word
-    holds-word-requires
+    mul-match-word
+    element-copy-out-match-word
+    cast-match-word
+    match-word-requires
+    enum-told
+    enum-known-n
     returns-4
     returns-5)
