@@ -17,6 +17,7 @@ from reference import loader, wordtest
 from sheets import records as r
 from sheets.assemble import TextError, assemble
 from sheets.disassemble import disassemble
+from test_outcomes import without_number
 
 FRONT, POINT, METHOD = M[:2], M[2:9], M[9:20]
 SMALL = FRONT + POINT + METHOD
@@ -171,7 +172,7 @@ class Limits(unittest.TestCase):
         for instrument in (ENTRY, LARGE):
             for sheet in (SMALL, walk(64), SMALL + END * (8192 - 20)):
                 for condition, word, line in (
-                        (0, (), "yes"), (0, (0,), "no"), (0, (0,) * 4096, "no"),
+                        (0, (), "yes"), (0, (0,), "no 0"), (0, (0,) * 4096, "no 0"),
                         (0, (0,) * 4097, "refused 12"), (0, (0, 32), "refused 13 at 1"),
                         (1, (), "refused 14"), (1, (32,) * 4097, "refused 14"),
                         (0, (32,) * 4097, "refused 12")):
@@ -360,7 +361,7 @@ class SmallerAndLarger(unittest.TestCase):
                             for one in (small, large))
             if line not in (f"refused 1 at {small.bytes}", larger):
                 self.assertTrue(line.startswith("refused 6 at "))
-            found[line.split(" at ")[0], line == larger] += 1
+            found[without_number(line).split(" at ")[0], line == larger] += 1
         for line in ("yes", "no", "refused 13", "refused 14", "refused 2"):
             self.assertGreater(found[line, True], 4)
         for line in ("refused 1", "refused 6"):

@@ -6,6 +6,8 @@ import tempfile
 import unittest
 
 from generate import exchanges
+from generate.beginnings import parsed
+from generate.words import sheet_of
 from reference.instruments import FOUR_CHANNEL
 from sheets.assemble import assemble
 from sheets.records import channel_call, method, point
@@ -155,7 +157,7 @@ class Load(Programs):
 class WordTest(Programs):
     def test_words(self):
         for condition, word, line in [
-                (0, [], 'yes'), (0, [2, 0], 'yes'), (0, [0, 2], 'no'), (1, [2], 'refused 14'),
+                (0, [], 'yes'), (0, [2, 0], 'yes'), (0, [0, 2], 'no 0'), (1, [2], 'refused 14'),
                 (0, [2, 32], 'refused 13 at 1'), (0, [2, 256], 'refused 13 at 1'), (0, [2, 65538], 'refused 13 at 1'),
                 (2 ** 16, [2], 'refused 14'), (2 ** 64, [2], 'refused 14'),
                 (0, [2] + 4095 * [0], 'yes'), (0, [2] + 4096 * [0], 'refused 12'), (0, [2] + 5000 * [0], 'refused 12')]:
@@ -165,14 +167,30 @@ class WordTest(Programs):
     def test_instruments(self):
         for words in OPTIONS:
             for condition, word, line in [
-                    (0, [], 'yes'), (0, [2, 0], 'yes'), (0, [0, 2], 'no'), (1, [2], 'refused 14'), (0, [2, 64], 'refused 13 at 1'),
+                    (0, [], 'yes'), (0, [2, 0], 'yes'), (0, [0, 2], 'no 0'), (1, [2], 'refused 14'), (0, [2, 64], 'refused 13 at 1'),
                     (0, [2] + 4095 * [0], 'yes'), (0, [2] + 4096 * [0], 'refused 12')]:
                 self.prints(line, WORD_TEST, *words, CONDITION, str(condition), *map(str, word))
             for condition, word, line in [
-                    (1, [], 'yes'), (1, [2, 2], 'yes'), (1, [2, 0], 'no'), (2, [2], 'refused 14'), (1, [2, 64], 'refused 13 at 1'),
+                    (1, [], 'yes'), (1, [2, 2], 'yes'), (1, [2, 0], 'no 1'), (2, [2], 'refused 14'), (1, [2, 64], 'refused 13 at 1'),
                     (1, 4097 * [2], 'refused 12')]:
                 self.prints('refused 6 at 457' if 'entry' in words else line,
                             WORD_TEST, *words, LONG_WALK, str(condition), *map(str, word))
+
+    def test_beginnings(self):
+        """A no has the length of the longest beginning that begins a word of the condition, on each instrument."""
+        texts = ['(a | b none) c', 'any* none | a b c', 'a none', '(a b)* c', '(a | b none)*']
+        with tempfile.NamedTemporaryFile() as file:
+            file.write(sheet_of(map(parsed, texts)))
+            file.flush()
+            for condition, word, line in [
+                    (0, [], 'no 0'), (0, [1], 'no 0'), (0, [0], 'no 1'), (0, [0, 2], 'yes'), (0, [0, 2, 2], 'no 2'),
+                    (1, [0, 1] + 20 * [3], 'no 2'), (1, 20 * [3], 'no 0'), (2, [], 'no 0'), (2, [0], 'no 0'), (2, [0, 0], 'no 0'),
+                    (3, 2048 * [0, 1], 'no 4096'), (3, 2047 * [0, 1] + [0, 0], 'no 4095'), (3, [1] + 4095 * [0], 'no 0'),
+                    (3, 2048 * [0, 1] + [2], 'refused 12'), (4, 4095 * [0] + [1], 'no 4095'), (4, 4096 * [0], 'yes'),
+                    (4, 255 * [0] + [1], 'no 255'), (4, 256 * [0] + [1, 0], 'no 256'), (4, [0, 1, 64], 'refused 13 at 2'),
+                    (5, [0], 'refused 14')]:
+                for words in OPTIONS:
+                    self.prints(line, WORD_TEST, *words, file.name, str(condition), *map(str, word))
 
     def test_lengths_on_the_entry_instrument(self):
         with open(MINIMAL, 'rb') as sheet:
@@ -194,13 +212,13 @@ class WordTest(Programs):
             file.flush()
             small.flush()
             for condition, word, line in [
-                    (0, [31], 'yes'), (0, [32], 'no'), (0, [31, 63], 'no'), (1, [0, 31, 32, 63], 'yes'), (1, [63, 64], 'refused 13 at 1'),
+                    (0, [31], 'yes'), (0, [32], 'no 0'), (0, [31, 63], 'no 1'), (1, [0, 31, 32, 63], 'yes'), (1, [63, 64], 'refused 13 at 1'),
                     (1, [255], 'refused 13 at 0'), (1, [256], 'refused 13 at 0'), (1, 4096 * [63], 'yes'), (1, 4097 * [64], 'refused 12'),
                     (2, [64], 'refused 14')]:
                 self.prints(line, WORD_TEST, OPTION, 'four', file.name, str(condition), *map(str, word))
                 for words in OPTIONS[:3]:
                     self.prints('refused 2 at 7', WORD_TEST, *words, file.name, str(condition), *map(str, word))
-            self.prints('no', WORD_TEST, OPTION, 'four', small.name, '0', '32')
+            self.prints('no 0', WORD_TEST, OPTION, 'four', small.name, '0', '32')
             for words in OPTIONS[:3]:
                 self.prints('refused 13 at 0', WORD_TEST, *words, small.name, '0', '32')
 

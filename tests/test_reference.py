@@ -16,7 +16,7 @@ from generate.special import (ENTRY_EXAMPLES, EXAMPLES, M, closing_loops, exampl
 from generate.trees import random_tree
 from generate.plans import recursion, repeated_calls
 from generate.true_sheets import true_sheets
-from generate.words import condition_cases, is_light, matches
+from generate.words import condition_words, is_light, matches
 from reference.certificates import (Fault, first_fault, is_included, moves,
                                     reachable_pairs)
 from reference.conditions import (ANY, EITHER, EMPTY, JOIN, LEAF, STAR, holds,
@@ -120,7 +120,7 @@ class SheetsToTry(unittest.TestCase):
     def test_words(self):
         sheet = bytes.fromhex("02 0104000000 01FFFFFFFF 05 03 04 06") + FRONT[2:]
         for word, line in (((), "yes"), ((2,), "yes"), ((2, 0), "yes"),
-                           ((0,), "no"), ((0, 2), "no")):
+                           ((0,), "no 0"), ((0, 2), "no 0")):
             self.assertEqual(word_line(sheet, 0, word), line)
 
     def test_close_in_a_loop(self):
@@ -139,9 +139,9 @@ class Conditions(unittest.TestCase):
         self.assertEqual(places.last, 0b1000)
         self.assertEqual(places.follow, (0b1010, 0b0100, 0b1010, 0))
         self.assertEqual(places.ending, 0b1001)
-        self.assertEqual(step(places, 1, 0), 0b1010)
-        self.assertEqual(step(places, 0b1010, 1), 0b0100)
-        self.assertEqual(step(places, 0b1010, 31), 0)
+        self.assertEqual(step(places, 1, 0), (0b1010, True))
+        self.assertEqual(step(places, 0b1010, 1), (0b0100, True))
+        self.assertEqual(step(places, 0b1010, 31), (0, False))
 
     def test_join_needs_its_second(self):
         """A's last leaf does not end AB where B lacks the empty word."""
@@ -170,7 +170,7 @@ class Conditions(unittest.TestCase):
         draws = Draws(3)
         for _ in range(60):
             tree = random_tree(draws, draws.between(1, 6), [0, 1], 0.1)
-            for line, words in condition_cases(draws, tree, [0, 1], 3).items():
+            for line, words in condition_words(draws, tree, [0, 1], 3).items():
                 for word in words:
                     self.assertEqual(holds(tree, word), line == "yes")
 
@@ -301,7 +301,7 @@ class Certificates(unittest.TestCase):
                 self.assertTrue(matches(left, word))
                 self.assertFalse(matches(right, word))
                 continue
-            for inside in condition_cases(draws, left, [0, 1], 3)["yes"]:
+            for inside in condition_words(draws, left, [0, 1], 3)["yes"]:
                 if is_light(right, inside, 10000):
                     self.assertTrue(matches(right, inside))
         self.assertGreater(min(found.values()), 50)
@@ -353,7 +353,7 @@ class Loader(unittest.TestCase):
         self.assertEqual(word_line(FRONT, 1, long), "refused 14")
         self.assertEqual(word_line(FRONT, 0, long), "refused 12")
         self.assertEqual(word_line(FRONT, 0, (0, 40) * 2048), "refused 13 at 1")
-        self.assertEqual(word_line(FRONT, 0, (0,) * 4096), "no")
+        self.assertEqual(word_line(FRONT, 0, (0,) * 4096), "no 0")
         self.assertEqual(word_line(FRONT, 0, ()), "yes")
 
 

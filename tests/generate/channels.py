@@ -521,7 +521,7 @@ def refusal_group():
     trees = [(STAR, (LEAF, WIDE_ANY)), (EMPTY,)]
     cases = [(0, (1,) * 4097, "refused 12"), (0, (64,) * 4097, "refused 12"),
              (2, (64,), "refused 14"), (2, (64,) * 4097, "refused 14"),
-             (0, (63, 32, 31), "yes"), (1, (63,), "no")]
+             (0, (63, 32, 31), "yes"), (1, (63,), "no 0")]
     for event in NO_EVENTS:
         for length, at in ((1, 0), (7, 0), (7, 3), (7, 6), (4096, 4095)):
             word = (63,) * at + (event,) + (0,) * (length - at - 1)

@@ -323,7 +323,7 @@ def limit_groups(instrument):
     tree = (STAR, (LEAF, 6))
     front = r.condition(tree)
     words = [(), (1,), (2, 1), (0,), (1, 3), (32,), (1,) * 4097]
-    lines = ["yes", "yes", "yes", "no", "no", "refused 13 at 0", "refused 12"]
+    lines = ["yes", "yes", "yes", "no 0", "no 1", "refused 13 at 0", "refused 12"]
     cases = ([(0, word, line) for word, line in zip(words, lines)]
              + [(99, word, "refused 14") for word in words[-3:-1]])
     most = instrument.points

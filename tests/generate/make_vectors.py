@@ -7,10 +7,10 @@ four-channel instrument) and what it must print (stdout), below FOLDER, its crat
 files are the same byte for byte each time. A case whose line the documents give by
 construction must get that line from the reference. The cases of document 02, Ask 2,
 stand behind those of document 01 and Ask 8 in each file, those of Ask 4 behind these,
-then those of Ask 7, which are only read, those of Ask 9, and those of Ask 11 last. The
-files for the four-channel instrument have the cases of Ask 11, and behind them a part
-of the others, whose line is that of the large instrument where they use nothing of Ask
-11.
+then those of Ask 7, which are only read, those of Ask 9, those of Ask 11, and those of
+Ask 3, which are words, last. The files for the four-channel instrument have the cases of
+Ask 11, behind them a part of the others, whose line is that of the large instrument
+where they use nothing of Ask 11, and then those of Ask 3.
 """
 import sys
 import time
@@ -24,7 +24,8 @@ from reference.reading import read_sheet, reading_line
 from reference.rules import rule_count
 from sheets.records import encode
 
-from . import channels, entry, exchanges, faults, kinds, outcomes, owners, stops
+from . import (beginnings, channels, entry, exchanges, faults, kinds, outcomes, owners,
+               stops)
 from .refusals import Case, reading_cases, without_repeats
 from .special import last_cases, special_cases, wide_sides
 from .true_sheets import large_true_sheets, true_sheets
@@ -103,7 +104,7 @@ def write_words(path, groups, instrument):
     return lines
 
 
-# The cases of the large instrument without those of Ask 11.
+# The cases of the large instrument without those of Asks 11 and 3.
 FORMER = {
     "reading": (all_reading_cases, outcomes.reading_cases, stops.reading_cases,
                 kinds.reading_cases, owners.reading_cases),
@@ -117,7 +118,7 @@ MOST_BYTES = 3000
 
 @lru_cache(maxsize=None)
 def former(name):
-    """The cases of a file without those of Ask 11."""
+    """The cases of a file without those of Asks 11 and 3."""
     return [case for part in FORMER[name] for case in part()]
 
 
@@ -147,7 +148,8 @@ FILES = {
                 reading_line, LARGE),
     "sheets": (write_cases, (partial(former, "sheets"), exchanges.sheet_cases),
                load_line, LARGE),
-    "words": (write_words, (partial(former, "words"), channels.word_groups), LARGE),
+    "words": (write_words, (partial(former, "words"), channels.word_groups,
+                            beginnings.word_groups), LARGE),
     "entry_reading": (write_cases, (entry.reading_cases,
                                     outcomes.entry_reading_cases,
                                     stops.entry_reading_cases,
@@ -160,15 +162,16 @@ FILES = {
                                    exchanges.entry_sheet_cases), load_line, ENTRY),
     "entry_words": (write_words, (entry.word_groups, outcomes.entry_word_groups,
                                   stops.entry_word_groups, owners.entry_word_groups,
-                                  channels.entry_word_groups), ENTRY),
+                                  channels.entry_word_groups,
+                                  beginnings.entry_word_groups), ENTRY),
     "four_reading": (write_cases, (channels.four_reading_cases,
                                    partial(same_cases, "reading", reading_line, 5)),
                      reading_line, FOUR_CHANNEL),
     "four_sheets": (write_cases, (exchanges.four_sheet_cases,
                                   partial(same_cases, "sheets", load_line, 4)),
                     load_line, FOUR_CHANNEL),
-    "four_words": (write_words, (channels.four_word_groups, partial(same_groups, 6)),
-                   FOUR_CHANNEL),
+    "four_words": (write_words, (channels.four_word_groups, partial(same_groups, 6),
+                                 beginnings.four_word_groups), FOUR_CHANNEL),
 }
 
 

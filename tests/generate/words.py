@@ -1,4 +1,5 @@
-"""Words for the word test of document 01; the answers come from Python's re.
+"""Words for the word test of document 01; yes and no come from Python's re, the number
+of a no (document 02, Ask 3) from partial derivatives.
 
 Events become the characters chr(0x100 + e). The work that re would do is
 counted before it is asked, so that no case backtracks for long.
@@ -7,6 +8,7 @@ import re
 from functools import lru_cache
 from typing import NamedTuple
 
+from reference.beginnings import longest_beginning
 from reference.conditions import (ANY, EITHER, EMPTY, JOIN, LEAF, STAR, bits,
                                   holds)
 from reference.instruments import LARGE
@@ -204,7 +206,7 @@ def fits_limits(tree):
     return len(kinds) <= 96 and kinds.count(LEAF) <= 31
 
 
-def answer(tree, word):
+def said_of(tree, word):
     """yes or no, as re says; the automaton must say the same."""
     said = matches(tree, word)
     if said != holds(tree, word):
@@ -212,7 +214,17 @@ def answer(tree, word):
     return "yes" if said else "no"
 
 
-def condition_cases(draws, tree, alphabet, each, events=LARGE.events):
+def line_for(said, tree, word):
+    """The line of a word of which that is said."""
+    return said if said == "yes" else f"no {longest_beginning(tree, word)}"
+
+
+def answer(tree, word):
+    """The line of a word, by re and by derivatives."""
+    return line_for(said_of(tree, word), tree, word)
+
+
+def condition_words(draws, tree, alphabet, each, events=LARGE.events):
     """Up to that many words of the condition and as many others."""
     words = {"yes": [], "no": []}
     for _ in range(12 * each):
@@ -221,13 +233,20 @@ def condition_cases(draws, tree, alphabet, each, events=LARGE.events):
             word = changed(draws, word or (), alphabet, events)
         if len(word) > MAX_WORD or not is_light(tree, word, SHORT_WORK):
             continue
-        line = answer(tree, word)
-        if len(words[line]) < each and word not in words[line]:
-            words[line].append(word)
+        said = said_of(tree, word)
+        if len(words[said]) < each and word not in words[said]:
+            words[said].append(word)
         if len(words["yes"]) == len(words["no"]) == each:
             break
     both = min(len(words["yes"]), len(words["no"]))
-    return {line: some[:both or 2] for line, some in words.items()}
+    return {said: some[:both or 2] for said, some in words.items()}
+
+
+def condition_cases(draws, number, tree, alphabet, each, events=LARGE.events):
+    """These words as cases of the condition of that number."""
+    words = condition_words(draws, tree, alphabet, each, events)
+    return [(number, word, line_for(said, tree, word))
+            for said, some in words.items() for word in some]
 
 
 def sheet_of(trees):
@@ -244,11 +263,8 @@ def short_groups(seed, groups, conditions=8, each=4, events=LARGE.events):
             tree, alphabet = random_condition(draws, events)
             if not fits_limits(tree):
                 continue
-            words = condition_cases(draws, tree, alphabet, each, events)
-            number = len(trees)
+            cases += condition_cases(draws, len(trees), tree, alphabet, each, events)
             trees.append(tree)
-            cases += [(number, word, line) for line in ("yes", "no")
-                      for word in words[line]]
         yield Group(sheet_of(trees), draws.shuffled(cases))
 
 
@@ -365,9 +381,8 @@ def true_sheet_groups(seed, count, shapes=SHAPES, instrument=LARGE):
     for _, sheet in true_sheets(seed, count, shapes=shapes, instrument=instrument):
         cases = []
         for number, tree in enumerate(sheet.conditions):
-            words = condition_cases(draws, tree, [0, 1, events - 1], 2, events)
-            cases += [(number, word, line) for line in ("yes", "no")
-                      for word in words[line]]
+            cases += condition_cases(draws, number, tree, [0, 1, events - 1], 2,
+                                     events)
         ways = (sheet.certificates, [], [[]] * len(sheet.certificates))
         certificates = draws.pick(ways)
         yield Group(r.encode(sheet._replace(certificates=certificates)), cases)

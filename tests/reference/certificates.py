@@ -5,7 +5,7 @@ set of places of the right side. Sides are given as trees.
 """
 from typing import NamedTuple
 
-from .conditions import bits, followers, places_of
+from .conditions import bits, followers, places_of, stepped
 
 START = (0, 1)
 
@@ -26,25 +26,25 @@ class Listed:
             self.sets.setdefault(place, set()).add(rights)
         self.known = {}
 
-    def has_within(self, place, stepped):
+    def has_within(self, place, after):
         """Whether some pair has the place and a set within the stepped set."""
-        answer = self.known.get((place, stepped))
+        answer = self.known.get((place, after))
         if answer is None:
             sets = self.sets.get(place, ())
-            answer = stepped in sets or any(rights & ~stepped == 0
-                                            for rights in sets)
-            self.known[place, stepped] = answer
+            answer = after in sets or any(rights & ~after == 0 for rights in sets)
+            self.known[place, after] = answer
         return answer
 
 
 def moves(left, right, place, rights):
-    """Each event, follower and stepped set of a pair, in the order of clause 4."""
+    """Each event, follower and stepped set of a pair, in the order of clause 4. A set
+    from which no word can be finished is one like any other."""
     left_next = left.follow[place]
     right_next = followers(right, rights)
     for event in left.holding:
-        stepped = right_next & right.holding.get(event, 0)
+        after, _ = stepped(right, right_next, event)
         for follower in bits(left_next & left.holding[event]):
-            yield event, follower, stepped
+            yield event, follower, after
 
 
 def pair_fault(left, right, listed, index, pair):
@@ -54,8 +54,8 @@ def pair_fault(left, right, listed, index, pair):
         return Fault(2, index)
     if left.ending >> place & 1 and not rights & right.ending:
         return Fault(3, index)
-    for event, follower, stepped in moves(left, right, place, rights):
-        if not listed.has_within(follower, stepped):
+    for event, follower, after in moves(left, right, place, rights):
+        if not listed.has_within(follower, after):
             return Fault(4, index, event, follower)
     return None
 
@@ -78,10 +78,10 @@ def reachable_pairs(left_tree, right_tree, limit=None):
     left, right = places_of(left_tree), places_of(right_tree)
     pairs, seen = [START], {START}
     for place, rights in pairs:
-        for _, follower, stepped in moves(left, right, place, rights):
-            if (follower, stepped) not in seen:
-                seen.add((follower, stepped))
-                pairs.append((follower, stepped))
+        for _, follower, after in moves(left, right, place, rights):
+            if (follower, after) not in seen:
+                seen.add((follower, after))
+                pairs.append((follower, after))
         if limit is not None and len(pairs) > limit:
             return None
     return pairs

@@ -1,4 +1,5 @@
-"""Document 01, "Events and conditions" and the places of "Places and certificates".
+"""Document 01, "Events and conditions" and the places of "Places and certificates";
+document 02, Ask 3: where a word went wrong.
 
 A condition is a tree of tuples: (LEAF, set), (EMPTY,), (JOIN, a, b),
 (EITHER, a, b), (STAR, a). The tags are the kinds of the records; a leaf of kind 21
@@ -25,6 +26,7 @@ class Places(NamedTuple):
     sets: tuple      # sets[k]: the events of leaf k; sets[0] is 0
     ending: int      # the places that end a word
     holding: dict    # by event, ascending: the places whose leaf holds it
+    live: int        # the places from which a word can still be finished
 
     @property
     def leaves(self):
@@ -97,6 +99,18 @@ def _visit(tree, sets, follow):
             last | last2 if nullable2 else last2)
 
 
+def live_places(follow, sets, ending):
+    """The places from which a word can still be finished: those that end one, and
+    those that a live leaf follows whose set is not 0. A fixed point, backward."""
+    enterable = sum(1 << place for place, events in enumerate(sets) if events)
+    live, found = 0, ending
+    while found != live:
+        live = found
+        found |= sum(1 << place for place, after in enumerate(follow)
+                     if after & live & enterable and not live >> place & 1)
+    return live
+
+
 @lru_cache(maxsize=20000)
 def places_of(tree):
     """The Glushkov automaton of a tree."""
@@ -107,8 +121,9 @@ def places_of(tree):
     for place, events in enumerate(sets):
         for event in bits(events):
             holding[event] = holding.get(event, 0) | 1 << place
-    return Places(nullable, first, last, tuple(follow), tuple(sets),
-                  last | nullable, dict(sorted(holding.items())))
+    ending = last | nullable
+    return Places(nullable, first, last, tuple(follow), tuple(sets), ending,
+                  dict(sorted(holding.items())), live_places(follow, sets, ending))
 
 
 def followers(places, from_set):
@@ -119,15 +134,30 @@ def followers(places, from_set):
     return result
 
 
+def stepped(places, following, event):
+    """What an event makes of these followers: the set of those whose leaf holds it, and
+    whether a word can still be finished from one of that set."""
+    after = following & places.holding.get(event, 0)
+    return after, after & places.live != 0
+
+
 def step(places, from_set, event):
-    """A set of places stepped by an event."""
-    return followers(places, from_set) & places.holding.get(event, 0)
+    """A set of places stepped by an event: the set, and whether a word can still be
+    finished."""
+    return stepped(places, followers(places, from_set), event)
+
+
+def tested(tree, word):
+    """Whether the word is in the condition, and the length of its longest beginning
+    that begins a word of the condition; 0 for a condition without words."""
+    places = places_of(tree)
+    current, longest = 1, 0
+    for length, event in enumerate(word, 1):
+        current, finishable = step(places, current, event)
+        longest = length if finishable else longest
+    return current & places.ending != 0, longest
 
 
 def holds(tree, word):
     """Whether the word is in the condition."""
-    places = places_of(tree)
-    current = 1
-    for event in word:
-        current = step(places, current, event)
-    return current & places.ending != 0
+    return tested(tree, word)[0]

@@ -1,4 +1,5 @@
-"""Document 01, "What the loader returns": verdicts, their lines, the word test.
+"""Document 01, "What the loader returns": verdicts, their lines, the word test, whose
+no has the length of the longest beginning (document 02, Ask 3).
 
     python3 -m reference.loader [--instrument large|entry|four] < sheet
 """
@@ -6,7 +7,7 @@ import sys
 from typing import NamedTuple
 
 from .certificates import Fault, first_fault
-from .conditions import holds, places_of
+from .conditions import places_of, tested
 from .instruments import CHOICE, LARGE, chosen_instrument
 from .reading import Refusal, read_sheet
 from .rules import Rule, all_rules, certificates_needed, rule_count
@@ -83,7 +84,8 @@ def word_line_of(sheet, condition, word, instrument=LARGE):
     for index, event in enumerate(word):
         if event >= instrument.events:
             return f"refused 13 at {index}"
-    return "yes" if holds(sheet.conditions[condition], word) else "no"
+    held, longest = tested(sheet.conditions[condition], word)
+    return "yes" if held else f"no {longest}"
 
 
 def word_line(data, condition, word, instrument=LARGE):

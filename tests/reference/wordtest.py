@@ -1,4 +1,4 @@
-"""Document 01, the word test as a program.
+"""Document 01, the word test as a program; document 02, Ask 3: its no has a number.
 
     python3 -m reference.wordtest [--instrument large|entry|four] SHEET-FILE CONDITION
         EVENT...
