@@ -74,7 +74,11 @@ size_t sheet_loader_load_entry(const uint8_t *sheet, size_t sheet_len, size_t *o
  *   YES
  *   REFUSED     place; of 13 the index of the first byte that is no event of the
  *               instrument
- *   NO */
+ *   NO          length
+ * The length is that of the longest beginning of the word that begins some word of
+ * the condition: the event at that index is the first that is wrong or, where the
+ * length is the word's own, events are missing at its end. It is 0 if the condition
+ * holds no word. */
 #define SHEET_LOADER_YES 1
 #define SHEET_LOADER_NO 3
 size_t sheet_loader_word_test(size_t instrument, const uint8_t *sheet, size_t sheet_len,

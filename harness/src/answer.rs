@@ -53,10 +53,11 @@ pub enum Verdict {
     Unproved { rule: usize, subject: usize, fault: Fault },
 }
 
-/// The answer to one word.
+/// The answer to one word. No has the length of the longest beginning of the word that
+/// begins some word of the condition, 0 if the condition holds no word.
 #[derive(Clone, Copy, Debug, PartialEq, Eq)]
 pub enum Answer {
-    No,
+    No(usize),
     Yes,
     Refused(Refusal),
 }
@@ -118,7 +119,7 @@ impl fmt::Display for Verdict {
 impl fmt::Display for Answer {
     fn fmt(&self, f: &mut fmt::Formatter) -> fmt::Result {
         match self {
-            Answer::No => f.write_str("no"),
+            Answer::No(length) => write!(f, "no {length}"),
             Answer::Yes => f.write_str("yes"),
             Answer::Refused(refusal) => refusal.fmt(f),
         }

@@ -3,6 +3,7 @@ use crate::answer::Doors;
 use crate::clock;
 use crate::instrument::{Instrument, ENTRY, FOUR, LARGE};
 use crate::sheets;
+use crate::tree::TWO_CHANNELS;
 use std::hint::black_box;
 use std::time::Duration;
 
@@ -37,10 +38,9 @@ pub fn bench(all: &[Doors], word: &str) {
     }
 }
 
-/// Makes small sheets, one sheet, or a sheet and a word.
+/// Makes small sheets, or one sheet.
 type MakeSmall = fn(usize) -> Vec<Vec<u8>>;
 type MakeSheet = fn() -> Vec<u8>;
-type MakeWord = fn() -> (Vec<u8>, Vec<u8>);
 
 /// Makes the family of a name.
 type Make = Box<dyn Fn(&str) -> Family>;
@@ -69,11 +69,6 @@ fn two_channels() -> Families {
         ("as many rules as fit, owned points", sheets::owned_rules),
         ("large honest certificate", sheets::large_certificate),
     ];
-    let words: [(&str, MakeWord); 3] = [
-        ("word in the same places", sheets::steady_word),
-        ("word in changing places", sheets::changing_word),
-        ("word in one place at a time", sheets::single_word),
-    ];
     let readings: [(&str, MakeSheet); 3] = [
         ("reading alone", sheets::many_rules),
         ("reading alone, most records", sheets::many_records),
@@ -83,7 +78,7 @@ fn two_channels() -> Families {
     add(&mut list, &smalls, |name, make| small(name, LARGE, make(200)));
     add(&mut list, &loads, |name, make| one_load(name, LARGE, make()));
     add(&mut list, &sheets::HOSTILE, |name, make| one_load(name, LARGE, make(usize::MAX)));
-    add(&mut list, &words, |name, make| one_word(name, LARGE, make()));
+    add(&mut list, &sheets::WORDS, |name, make| one_word(name, LARGE, make(TWO_CHANNELS)));
     add(&mut list, &readings, |name, make| reading(name, LARGE, make()));
     add(&mut list, &sheets::ENTRY_SHEETS, |name, make| one_load(name, ENTRY, make()));
     list
@@ -103,12 +98,6 @@ fn four_channels() -> Families {
             sheets::each_of_64(usize::MAX)
         }),
     ];
-    let [steady, changing, single] = sheets::FOUR_WORDS;
-    let words: [(&str, MakeWord); 3] = [
-        ("word in the same places", steady),
-        ("word in changing places", changing),
-        ("word in one place at a time", single),
-    ];
     let readings: [(&str, MakeSheet); 2] = [
         ("reading alone, calls by channel", sheets::channel_rules),
         ("reading alone, most records", sheets::many_records),
@@ -117,7 +106,7 @@ fn four_channels() -> Families {
     add(&mut list, &smalls, |name, make| small(name, FOUR, make(200)));
     add(&mut list, &loads, |name, make| one_load(name, FOUR, make()));
     add(&mut list, &sheets::HOSTILE, |name, make| one_load(name, FOUR, sheets::doubled(make)));
-    add(&mut list, &words, |name, make| one_word(name, FOUR, make()));
+    add(&mut list, &sheets::WORDS, |name, make| one_word(name, FOUR, make(u64::MAX)));
     add(&mut list, &readings, |name, make| reading(name, FOUR, make()));
     list.into_iter().map(|(name, make)| (format!("{}: {name}", FOUR.name), make)).collect()
 }
@@ -163,7 +152,8 @@ fn one_load(name: &str, on: Instrument, sheet: Vec<u8>) -> Family {
 }
 
 fn one_word(name: &str, on: Instrument, (sheet, word): (Vec<u8>, Vec<u8>)) -> Family {
-    let name = format!("{name}, {} events on 31 leaves", word.len());
+    let events = if word.len() == 1 { "event" } else { "events" };
+    let name = format!("{name}, {} {events} on 31 leaves", word.len());
     let work = Box::new(move |doors: &Doors| {
         black_box((doors.word_test)(&on, black_box(&sheet), 1, black_box(&word)));
     });

@@ -1,12 +1,13 @@
 //! Two loaders on the same random sheets and words, on smaller and larger instruments;
-//! what requests 8 and 11 state of the instruments, and what requests 2, 4 and 9 leave as
-//! it was.
+//! what requests 8 and 11 state of the instruments, and what requests 2, 3, 4 and 9 leave
+//! as it was.
 mod seen;
 
 use crate::answer::{Answer, Counts, Doors, Refusal, Verdict};
-use crate::former::{Asked, Former};
+use crate::former::{Asked, Former, OldTest};
 use crate::instrument::{Instrument, ENTRY, FORMER_KINDS, FOUR, LARGE};
 use crate::random::Random;
+use crate::reference;
 use crate::sheets::{self, Test};
 use crate::smaller::{way, Pair, Related};
 use crate::vectors;
@@ -41,6 +42,8 @@ struct Comparison<'a> {
     limits: Related,
     /// The first loader's answers with fewer kinds, and the second's with all.
     former: [Former; FORMER_KINDS.len()],
+    /// The second loader's answers to words, and those of the old test.
+    old_test: OldTest,
     /// Whether the second loader takes any limits.
     any_limits: bool,
 }
@@ -66,6 +69,7 @@ fn run(one: &Doors, two: &Doors, sheets: usize, seed: u64, any_limits: bool) -> 
         models: Default::default(),
         limits: Related::default(),
         former: Former::all(),
+        old_test: OldTest::default(),
         any_limits,
     };
     let mut seeds = Random::new(seed);
@@ -73,6 +77,7 @@ fn run(one: &Doors, two: &Doors, sheets: usize, seed: u64, any_limits: bool) -> 
         let mut random = Random::new(seeds.next());
         let sheet = sheets::sheet(&mut random);
         let words = sheets::words(&sheet, &mut random);
+        comparison.seen.sheet(&sheet);
         comparison.models(&sheet, &words);
         if any_limits {
             comparison.limits(&sheet, &words, sheets::limits(&sheet, &mut random));
@@ -207,12 +212,27 @@ impl Comparison<'_> {
         self.words += 1;
         let one = (self.one.word_test)(on, sheet, test.condition, &test.word);
         let two = (self.two.word_test)(on, sheet, test.condition, &test.word);
-        self.seen.answer(on, &one);
+        self.seen.answer(on, &one, &test.word);
         if one != two {
             self.unlike(sheet, &said(test), on, [&one, &two]);
         }
         self.former_word(sheet, test, on, &two);
+        if one.refusal().is_none() {
+            self.old_word(sheet, test, on, &two);
+        }
         two
+    }
+
+    /// The test of a word that stops at the empty set alone, by the reference.
+    fn old_word(&mut self, sheet: &[u8], test: &Test, on: &Instrument, now: &Answer) {
+        let Ok(walk) = reference::walk(on, sheet, test.condition, &test.word) else { return };
+        if walk.hopeless {
+            self.seen.hopeless(on);
+        }
+        if !self.old_test.count(walk.held, now) {
+            let old = if walk.held { "yes" } else { "no" };
+            self.differ(sheet, &said(test), [("old test", &old), (self.two.name, now)]);
+        }
     }
 
     /// The loaders' answers differ.
@@ -255,7 +275,7 @@ impl Comparison<'_> {
     fn report(&self, seed: u64) {
         println!("{} against {}, seed {seed}", self.one.name, self.two.name);
         println!("{} loads and readings, {} words tested", self.loads, self.words);
-        println!("{} differences\n", self.differences);
+        println!("{} differences", self.differences);
         self.seen.print();
         let [first, second] = &self.models;
         first.print(ENTRY.name, LARGE.name);
@@ -264,6 +284,7 @@ impl Comparison<'_> {
             self.limits.print("the smaller", "the larger");
         }
         self.former.iter().for_each(Former::print);
+        self.old_test.print();
     }
 }
 

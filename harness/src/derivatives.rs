@@ -1,6 +1,11 @@
-//! Which word of one condition another lacks, by partial derivatives (Antimirov).
+//! Which word of one condition another lacks, and how far a word goes, by partial
+//! derivatives (Antimirov).
+#[cfg(test)]
+use crate::answer::Answer;
 use crate::naive::holds_empty;
 use crate::tree::Tree;
+#[cfg(test)]
+use std::collections::HashMap;
 use std::collections::{BTreeSet, HashSet, VecDeque};
 
 /// Pairs looked at before giving up.
@@ -87,4 +92,39 @@ pub fn missing_word(left: &Tree, right: &Tree, since: &[u8]) -> Result<Option<Ve
         }
     }
     Ok(None)
+}
+
+/// Whether a tree holds a word and, if not, the length of the longest beginning after
+/// which there is a way on that holds a word.
+#[cfg(test)]
+pub fn word_test(tree: &Tree, word: &[u8]) -> Answer {
+    let mut known = HashMap::new();
+    let mut finishes = |way: &Tree| *known.entry(way.clone()).or_insert_with(|| some_word(way));
+    let mut ways = Trees::from([tree.clone()]);
+    for (length, &event) in word.iter().enumerate() {
+        ways = step(&ways, event);
+        if !ways.iter().any(&mut finishes) {
+            return Answer::No(length);
+        }
+    }
+    match ways.iter().any(holds_empty) {
+        true => Answer::Yes,
+        false => Answer::No(word.len()),
+    }
+}
+
+/// Whether a tree holds a word: one of its derivatives by any events holds the empty one.
+#[cfg(test)]
+fn some_word(tree: &Tree) -> bool {
+    let events = events(tree, &Trees::new());
+    let mut seen = HashSet::from([tree.clone()]);
+    let mut todo = VecDeque::from([tree.clone()]);
+    while let Some(tree) = todo.pop_front() {
+        if holds_empty(&tree) {
+            return true;
+        }
+        let ways = events.iter().flat_map(|&event| partial(&tree, event));
+        todo.extend(ways.filter(|way| seen.insert(way.clone())));
+    }
+    false
 }

@@ -1,7 +1,8 @@
 //! What requests 2, 4 and 9 leave as it was, on the answers to one sheet with kinds up to
 //! a former highest one and with all kinds: the former answer is refused 2 at a record
-//! of a later kind, or equal to the latter with all its values.
-use crate::answer::{Refusal, Verdict};
+//! of a later kind, or equal to the latter with all its values. And what request 3 leaves
+//! as it was: yes and no are those of the test that stops at the empty set alone.
+use crate::answer::{Answer, Refusal, Verdict};
 use crate::instrument::{Instrument, FORMER_KINDS};
 
 /// What the former answer is.
@@ -116,5 +117,38 @@ impl Former {
         let [accepted, refused, unproved] = self.now;
         print!("\nloads of the first row, with all kinds: {accepted} accepted, ");
         println!("{refused} refused, {unproved} unproved");
+    }
+}
+
+/// How often a word's yes or no was that of the test that stops at the empty set alone.
+#[derive(Default)]
+pub struct OldTest {
+    yes: usize,
+    no: usize,
+    broken: usize,
+}
+
+impl OldTest {
+    /// Counts an answer, given that of the old test; tells whether the statement is true.
+    /// It is not asked of refusals.
+    pub fn count(&mut self, held: bool, now: &Answer) -> bool {
+        match (held, now) {
+            (_, Answer::Refused(_)) => return true,
+            (true, Answer::Yes) => self.yes += 1,
+            (false, Answer::No(_)) => self.no += 1,
+            _ => {
+                self.broken += 1;
+                return false;
+            }
+        }
+        true
+    }
+
+    pub fn print(&self) {
+        println!("\n| word test that stops at the empty set alone | words |");
+        println!("|---|---|");
+        println!("| yes, and yes | {} |", self.yes);
+        println!("| no, and no with a number | {} |", self.no);
+        println!("| neither | {} |", self.broken);
     }
 }

@@ -131,7 +131,7 @@ mod linked {
         match raw::word_test(on.number, sheet, condition, word, &mut out) {
             header::YES => Answer::Yes,
             header::REFUSED => Answer::Refused(refusal(&out)),
-            header::NO => Answer::No,
+            header::NO => Answer::No(out[2]),
             status => panic!("sheet_loader_word_test gave the status {status}"),
         }
     }

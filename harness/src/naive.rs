@@ -2,6 +2,7 @@
 //! records in a list, conditions as trees, the rules as a list, and every
 //! clause tested as it is stated. Slow.
 
+mod beginnings;
 mod glushkov;
 mod matching;
 mod reading;
@@ -9,6 +10,8 @@ mod reading;
 use crate::answer::{Answer, Counts, Doors, Fault, Refusal, Verdict};
 use crate::instrument::{Instrument, ENTRY};
 use crate::tree::Tree;
+#[cfg(test)]
+pub use beginnings::{by_cuts, by_places, by_positions};
 pub use glushkov::Side;
 pub use matching::{holds, holds_empty};
 pub use reading::{read as read_sheet, read_without, Act, Outcome, Sheet, Step};
@@ -244,6 +247,6 @@ pub fn word_test(on: &Instrument, bytes: &[u8], condition: usize, word: &[u8]) -
     if matching::holds(tree, word) {
         Answer::Yes
     } else {
-        Answer::No
+        Answer::No(beginnings::longest(tree, word))
     }
 }

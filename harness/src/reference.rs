@@ -7,12 +7,15 @@ mod places;
 mod reading;
 mod rules;
 mod search;
+mod words;
 
 use crate::answer::{Answer, Counts, Doors, Refusal, Verdict};
 use crate::instrument::{Instrument, ENTRY};
 use events::Events;
 use places::{Condition, Side};
 use reading::{Name, Sheet};
+use words::Stepping;
+pub use words::Walk;
 
 const LONGEST_WORD: usize = 4_096;
 
@@ -47,30 +50,42 @@ pub fn load_entry(sheet: &[u8]) -> Verdict {
     load(&ENTRY, sheet)
 }
 
-/// Whether a condition of the sheet holds a word.
+/// Whether a condition of the sheet holds a word and, if not, how far the word goes.
 pub fn word_test(on: &Instrument, sheet: &[u8], condition: usize, word: &[u8]) -> Answer {
-    let sheet = match Sheet::read(on, sheet) {
-        Ok(sheet) => sheet,
-        Err(refusal) => return Answer::Refused(refusal),
-    };
+    let tested = asked(on, sheet, condition, word).map(|condition| match few_events(on) {
+        true => with_steps::<u32, _>(condition, word, |steps| steps.test(word)),
+        false => with_steps::<u64, _>(condition, word, |steps| steps.test(word)),
+    });
+    tested.unwrap_or_else(Answer::Refused)
+}
+
+/// How a word goes by sets that are not empty.
+pub fn walk(on: &Instrument, sheet: &[u8], condition: usize, word: &[u8]) -> Result<Walk, Refusal> {
+    let condition = asked(on, sheet, condition, word)?;
+    Ok(match few_events(on) {
+        true => with_steps::<u32, _>(condition, word, |steps| steps.walk(word)),
+        false => with_steps::<u64, _>(condition, word, |steps| steps.walk(word)),
+    })
+}
+
+/// The condition that a word is tested on, or the refusal.
+fn asked<'a>(
+    on: &Instrument,
+    sheet: &'a [u8],
+    condition: usize,
+    word: &[u8],
+) -> Result<Condition<'a>, Refusal> {
+    let sheet = Sheet::read(on, sheet)?;
     if condition >= sheet.counts.conditions {
-        return Answer::Refused(Refusal::bare(14));
+        return Err(Refusal::bare(14));
     }
     if word.len() > LONGEST_WORD {
-        return Answer::Refused(Refusal::bare(12));
+        return Err(Refusal::bare(12));
     }
     if let Some(index) = word.iter().position(|&event| event >= on.events) {
-        return Answer::Refused(Refusal::at(13, index));
+        return Err(Refusal::at(13, index));
     }
-    let condition = sheet.condition(Name::plain(condition));
-    let held = match few_events(on) {
-        true => holds::<u32>(condition, word),
-        false => holds::<u64>(condition, word),
-    };
-    match held {
-        true => Answer::Yes,
-        false => Answer::No,
-    }
+    Ok(sheet.condition(Name::plain(condition)))
 }
 
 /// Whether sets of 32 events are enough for an instrument.
@@ -78,8 +93,12 @@ fn few_events(on: &Instrument) -> bool {
     on.events <= 32
 }
 
-fn holds<E: Events>(condition: Condition, word: &[u8]) -> bool {
-    let mut side = Side::<E>::new();
+fn with_steps<E: Events, T>(
+    condition: Condition,
+    word: &[u8],
+    work: impl Fn(Stepping<E>) -> T,
+) -> T {
+    let mut side = Side::new();
     side.whole(condition);
-    side.holds(word)
+    work(Stepping::new(&side, word))
 }

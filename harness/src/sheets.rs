@@ -5,6 +5,7 @@ mod draft;
 mod failing;
 mod families;
 mod honest;
+mod hopeless;
 mod hostile;
 mod limits;
 mod mutate;
@@ -27,12 +28,14 @@ pub use draft::{certificate, Method, Step, MOST_PAIRS};
 pub use failing::failing;
 use families::entry_rules;
 pub use families::{
-    changing_word, channel_rules, four_certificate, large_certificate, many_records, many_rules,
-    new_rules, owned_rules, single_word, small_channels, small_failing, small_honest, small_owned,
-    small_stopping, starred_channel_rules, starred_rules, steady_word, FOUR_WORDS,
+    channel_rules, four_certificate, large_certificate, many_records, many_rules, new_rules,
+    owned_rules, small_channels, small_failing, small_honest, small_owned, small_stopping,
+    starred_channel_rules, starred_rules, steady_word, WORDS,
 };
 #[cfg(test)]
 pub use honest::spoil;
+#[cfg(test)]
+pub use hopeless::tree as hopeless;
 pub use hostile::{doubled, each_of_64, HOSTILE};
 pub use limits::limits;
 #[cfg(test)]
@@ -47,15 +50,19 @@ pub use stray::{least, row};
 pub use words::{words, Test};
 pub use worst::{Recipe, WORST, WORST_ENTRY};
 
-/// One sheet of a random sort; a third is of the four-channel instrument, and of a third,
-/// points have owners.
+/// One sheet of a random sort; a third is of the four-channel instrument, in a third points
+/// have owners, and a third has conditions from which words cannot be finished.
 pub fn sheet(random: &mut Random) -> Vec<u8> {
     let sheet = match random.below(3) {
         0 => channels::sheet(random),
         _ => any_sort(random),
     };
-    match random.below(3) {
+    let sheet = match random.below(3) {
         0 => owners::owned(&sheet, random),
+        _ => sheet,
+    };
+    match random.below(5) {
+        0 | 1 => hopeless::with_hopeless(&sheet, random),
         _ => sheet,
     }
 }
@@ -112,6 +119,15 @@ pub fn points(sheet: &[u8]) -> (usize, usize) {
 /// Whether a sheet has a leaf with a set of 8 bytes.
 pub fn has_long_leaf(sheet: &[u8]) -> bool {
     mutate::split(sheet).iter().any(|record| record[0] == 21)
+}
+
+/// Whether a sheet has a leaf with the set 0.
+pub fn has_dead_leaf(sheet: &[u8]) -> bool {
+    let dead = |record: &Vec<u8>| match record[..] {
+        [1 | 21, ref set @ ..] => set.iter().all(|&byte| byte == 0),
+        _ => false,
+    };
+    mutate::split(sheet).iter().any(dead)
 }
 
 /// Whether a sheet has a call by a channel that exchanges something, 1 to 3.

@@ -3,6 +3,7 @@
 use crate::answer::Doors;
 use crate::instrument::{Instrument, ENTRY, FOUR, LARGE};
 use crate::sheets;
+use crate::tree::TWO_CHANNELS;
 use std::hint::black_box;
 use std::thread;
 
@@ -21,11 +22,10 @@ pub fn stack(all: &[Doors]) {
     loads.extend(sheets::HOSTILE.map(|(name, make)| (name, make(usize::MAX))));
     let mut four = vec![("as many calls by channel as fit", sheets::channel_rules())];
     four.extend(sheets::HOSTILE.map(|(name, make)| (name, sheets::doubled(make))));
-    let [four_word, ..] = sheets::FOUR_WORDS;
     for &doors in all {
-        rows(doors, LARGE, &loads, sheets::steady_word());
+        rows(doors, LARGE, &loads, sheets::steady_word(TWO_CHANNELS));
         entry(doors);
-        rows(doors, FOUR, &four, four_word());
+        rows(doors, FOUR, &four, sheets::steady_word(u64::MAX));
     }
 }
 

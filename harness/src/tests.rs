@@ -1,4 +1,5 @@
 //! The starred cases of the document, and more.
+mod beginnings;
 mod certificates;
 mod channels;
 #[cfg(feature = "library")]
@@ -116,6 +117,6 @@ fn starred_words() {
     tests(&sheet, 0, &[], "yes");
     tests(&sheet, 0, &[2], "yes");
     tests(&sheet, 0, &[2, 0], "yes");
-    tests(&sheet, 0, &[0], "no");
-    tests(&sheet, 0, &[0, 2], "no");
+    tests(&sheet, 0, &[0], "no 0");
+    tests(&sheet, 0, &[0, 2], "no 0");
 }

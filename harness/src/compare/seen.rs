@@ -29,8 +29,30 @@ struct Answers {
     /// By rule and clause.
     unproved: [[usize; 6]; 27],
     yes: usize,
-    no: usize,
+    no: No,
     word_refused: [usize; 27],
+}
+
+/// How often no came, by its number.
+#[derive(Default)]
+struct No {
+    empty_word: usize,
+    none: usize,
+    some: usize,
+    whole: usize,
+    /// Those where a set of places was not empty, and no word could be finished from it.
+    hopeless: usize,
+}
+
+impl No {
+    fn count(&mut self, length: usize, word: usize) {
+        *match (length, word) {
+            (_, 0) => &mut self.empty_word,
+            (0, _) => &mut self.none,
+            _ if length == word => &mut self.whole,
+            _ => &mut self.some,
+        } += 1;
+    }
 }
 
 /// Sheets with so many bytes or points, and those of them that each instrument accepts.
@@ -43,6 +65,9 @@ struct Near {
 /// The answers on each instrument, and the sheets around the limits of the smallest.
 #[derive(Default)]
 pub struct Seen {
+    /// Sheets, and those of them that have a leaf with the set 0.
+    sheets: usize,
+    dead_leaf: usize,
     on: [Answers; ALL.len()],
     bytes: [Near; 3],
     points: [Near; 3],
@@ -57,6 +82,11 @@ impl Seen {
     fn answers(&mut self, on: &Instrument) -> Option<&mut Answers> {
         let which = ALL.iter().position(|one| one == on)?;
         Some(&mut self.on[which])
+    }
+
+    pub fn sheet(&mut self, sheet: &[u8]) {
+        self.sheets += 1;
+        self.dead_leaf += sheets::has_dead_leaf(sheet) as usize;
     }
 
     /// A verdict; one on other limits is not counted.
@@ -86,13 +116,19 @@ impl Seen {
     }
 
     /// A word's answer; one on other limits is not counted.
-    pub fn answer(&mut self, on: &Instrument, answer: &Answer) {
+    pub fn answer(&mut self, on: &Instrument, answer: &Answer, word: &[u8]) {
         let Some(seen) = self.answers(on) else { return };
         match answer {
             Answer::Yes => seen.yes += 1,
-            Answer::No => seen.no += 1,
+            Answer::No(length) => seen.no.count(*length, word.len()),
             Answer::Refused(refusal) => seen.word_refused[refusal.number] += 1,
         }
+    }
+
+    /// A word that came to a set of places from which no word can be finished.
+    pub fn hopeless(&mut self, on: &Instrument) {
+        let Some(seen) = self.answers(on) else { return };
+        seen.no.hopeless += 1;
     }
 
     /// A sheet's bytes and, if it reads well, its points, with the verdicts on the large
@@ -110,6 +146,7 @@ impl Seen {
     }
 
     pub fn print(&self) {
+        println!("{} sheets, {} with a leaf of the set 0\n", self.sheets, self.dead_leaf);
         self.print_answers();
         for (on, seen) in ALL.iter().zip(&self.on).filter(|(on, _)| on.points > ENTRY.points) {
             let clauses: Vec<String> = (1..6).map(|clause| format!("clause {clause}")).collect();
@@ -152,10 +189,24 @@ impl Seen {
         for number in REFUSALS.into_iter().filter(|number| !WORDS_ALONE.contains(number)) {
             row(&format!("refused {number}"), &self.on.each_ref().map(|seen| seen.refused[number]));
         }
+        self.print_words(&names);
+    }
+
+    fn print_words(&self, names: &str) {
+        type Cell = fn(&Answers) -> usize;
+        let rows: [(&str, Cell); 6] = [
+            ("yes", |seen| seen.yes),
+            ("no 0, of the empty word", |seen| seen.no.empty_word),
+            ("no 0, of another word", |seen| seen.no.none),
+            ("no, number between 0 and the word's length", |seen| seen.no.some),
+            ("no, number the word's length", |seen| seen.no.whole),
+            ("no, with places from which no word can be finished", |seen| seen.no.hopeless),
+        ];
         println!("\n| word tests | {names} |");
         println!("|---|{}", "---|".repeat(ALL.len()));
-        row("yes", &self.on.each_ref().map(|seen| seen.yes));
-        row("no", &self.on.each_ref().map(|seen| seen.no));
+        for (name, cell) in rows {
+            row(name, &self.on.each_ref().map(cell));
+        }
         for number in REFUSALS {
             let cells = self.on.each_ref().map(|seen| seen.word_refused[number]);
             row(&format!("refused {number}"), &cells);

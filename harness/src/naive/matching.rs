@@ -3,9 +3,9 @@ use super::glushkov::{empty, Side};
 use crate::tree::Tree;
 
 /// Words up to this length are tried choice by choice.
-const SHORT: usize = 8;
+pub const SHORT: usize = 8;
 /// Words up to this length have their positions in one number.
-const MIDDLE: usize = 120;
+pub const MIDDLE: usize = 120;
 /// Choices tried before giving up.
 const FUEL: usize = 20_000;
 

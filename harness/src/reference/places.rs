@@ -191,19 +191,6 @@ impl<E: Events> Side<E> {
         }
         holding
     }
-
-    /// Whether the side holds a word of events 0 to 63.
-    pub fn holds(&self, word: &[u8]) -> bool {
-        let holding = self.holding();
-        let mut set = 1;
-        for &event in word {
-            set = self.followers(set) & holding[event as usize & 63];
-            if set == 0 {
-                return false;
-            }
-        }
-        set & self.ends != 0
-    }
 }
 
 fn either(a: Item, b: Item) -> Item {

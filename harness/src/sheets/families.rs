@@ -222,37 +222,57 @@ fn certificate_of([zero, one, two]: [u64; 3], every: u64) -> Vec<u8> {
     certify(draft.bytes(), LONGEST)
 }
 
-/// A sheet whose condition 1 has 31 leaves, and a word of 4,096 events of it
-/// that stays in the same places.
-pub fn steady_word() -> (Vec<u8>, Vec<u8>) {
-    in_the_same_places(TWO_CHANNELS)
-}
+/// What makes a sheet whose condition 1 has 31 leaves, and a word, over these events.
+type MakeWord = fn(u64) -> (Vec<u8>, Vec<u8>);
 
-/// The same with a word that changes between sets of 15 and 16 places.
-pub fn changing_word() -> (Vec<u8>, Vec<u8>) {
-    in_changing_places(TWO_CHANNELS)
-}
+/// The words of the timings, with their names.
+pub const WORDS: [(&str, MakeWord); 6] = [
+    ("word in the same places", steady_word),
+    ("word in changing places", changing_word),
+    ("word in one place at a time", single_word),
+    ("word wrong at its last event", late_word),
+    ("short word beside a leaf of the set 0", short_word),
+    ("short word before a leaf of the set 0", hopeless_word),
+];
 
-/// The same with a word of 4,092 events that is in one place at a time.
-pub fn single_word() -> (Vec<u8>, Vec<u8>) {
-    in_one_place(TWO_CHANNELS)
-}
-
-/// The same three over 64 events.
-pub const FOUR_WORDS: [fn() -> (Vec<u8>, Vec<u8>); 3] =
-    [|| in_the_same_places(u64::MAX), || in_changing_places(u64::MAX), || in_one_place(u64::MAX)];
-
-fn in_the_same_places(every: u64) -> (Vec<u8>, Vec<u8>) {
+/// A word of 4,096 events that is held and stays in the same places.
+pub fn steady_word(every: u64) -> (Vec<u8>, Vec<u8>) {
     with_word(alike(every, 31).star(), every, 4_096)
 }
 
-fn in_changing_places(every: u64) -> (Vec<u8>, Vec<u8>) {
+/// The same with a word that changes between sets of 15 and 16 places.
+fn changing_word(every: u64) -> (Vec<u8>, Vec<u8>) {
     with_word(alike(every, 15).join(alike(every, 16)).star(), every, 4_096)
 }
 
-fn in_one_place(every: u64) -> (Vec<u8>, Vec<u8>) {
-    let chain = (1..31).fold(Tree::Leaf(every), |tree, _| tree.join(Tree::Leaf(every)));
-    with_word(chain.star(), every, 4_092)
+/// The same with a word of 4,092 events that is in one place at a time.
+fn single_word(every: u64) -> (Vec<u8>, Vec<u8>) {
+    with_word(chain(every, 31).star(), every, 4_092)
+}
+
+/// A word of 4,096 events that stays in the same places up to its last event, which no
+/// leaf holds.
+fn late_word(every: u64) -> (Vec<u8>, Vec<u8>) {
+    let last = every.count_ones() - 1;
+    let others = every & !(1 << last);
+    let (sheet, mut word) = with_word(alike(others, 31).star(), others, 4_096);
+    word[4_095] = last as u8;
+    (sheet, word)
+}
+
+/// A word of one event that begins a word of 30 events.
+fn short_word(every: u64) -> (Vec<u8>, Vec<u8>) {
+    with_word(chain(every, 30).either(Tree::Leaf(0)), every, 1)
+}
+
+/// A word of one event, after which a leaf of the set 0 comes 30 leaves further on.
+fn hopeless_word(every: u64) -> (Vec<u8>, Vec<u8>) {
+    with_word(chain(every, 30).join(Tree::Leaf(0)), every, 1)
+}
+
+/// As many leaves, one after another.
+fn chain(every: u64, leaves: usize) -> Tree {
+    (1..leaves).fold(Tree::Leaf(every), |tree, _| tree.join(Tree::Leaf(every)))
 }
 
 fn with_word(tree: Tree, every: u64, length: usize) -> (Vec<u8>, Vec<u8>) {

@@ -192,7 +192,7 @@ fn four_channels() {
         gives(|out| raw::load(on, &high, out), REFUSED, 2, &[3]);
     }
     gives(|out| raw::word_test(FOUR, &high, 1, &[63], out), YES, 0, &[]);
-    gives(|out| raw::word_test(FOUR, &high, 1, &[62], out), NO, 0, &[]);
+    gives(|out| raw::word_test(FOUR, &high, 1, &[62], out), NO, 0, &[0]);
     gives(|out| raw::word_test(FOUR, &high, 1, &[63, 64], out), REFUSED, 13, &[1]);
     for on in [LARGE, ENTRY] {
         gives(|out| raw::word_test(on, &least(), 0, &[31, 32], out), REFUSED, 13, &[1]);
@@ -272,7 +272,7 @@ fn testing_words() {
     };
     tests(0, &[2, 0], YES, 0, &[]);
     tests(0, &[], YES, 0, &[]);
-    tests(0, &[0, 2], NO, 0, &[]);
+    tests(0, &[0, 2], NO, 0, &[0]);
     tests(0, &[2; 4_096], YES, 0, &[]);
     tests(0, &[2; 4_097], REFUSED, 12, &[NO_PLACE]);
     tests(0, &[2, 64], REFUSED, 13, &[1]);
@@ -290,13 +290,38 @@ fn testing_words() {
         gives(|out| raw::word_test(on, &unknown_owner(), 9, &[99], out), REFUSED, 25, &[9]);
         gives(|out| raw::word_test(on, &owned(), 0, &[], out), YES, 0, &[]);
         gives(|out| raw::word_test(on, &stop(false), 0, &[], out), YES, 0, &[]);
-        gives(|out| raw::word_test(on, &stop(false), 1, &[], out), NO, 0, &[]);
+        gives(|out| raw::word_test(on, &stop(false), 1, &[], out), NO, 0, &[0]);
     }
     let long = [0; 8_193];
     for on in [LARGE, FOUR] {
         gives(|out| raw::word_test(on, &long, 0, &[], out), REFUSED, 2, &[0]);
     }
     gives(|out| raw::word_test(ENTRY, &long, 0, &[], out), REFUSED, 1, &[8_192]);
+}
+
+/// The number of a no is its first value: after 1 no word can be finished, after 0 one can.
+#[test]
+fn beginnings() {
+    let leaves = "01 01000000 01 02000000 01 00000000 03 04 01 04000000 03 06";
+    let star = "01 04000000 05 06";
+    let sheet = hex(&format!("{leaves} {star} 01 00000000 06 {POINT} {BODY}"));
+    let tests = |condition: usize, word: &[u8], status, values: &[usize]| {
+        for on in [LARGE, ENTRY, FOUR] {
+            gives(|out| raw::word_test(on, &sheet, condition, word, out), status, 0, values);
+        }
+    };
+    tests(0, &[], NO, &[0]);
+    tests(0, &[1], NO, &[0]);
+    tests(0, &[0], NO, &[1]);
+    tests(0, &[0, 2], YES, &[]);
+    tests(0, &[0, 2, 2], NO, &[2]);
+    let mut word = [2; 4_096];
+    tests(1, &word, YES, &[]);
+    word[4_095] = 0;
+    tests(1, &word, NO, &[4_095]);
+    word[0] = 0;
+    tests(1, &word, NO, &[0]);
+    tests(2, &word, NO, &[0]);
 }
 
 #[test]

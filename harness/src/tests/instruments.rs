@@ -129,7 +129,7 @@ fn other_refusals() {
         }
         let sheet = least();
         loads_on(&on, &sheet[..40], "refused 8 at 40");
-        tests_on(&on, &sheet, 0, &[0; 4_096], "no");
+        tests_on(&on, &sheet, 0, &[0; 4_096], "no 0");
         tests_on(&on, &sheet, 0, &[0; 4_097], "refused 12");
         tests_on(&on, &sheet, 0, &[0, on.events], "refused 13 at 1");
         tests_on(&on, &sheet, 1, &[64; 4_097], "refused 14");

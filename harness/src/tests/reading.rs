@@ -146,7 +146,7 @@ fn word_test_order() {
     tests(&sheet, 1, &long, "refused 14");
     tests(&sheet, 0, &long, "refused 12");
     tests(&sheet, 0, &[40; 4_097], "refused 12");
-    tests(&sheet, 0, &long[..4_096], "no");
+    tests(&sheet, 0, &long[..4_096], "no 0");
     tests(&sheet, 0, &[0, 31, 32, 33], "refused 13 at 2");
     tests(&sheet, usize::MAX, &[], "refused 14");
     tests(&sheet[..40], 1, &long, "refused 8 at 40");

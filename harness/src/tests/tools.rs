@@ -3,7 +3,7 @@ use super::{hex, least, BOTH};
 use crate::answer::Verdict;
 use crate::instrument::{ENTRY, FOUR, LARGE};
 use crate::random::Random;
-use crate::tree::Tree;
+use crate::tree::{Tree, TWO_CHANNELS};
 use crate::{compare, naive, reference, sheets, stack, vectors};
 
 #[test]
@@ -41,9 +41,6 @@ fn timed_sheets_are_accepted() {
     assert_eq!(reference::load(&LARGE, &large), Verdict::Accepted(6));
     let counts = reference::read(&LARGE, &sheets::many_records()).unwrap();
     assert_eq!(counts.certificates, 65_516);
-    for (sheet, word) in [sheets::steady_word(), sheets::changing_word(), sheets::single_word()] {
-        assert_eq!(reference::word_test(&LARGE, &sheet, 1, &word).to_string(), "yes");
-    }
 }
 
 #[test]
@@ -56,14 +53,21 @@ fn timed_sheets_of_four_channels() {
     let large = sheets::four_certificate();
     assert_eq!(sheets::pairs(&large), 10_371);
     assert_eq!(reference::load(&FOUR, &large), Verdict::Accepted(6));
-    for make in sheets::FOUR_WORDS {
-        let (sheet, word) = make();
-        assert!(word.contains(&63));
-        assert_eq!(reference::word_test(&FOUR, &sheet, 1, &word).to_string(), "yes");
-    }
     for sheet in sheets::small_channels(200) {
         assert!(sheets::has_channel(&sheet));
         assert!(matches!(reference::load(&FOUR, &sheet), Verdict::Accepted(_)));
+    }
+}
+
+#[test]
+fn timed_words() {
+    let lines = ["yes", "yes", "yes", "no 4095", "no 1", "no 0"];
+    for (on, every) in [(LARGE, TWO_CHANNELS), (FOUR, u64::MAX)] {
+        for ((name, make), line) in sheets::WORDS.into_iter().zip(lines) {
+            let (sheet, word) = make(every);
+            assert!(word.len() == 1 || word.contains(&(on.events - 1)), "{name}");
+            assert_eq!(reference::word_test(&on, &sheet, 1, &word).to_string(), line, "{name}");
+        }
     }
 }
 
@@ -165,7 +169,7 @@ fn stored_words() {
     let file = [&group[..], &hex("00000000 01000000 0000 0000")].concat();
     for doors in &BOTH {
         let lines = vectors::lines(doors, &LARGE, &vectors::Kind::Words, &file).unwrap();
-        assert_eq!(lines, ["yes", "no", "refused 14", "refused 13 at 1", "refused 9 at 0"]);
+        assert_eq!(lines, ["yes", "no 0", "refused 14", "refused 13 at 1", "refused 9 at 0"]);
     }
 }
 

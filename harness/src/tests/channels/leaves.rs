@@ -107,11 +107,11 @@ fn bits() {
         let bytes = (1u64 << event).to_le_bytes().map(|byte| format!("{byte:02X}")).concat();
         let sheet = with(&format!("15 {bytes}"));
         for other in 0..64 {
-            tests_on(&FOUR, &sheet, 0, &[other], if other == event { "yes" } else { "no" });
+            tests_on(&FOUR, &sheet, 0, &[other], if other == event { "yes" } else { "no 0" });
         }
     }
     let sheet = with("15 00000000 00000000");
-    (0..64).for_each(|event| tests_on(&FOUR, &sheet, 0, &[event], "no"));
+    (0..64).for_each(|event| tests_on(&FOUR, &sheet, 0, &[event], "no 0"));
 }
 
 /// Kind 1 leaves the upper bits 0: all its bits are not "any".
@@ -120,7 +120,7 @@ fn upper_bits_of_kind_1() {
     let (short, long) = (with(&format!("{LEAF} 05")), with(&format!("{LONG} 05")));
     for event in 0..64 {
         let word = [0, event, 31, event];
-        tests_on(&FOUR, &short, 0, &word, if event < 32 { "yes" } else { "no" });
+        tests_on(&FOUR, &short, 0, &word, if event < 32 { "yes" } else { "no 1" });
         tests_on(&FOUR, &long, 0, &word, "yes");
     }
 }
@@ -131,8 +131,8 @@ fn events_of_a_word() {
     let sheet = with(&format!("{LEAF} 05"));
     for (word, four, large) in [
         (&[31, 31][..], "yes", "yes"),
-        (&[31, 32], "no", "refused 13 at 1"),
-        (&[63, 32, 0], "no", "refused 13 at 0"),
+        (&[31, 32], "no 1", "refused 13 at 1"),
+        (&[63, 32, 0], "no 0", "refused 13 at 0"),
         (&[63, 64], "refused 13 at 1", "refused 13 at 0"),
         (&[31, 64, 32], "refused 13 at 1", "refused 13 at 1"),
         (&[255, 64, 32], "refused 13 at 0", "refused 13 at 0"),
@@ -143,7 +143,7 @@ fn events_of_a_word() {
         tests_on(&FOUR, &sheet, 1, word, "refused 14");
     }
     tests_on(&FOUR, &sheet, 0, &[64; 4_097], "refused 12");
-    tests_on(&FOUR, &sheet, 0, &[63; 4_096], "no");
+    tests_on(&FOUR, &sheet, 0, &[63; 4_096], "no 0");
 }
 
 #[test]
@@ -167,5 +167,5 @@ fn tally() {
         assert_eq!(read.to_string(), "read 2 1 1 0 1", "{}", doors.name);
     }
     tests_on(&FOUR, &sheet, 1, &[63], "yes");
-    tests_on(&FOUR, &sheet, 1, &[31], "no");
+    tests_on(&FOUR, &sheet, 1, &[31], "no 0");
 }

@@ -114,7 +114,7 @@ fn tally() {
         assert_eq!((doors.read)(&FOUR, &sheet), Ok(counts), "{}", doors.name);
     }
     tests_on(&FOUR, &sheet, 0, &[], "yes");
-    tests_on(&FOUR, &sheet, 0, &[63], "no");
+    tests_on(&FOUR, &sheet, 0, &[63], "no 0");
 }
 
 /// A sheet without kinds 21 and 22 and events above 31 has one answer on the large and

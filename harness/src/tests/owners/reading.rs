@@ -212,7 +212,7 @@ fn tally_and_words() {
             assert_eq!((doors.read)(&on, &sheet), Ok(counts), "{}", doors.name);
         }
         tests_on(&on, &sheet, 0, &[], "yes");
-        tests_on(&on, &sheet, 0, &[0], "no");
+        tests_on(&on, &sheet, 0, &[0], "no 0");
         tests_on(&on, &sheet, 1, &[], "refused 14");
     }
 }

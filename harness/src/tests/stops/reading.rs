@@ -228,11 +228,11 @@ fn words() {
                 tests_on(&on, &hex(&text), condition, word, line);
             };
             test(0, &[2], "yes");
-            test(0, &[], "no");
-            test(0, &[3], "no");
+            test(0, &[], "no 0");
+            test(0, &[3], "no 0");
             test(1, &[], "yes");
             test(1, &[3], "yes");
-            test(1, &[2], "no");
+            test(1, &[2], "no 0");
             test(2, &[], "refused 14");
         }
     }
