@@ -1,3 +1,4 @@
+#![tactic(auto)]
 // The answers of the loader and of the word test, and the documents' numbers for them.
 ghost use Rattle.std.specs.Prelude.{◌≡◌, ◌<◌};
 ghost use Rattle.runs.specs.Rules.{of_method};

@@ -1,3 +1,4 @@
+#![tactic(auto)]
 // The arguments of a program, the instrument and the files that they name, and what is said on standard error about them. The kit has no contract
 // for what is read and written, so the functions that only print have none.
 ghost use Rattle.std.specs.Prelude.{◌≡◌, true, ◌≤◌, length};

@@ -1,3 +1,4 @@
+#![tactic(auto)]
 // Cases in a file: a number of bytes, then as many bytes. The kit has no contract for what is read.
 ghost use Rattle.std.specs.Prelude.{◌≡◌, ◌≤◌, length};
 ghost use Rattle.cases.specs.Bounds.{AtMost};

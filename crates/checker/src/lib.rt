@@ -1,3 +1,4 @@
+#![tactic(auto)]
 // The tests of a sheet's rules, claim after claim, with the certificates that stand in its bytes one after the other.
 ghost use Rattle.std.specs.Prelude.{◌≤◌};
 ghost use Rattle.sheet.specs.Sheet.{Sheet};

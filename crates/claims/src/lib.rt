@@ -1,3 +1,4 @@
+#![tactic(auto)]
 // What a rule claims of conditions that stand in a sheet: a claim is a value, no byte of the sheet is read here.
 use answers::Rule;
 use postfix::Part;

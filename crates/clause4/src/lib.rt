@@ -1,3 +1,4 @@
+#![tactic(auto)]
 // Clause 4 of a pair: the events that are missing at each follower of its place, until a pair of that follower serves them. The table `missing`
 // has a row for each place; only the rows of the places `missers` count.
 ghost use Rattle.std.specs.Prelude.{◌≡◌, cond, ◌-◌, ◌≤◌, ◌<◌, ltb, length};

@@ -1,3 +1,4 @@
+#![tactic(auto)]
 // The clauses of a certificate: its first fault, found in its part of the sheet with the tables of the two sides.
 ghost use Rattle.std.specs.Prelude.{◌≡◌, ℕ, ◌+◌, ◌*◌, ◌≤◌, ◌<◌, ◌^◌, not, ◌&&◌, eqb, ltb, length};
 ghost use Rattle.std.specs.Int.Bits.{bit_and};

@@ -131,7 +131,7 @@ module _ (a b : Condition) where
 -- Sides whose leaves are followed by their own leaves alone -------------------------------------------------------------
 
 -- The condition b is a part of r: leaf suc j of b is leaf (at j) of r, ends a word where it does in b, and is followed by the same leaves.
-pub record PartMut (r b : Condition) (at : ℕ → ℕ) : Type 0 where
+pub record Part (r b : Condition) (at : ℕ → ℕ) : Type 0 where
   pub part-ends : (j : ℕ) → suc j ≤ leaves b → ends r (at j) ≡ ends b (suc j)
   pub part-holds : (j e : ℕ) → suc j ≤ leaves b → leaf_holds r (at j) e ≡ leaf_holds b (suc j) e
   pub follower-out : (j q : ℕ) → suc j ≤ leaves b → T (follows r (at j) q)
@@ -144,7 +144,7 @@ module _ (a b : Condition) where
   unfolding follows follow
   either-follows j l q = beside-left (leaves a) _ _ (suc j) l
 
-  pub either_first : PartMut (either a b) a (λ j. suc j)
+  pub either_first : Part (either a b) a (λ j. suc j)
   unfolding ends last leaf_holds leaf_set
   either_first = record {
     part-ends = λ j l. beside-left (leaves a) _ _ (suc j) l;
@@ -164,7 +164,7 @@ module _ (a b : Condition) where
       → ((j : ℕ) → ends r (suc (leaves a + j)) ≡ ends b (suc j))
       → ((j : ℕ) → leaf_set r (suc (leaves a + j)) ≡ leaf_set b (suc j))
       → ((j q : ℕ) → follows r (suc (leaves a + j)) q ≡ beside (leaves a) (λ k. false) (λ k. follows b (suc j) k) q)
-      → PartMut r b (λ j. suc (leaves a + j))
+      → Part r b (λ j. suc (leaves a + j))
   unfolding leaf_holds
   second r ends_is set_is follows_is = record {
     part-ends = λ j l. ends_is j;
@@ -178,10 +178,10 @@ module _ (a b : Condition) where
     follower-in = λ j k l i n. rw (follows_is j (suc (leaves a + k)), beside-right (leaves a) (λ k. false) (λ k. follows b (suc j) k) k) n;
   }
 
-  pub join-second : PartMut (join a b) b (λ j. suc (leaves a + j))
+  pub join-second : Part (join a b) b (λ j. suc (leaves a + j))
   unfolding ends last leaf_set follows follow
   join-second = second (join a b) (beside-right (leaves a) _ _) (beside-right (leaves a) _ _) (λ j q. beside-right (leaves a) _ _ j)
 
-  pub either_second : PartMut (either a b) b (λ j. suc (leaves a + j))
+  pub either_second : Part (either a b) b (λ j. suc (leaves a + j))
   unfolding ends last leaf_set follows follow
   either_second = second (either a b) (beside-right (leaves a) _ _) (beside-right (leaves a) _ _) (λ j q. beside-right (leaves a) _ _ j)

@@ -156,7 +156,7 @@ Entered r q = (e : ℕ) × T (leaf_holds r q e) × Leading r q
 abbrev Right : Condition → ℕ → Type 0
 Right r p = T (ends r p) ⊎ ((q : ℕ) × (p < q) × T (follows r p q) × Entered r q)
 
-part_right : {r b : Condition} {at : ℕ → ℕ} (part : PartMut r b at) → ((j k : ℕ) → j < k → at j < at k) → (j : ℕ) → suc j ≤ leaves b → Right b (suc j) → Right r (at j)
+part_right : {r b : Condition} {at : ℕ → ℕ} (part : Part r b at) → ((j k : ℕ) → j < k → at j < at k) → (j : ℕ) → suc j ≤ leaves b → Right b (suc j) → Right r (at j)
 part_right {r} {b} {at} part ascends j l (inl h) = inl (rw (part.part-ends j l) h)
 part_right {r} {b} {at} part ascends j l (inr (q, less, n, (e, t, (w, k)))) =
     let (i, g, m) = follows-suc b (suc j) q n in

@@ -1,3 +1,4 @@
+#![tactic(auto)]
 // The section reader of the conditions.
 ghost use Rattle.std.specs.Prelude.{◌≡◌, [], ◌≤◌, length};
 ghost use Rattle.sheet.specs.Kind.{conditions, points};

@@ -1,3 +1,4 @@
+#![tactic(auto)]
 // Arguments of a program that are numbers in decimal: one number, and the events of a word.
 ghost use Rattle.std.specs.Prelude.{◌≡◌, ◌≤◌};
 ghost use Rattle.decimal.specs.Decimal.{at_most, number_in};

@@ -1,3 +1,4 @@
+#![tactic(auto)]
 // What the test of a rule finds, as values.
 ghost use Rattle.std.specs.Prelude.{◌≡◌};
 ghost use Rattle.certificate.specs.Certificate.{found, fault};

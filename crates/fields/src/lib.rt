@@ -1,3 +1,4 @@
+#![tactic(auto)]
 // Fields of a sheet, low byte first. A byte past the end reads as 0, so each of these is total.
 ghost use Rattle.std.specs.Prelude.{◌≡◌, ◌+◌, ◌*◌, ◌≤◌, length};
 ghost use Rattle.sheet.specs.Record.{byte_at};

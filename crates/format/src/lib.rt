@@ -1,3 +1,4 @@
+#![tactic(auto)]
 // The records of a sheet: one byte of kind, then a body whose length the kind fixes.
 ghost use Rattle.std.specs.Prelude.{◌≡◌, ◌≤◌};
 ghost use Rattle.sheet.specs.Reading.{is_new};

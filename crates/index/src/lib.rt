@@ -1,3 +1,4 @@
+#![tactic(auto)]
 // The conditions of a sheet's points and methods, by the tables of offsets that lead to them.
 ghost use Rattle.std.specs.Prelude.{◌≡◌, List, ℕ};
 ghost use Rattle.sheet.specs.Sheet.{Outcome, failed, Sheet};

@@ -1,3 +1,4 @@
+#![tactic(auto)]
 // Bytes from files and from standard input. No contract says which bytes a read gives: the kit has none for what is read.
 ghost use Rattle.std.specs.Prelude.{◌≡◌, length, take};
 ghost use Rattle.input.specs.Input.{Within, ReadInto};

@@ -1,3 +1,4 @@
+#![tactic(auto)]
 // The instruments that sheets are loaded on, and what each takes.
 ghost use Rattle.std.specs.Prelude.{◌≡◌};
 ghost use Rattle.instrument.specs.Model.{limits_of, instrument_of};

@@ -1,3 +1,4 @@
+#![tactic(auto)]
 // The stack of items by which the places of a condition are found from its symbols in postfix order. Item i says of a condition whether it is
 // nullable, and has its first and its last leaves; `follow` and `sets` have the rows of the leaves of all items.
 ghost use Rattle.std.specs.Prelude.{◌≡◌, cond, List, ℕ, ◌<◌, ◌≤◌, length};

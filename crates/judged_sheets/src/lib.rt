@@ -1,1 +1,2 @@
+#![tactic(auto)]
 // Theorems stand in proofs/.

@@ -1,3 +1,4 @@
+#![tactic(auto)]
 // The kinds by name, and what reading asks of a kind: its section, and what it is to an open condition or certificate.
 ghost use Rattle.std.specs.Prelude.{◌≡◌, ◌≤◌};
 ghost use Rattle.sheet.specs.Kind.{kind_of, section_of};

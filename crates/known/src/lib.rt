@@ -1,3 +1,4 @@
+#![tactic(auto)]
 // Clause 4 of a pair, without a search where an earlier one says that it holds: many pairs of a certificate have the same followers.
 ghost use Rattle.std.specs.Prelude.{◌≡◌, ◌&&◌, ◌≤◌, eqb, length};
 ghost use Rattle.std.specs.Int.Bits.{bit_and};

@@ -1,3 +1,4 @@
+#![tactic(auto)]
 // The line that a program prints, without the newline.
 ghost use Rattle.std.specs.Prelude.{◌≡◌, ◌++◌, ◌+◌, ◌≤◌, ◌<◌, length};
 ghost use Rattle.verdict.specs.Verdict.{unproved};

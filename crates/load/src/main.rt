@@ -1,3 +1,4 @@
+#![tactic(auto)]
 // Loads a sheet on an instrument and prints one line. The sheet is the file that the argument names, or standard input. What is wrong with the
 // arguments, and what cannot be read or written, is said on standard error; a sheet that cannot be read gets no line.
 ghost use Rattle.std.specs.Prelude.{◌≤◌};

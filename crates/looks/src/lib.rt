@@ -1,3 +1,4 @@
+#![tactic(auto)]
 // Looks at pairs in a search for what a pair needs: a look at one pair, and which pairs need none. A pair serves an event at a place where it is a pair
 // of that place, and its set lies within the followers and has only places that hold the event.
 ghost use Rattle.std.specs.Prelude.{◌≡◌, false, not, cond, List, ℕ, ◌%◌, ◌≤◌, ◌<◌, T, eqb, length};

@@ -1,3 +1,4 @@
+#![tactic(auto)]
 // Whether a condition holds a word, by stepping its places event by event; where not, how far the word begins some word of it.
 ghost use Rattle.std.specs.Prelude.{◌≡◌, ℕ, ◌<◌, ◌≤◌, length, get_or};
 ghost use Rattle.bits.specs.Bits.{has};

@@ -1,3 +1,4 @@
+#![tactic(auto)]
 // The events that each place of a set holds: a pair with that set serves them. A table of 384 rows keeps them, so that a search need not find them
 // again: a row for each pair where a certificate has no more pairs than rows, as most have. Of a longer one the rows are for groups of places, and
 // a set takes six rows, whatever its places.

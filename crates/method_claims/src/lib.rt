@@ -1,3 +1,4 @@
+#![tactic(auto)]
 // What the rules of methods claim of the conditions that they name, by number: the rules of a start and of a method with body. No table and no byte of
 // the sheet is read here.
 ghost use Rattle.std.specs.Prelude.{◌≡◌, List, ℕ, ◌+◌};

@@ -1,3 +1,4 @@
+#![tactic(auto)]
 // Whether what a record names exists: names point only backward.
 ghost use Rattle.std.specs.Prelude.{◌≡◌, ℕ, ◌+◌, ◌≤◌, ◌<◌, length, ltb};
 ghost use Rattle.sheet.specs.Kind.{kind_of, section_of, steps};

@@ -1,3 +1,4 @@
+#![tactic(auto)]
 // How many rules a sheet has, and how many certificates they need: those of each subject, by its kind alone, summed.
 ghost use Rattle.std.specs.Prelude.{List, ◌++◌, ℕ, ◌+◌, ◌≤◌, ◌≡◌};
 ghost use Rattle.sheet.specs.Sheet as sheet;

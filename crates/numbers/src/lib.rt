@@ -1,3 +1,4 @@
+#![tactic(auto)]
 // An answer as eight numbers, for callers in C and Rust, and storing them in a lent slice.
 ghost use Rattle.std.specs.Prelude.{◌≡◌};
 ghost use Rattle.format.specs.Refusal.{number_of, place_of};

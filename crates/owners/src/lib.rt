@@ -1,3 +1,4 @@
+#![tactic(auto)]
 // Whose the points are that a record names: refusal 24; and whether each owner is a method: refusal 25.
 ghost use Rattle.std.specs.Prelude.{◌≡◌, true, ℕ, ◌+◌, ◌≤◌, length, take};
 ghost use Rattle.sheet.specs.Kind.{steps, section_of};

@@ -1,3 +1,4 @@
+#![tactic(auto)]
 // Certificates: a certificate is read from the sheet's own bytes, pair after pair.
 ghost use Rattle.std.specs.Prelude.{◌≡◌, ◌+◌, ◌*◌, ◌^◌, ◌≤◌, ◌<◌, length, drop};
 ghost use Rattle.certificate.specs.Certificate.{pair_of};

@@ -1,3 +1,4 @@
+#![tactic(auto)]
 // The places of a condition, or of two joined, as tables: from the postfix records in the sheet's bytes.
 ghost use Rattle.std.specs.Prelude.{◌≡◌, ◌≤◌, length};
 ghost use Rattle.condition.specs.Condition.{Condition, join};

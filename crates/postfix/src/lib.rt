@@ -1,3 +1,4 @@
+#![tactic(auto)]
 // The places of a condition from its symbols in postfix order, pushed on a stack of items one after the other.
 ghost use Rattle.std.specs.Prelude.{◌≡◌, true, ◌&&◌, ◌+◌, ◌-◌, ◌<◌, ◌≤◌, leb};
 ghost use Rattle.format.specs.Symbols.{is_symbol, items_taken, leaves_in};

@@ -1,3 +1,4 @@
+#![tactic(auto)]
 // An answer's line on standard output. Each function answers true where all was written; the kit has no contract for what is written.
 ghost use Rattle.std.specs.Prelude.{◌≤◌};
 

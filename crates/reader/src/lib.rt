@@ -1,3 +1,4 @@
+#![tactic(auto)]
 // Reading a sheet: section after section, until the sheet is read whole or refused.
 ghost use Rattle.std.specs.Prelude.{◌≤◌, length};
 ghost use Rattle.sheet.specs.Model.{entry};

@@ -1,3 +1,4 @@
+#![tactic(auto)]
 // The documents' number and place of each refusal.
 ghost use Rattle.std.specs.Prelude.{◌≡◌};
 ghost use Rattle.format.specs.Refusal.{number_of, place_of};

@@ -1,3 +1,4 @@
+#![tactic(auto)]
 // What a record of a condition does to the condition that is open: it adds to it, ends it, or is refused.
 ghost use Rattle.std.specs.Prelude.{◌≡◌, ◌≤◌};
 ghost use Rattle.refusals.specs.Step.{nothing_begun, leaves_of_kind, Modest, symbol_step, end_step, condition_step};

@@ -1,3 +1,4 @@
+#![tactic(auto)]
 // The section readers behind that of the conditions: each goes over the records of its section, counts them, and fills a table with their offsets.
 ghost use Rattle.std.specs.Prelude.{◌≡◌, [], suc, ◌≤◌, length};
 ghost use Rattle.sheet.specs.Kind.{certificates};

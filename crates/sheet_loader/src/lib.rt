@@ -1,3 +1,4 @@
+#![tactic(auto)]
 // Doors for C and Rust: reading a sheet, the loader and the word test on lent slices, the answer as a status and eight numbers. The instrument is
 // given as a number; one that is none's gets a status of its own.
 // C passes a slice as a pointer and the number of its elements; usize is size_t.

@@ -1,3 +1,4 @@
+#![tactic(auto)]
 // The sides of a claim: the places of its conditions, in tables.
 ghost use Rattle.condition.specs.Condition.{Condition};
 ghost use Rattle.places.specs.Tables.{Tables};

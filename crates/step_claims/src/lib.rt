@@ -1,3 +1,4 @@
+#![tactic(auto)]
 // What the rules of steps claim of the conditions that they name, by number: the rules of a step of each kind. No table and no byte of the sheet is read
 // here.
 ghost use Rattle.std.specs.Prelude.{List, ◌++◌, ℕ, ◌<◌};

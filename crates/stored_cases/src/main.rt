@@ -1,3 +1,4 @@
+#![tactic(auto)]
 // Runs the stored cases and prints a line for each: sheets that are read, sheets that are loaded, and words that are tested, on the large
 // instrument, then on the entry instrument and then on the four-channel one.
 use answers::Verdict;

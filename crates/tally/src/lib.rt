@@ -1,3 +1,4 @@
+#![tactic(auto)]
 // The tally of a sheet, which advances record by record.
 ghost use Rattle.std.specs.Prelude.{◌≡◌};
 ghost use Rattle.tally.specs.Tally.{count_of, Room, tally_after, nothing_counted};

@@ -1,3 +1,4 @@
+#![tactic(auto)]
 // Text and numbers in decimal, put into a buffer. Each function that puts something returns the place behind it.
 ghost use Rattle.std.specs.Prelude.{◌≡◌, ◌++◌, ◌+◌, ◌≤◌, ◌<◌, length};
 ghost use Rattle.verdict.specs.Line.{decimal};

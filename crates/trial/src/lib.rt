@@ -1,3 +1,4 @@
+#![tactic(auto)]
 // A question about a rule, put to its certificate.
 ghost use Rattle.std.specs.Prelude.{List, [], ◌∷◌, ◌≡◌, ℕ, ◌≤◌, length};
 ghost use Rattle.condition.specs.Condition.{Condition};

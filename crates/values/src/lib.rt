@@ -1,3 +1,4 @@
+#![tactic(auto)]
 // What stands at an offset, as a value: a point, a method, a step. The offset is that of a record of such a kind.
 ghost use Rattle.std.specs.Prelude.{◌≡◌, ◌+◌, ◌≤◌, ◌<◌, length};
 ghost use Rattle.sheet_laws.specs.AtOffset.{short_at, declared_at, point_at, method_at, step_at};

@@ -1,3 +1,4 @@
+#![tactic(auto)]
 // Tests a word in a condition of a sheet on an instrument and prints one line. The arguments are the sheet's file, the condition's number and the
 // events. What is wrong with them, and what cannot be read or written, is said on standard error.
 ghost use Rattle.std.specs.Prelude.{◌≤◌};

@@ -1,3 +1,4 @@
+#![tactic(auto)]
 // The word test, on any instrument.
 ghost use Rattle.std.specs.Prelude.{◌≡◌, ◌≤◌, length};
 ghost use Rattle.sheet.specs.Model.{large, entry, four};
