@@ -6,8 +6,7 @@ use lib.Bits.{bit_and, bit_xor}
 use Rattle.bits.specs.Bits.{has}
 use Rattle.bits.proofs.Masks.{has-and}
 use Rattle.bits.proofs.Bitwise.{has-without}
-use Rattle.bits.proofs.without.Statement.{statement}
-use Rattle.bits.proofs.without.Tie as tie
+use Rattle.bits.proofs.without.Goals as goal
 
 left_is : (a b k : ℕ) → has (bit_and a (bit_xor a b)) k ≡ (has a k && not (has b k))
 left_is a b k = has-and a (bit_xor a b) k ∙ go (has a k) refl
@@ -16,8 +15,5 @@ left_is a b k = has-and a (bit_xor a b) k ∙ go (has a k) refl
     go true e = has-without a b k (λ _. rw e tt) ∙ ap (λ (x : Bool). x && not (has b k)) e
     go false e = refl
 
-returns : tie.Need-returns
+pub returns : goal.returns
 returns c = λ k. left_is _ _ k
-
-pub without-spec : {M : Type 1} → statement M
-without-spec = tie.close (tie.spec returns)
