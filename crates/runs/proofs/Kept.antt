@@ -157,13 +157,13 @@ module _ (S : Sheet) where
   owed-due r (below n o) i = absurd (n i)
 
   -- in the new edition any word of the due where control is meets every future, also those that the calls below owe
-  due-meets : {p : ℕ} {h : Word} {cs : List Call} → S.new ≡ true → Frames S p h cs → (r : Returned) → Owed S r p h cs
+  due-meets : (r : Returned) → {p : ℕ} {h : Word} {cs : List Call} → S.new ≡ true → Frames S p h cs → Owed S r p h cs
       → (v : Word) → Holds (due S p) v → Ended S (h ++ v) r
-  due-meets marked f r (here d) v x = adds-more d v (λ u k. k v x)
-  due-meets marked (outermost x f) r (below n o) v y = absurd (elim o [ ])
-  due-meets marked (inner {c = c} x k d f) r (below n o) v y =
+  due-meets r marked f (here d) v x = adds-more d v (λ u k. k v x)
+  due-meets r marked (outermost x f) (below n o) v y = absurd (elim o [ ])
+  due-meets r marked (inner {c = c} x k d f) (below n o) v y =
       subst (λ z. Ended S z r) (sym (ap (λ (z : Word). z ++ v) (d marked).is ∙ append_assoc c.began (d marked).word v))
-      (due-meets marked f r o ((d marked).word ++ v) ((d marked).inside v y))
+      (due-meets r marked f o ((d marked).word ++ v) ((d marked).inside v y))
 
   stop-good : (s : State) → S.new ≡ true → Running S s.point s.history s.open-calls s.returned-calls → Holds (due S s.point) []
       → Good S (stop s)
@@ -172,7 +172,7 @@ module _ (S : Sheet) where
       record {
         begun = open-begun g.frames;
         owing = each_map owed-due g.owed;
-        met = each_map (λ r o. subst (λ h. Ended S h r) (append-nil s.history) (due-meets marked g.frames r o [] e)) g.owed;
+        met = each_map (λ r o. subst (λ h. Ended S h r) (append-nil s.history) (due-meets r marked g.frames o [] e)) g.owed;
         well = g.well;
       }
 

@@ -28,7 +28,7 @@ module _ {A : Type 0} {P : A → Type 0} where
 
   pub each_all : ((x : A) → P x) → {xs : List A} → Each P xs
   each_all f {xs = []} = nil
-  each_all f {xs = x ∷ xs} = cons (f x) (each_all f)
+  each_all f {xs = x ∷ xs} = cons (f x) (each_all f {xs = xs})
 
   pub each_append : {xs ys : List A} → Each P xs → Each P ys → Each P (xs ++ ys)
   each_append nil d = d
