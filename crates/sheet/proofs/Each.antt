@@ -57,10 +57,10 @@ pub each_member : {A : Type 0} (P : A → Type 0) {xs : List A} {y : A} → Each
 each_member P nil m = absurd (Memᴰ.not-nil m)
 each_member P (cons h t) m = ⊎_elim (λ e. subst P (sym e) h) (λ k. each_member P t k) (Memᴰ.cases_cons m)
 
-pub each-get_d : {A : Type 0} (P : A → Type 0) {xs : List A} → Each P xs → (d : A) → P d → (i : ℕ) → P (get_or xs i d)
-each-get_d P nil d h i = h
-each-get_d P (cons x t) d h zero = x
-each-get_d P (cons x t) d h (suc i) = each-get_d P t d h i
+pub each-get_or : {A : Type 0} (P : A → Type 0) {xs : List A} → Each P xs → (d : A) → P d → (i : ℕ) → P (get_or xs i d)
+each-get_or P nil d h i = h
+each-get_or P (cons x t) d h zero = x
+each-get_or P (cons x t) d h (suc i) = each-get_or P t d h i
 
 pub each-nth : {A : Type 0} (P : A → Type 0) {xs : List A} → Each P xs → (d : A) (i : ℕ) → i < length xs → P (get_or xs i d)
 each-nth P nil d i l = absurd (not-suc-le-zero l)

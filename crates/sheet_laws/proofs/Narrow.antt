@@ -19,7 +19,7 @@ use Rattle.sheet.specs.Kind.{Role, symbol, a_pair, counts, edition, Kind, a-kind
 use Rattle.sheet.specs.Record.{Bytes, Record, byte_at, record_at, value}
 use Rattle.sheet.specs.Reading.{Opened, Counted, Reading, item, opened_past, past_at, ReadResult, whole, refusal, read_sheet}
 use Rattle.sheet.specs.Decode.{sheet_in, sheet_of}
-use Rattle.sheet.proofs.Each.{each_tail, each-mapped, each-get_d}
+use Rattle.sheet.proofs.Each.{each_tail, each-mapped, each-get_or}
 use Rattle.sheet_laws.proofs.Fields.{first_bits, first-lt}
 use Rattle.sheet.proofs.Kind.{◌and◌, numbered}
 use Rattle.sheet_laws.proofs.Take.{or-false, Took}
@@ -51,7 +51,7 @@ module _ (n : ℕ) where
       and tt and (λ i. tt))
 
   item-below : (items : List Condition) → AllBelow items → (i : ℕ) → EventsBelow n (get_or items i no_word)
-  item-below items h i = each-get_d (λ c. EventsBelow n c) h no_word (pow_pos n) i
+  item-below items h i = each-get_or (λ c. EventsBelow n c) h no_word (pow_pos n) i
 
   drop-below : (i : ℕ) (items : List Condition) → AllBelow items → AllBelow (drop i items)
   drop-below zero items h = h
@@ -106,7 +106,7 @@ module _ (M : Model) (s : List ℕ) (wide : set_events M ≤ M.events) (bytes : 
   in-result (whole r) h c =
       let each = each-own M s (λ at (r : Reading). AllBelow M.events r.opened.items) (λ k (c : Counted). EventsBelow M.events (item c.opened 0))
       kept (λ at r w below e. item-below M.events r.opened.items below 0) r h nil 1 in
-      each-get_d (λ c. EventsBelow M.events c) (each-mapped (λ c. EventsBelow M.events c) (λ (c : Counted). item c.opened 0) each) no_word (pow_pos M.events) c
+      each-get_or (λ c. EventsBelow M.events c) (each-mapped (λ c. EventsBelow M.events c) (λ (c : Counted). item c.opened 0) each) no_word (pow_pos M.events) c
   in-result (refusal m at r) h c = pow_pos M.events
 
 pub conditions-below : (M : Model) (s : List ℕ) → set_events M ≤ M.events → Bytes s → (c : ℕ) → EventsBelow M.events (condition (sheet_of M s) c)

@@ -16,7 +16,7 @@ use Rattle.sheet.specs.Each.{Each}
 use Rattle.sheet.specs.Kind.{points}
 use Rattle.sheet.specs.Record.{Bytes, byte_at}
 use Rattle.sheet.specs.Reading.{Reading, ReadResult, whole, refusal, state_of, at_end, read_sheet}
-use Rattle.sheet.proofs.Each.{each-get_d}
+use Rattle.sheet.proofs.Each.{each-get_or}
 use Rattle.sheet_laws.proofs.ReadOn.{Ends, too_long as ends-too-long, at-record, at-the-end, read-ends, number_of, end-number, owners-number}
 use Rattle.sheet_laws.proofs.States.{Reached, at-start, past}
 use Rattle.verdict.specs.Verdict.{Report, accepted, refused, unproved, verdict_of}
@@ -200,7 +200,7 @@ module _ {s : List ℕ} (two : OfTwoChannels s) where
 
       loaded : {x : Answer} → TestsLikeLarger large four s w answer x → x ≡ answer
       loaded (as-loaded like) = same_answer answer_reply (λ n at above below e. go ((t.refused-iff n (some at)).0 e) refl below) like
-      loaded (word-above {i} above below e) = absurd (omega (arith, above, each-get_d (λ (e : ℕ). e ≤ 31) small 0 (omega arith) i))
+      loaded (word-above {i} above below e) = absurd (omega (arith, above, each-get_or (λ (e : ℕ). e ≤ 31) small 0 (omega arith) i))
 
 -- Answers that break it -------------------------------------------------------------------------------------------------------
 

@@ -1,6 +1,6 @@
 -- A rule that passes its test is true, and a true rule with an exact certificate passes. The left sides of the rules of a sheet that is read whole have
 -- only events of the instrument.
-use mathlib.Core.Path.{◌≡◌, refl, sym, subst}
+use mathlib.Core.Path.{◌≡◌, refl}
 use mathlib.Core.Bool.{Bool, true, false, cond}
 use mathlib.Core.Option.{Option, none, some}
 use mathlib.Core.List.{List, [], ◌∷◌}
