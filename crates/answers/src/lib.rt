@@ -8,7 +8,7 @@ use faults::Fault;
 use format::Refusal;
 
 // The rules 1 to 26, each with its method or its step.
-#[derive(Drop)]
+#[derive(Clone, Copy)]
 pub enum Rule {
     FirstPre(usize),
     FirstFuture(usize),
@@ -39,11 +39,11 @@ pub enum Rule {
 }
 
 // A rule by two numbers, its own and that of its method or step.
-#[derive(Drop)]
+#[derive(Clone, Copy)]
 pub struct RuleNumbers(pub usize, pub usize);
 
 // What the loader returns: the count of an accepted sheet, a refusal, or the first fault of a well formed sheet.
-#[derive(Drop)]
+#[derive(Clone, Copy)]
 pub enum Verdict {
     Accepted(usize),
     Refused(Refusal),
@@ -51,7 +51,7 @@ pub enum Verdict {
 }
 
 // What the word test returns. A no has the length of the longest beginning of the word that begins some word of the condition.
-#[derive(Drop)]
+#[derive(Clone, Copy)]
 pub enum WordAnswer {
     Yes,
     No(usize),

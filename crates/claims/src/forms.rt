@@ -14,7 +14,7 @@ use answers::Rule;
 use postfix::Part;
 
 // What a step raises: nothing, or a word of a part.
-#[derive(Drop)]
+#[derive(Clone, Copy)]
 pub enum Raised {
     Nothing,
     Word(Part),

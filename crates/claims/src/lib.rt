@@ -6,21 +6,21 @@ use postfix::Part;
 pub mod forms; // forms.rt: the forms of the claims
 
 // The left of an inclusion: one part, or two one after the other.
-#[derive(Drop)]
+#[derive(Clone, Copy)]
 pub enum Left {
     One(Part),
     Two(Part, Part),
 }
 
 // The words of the left are in the right, or a part holds the empty word.
-#[derive(Drop)]
+#[derive(Clone, Copy)]
 pub enum Claim {
     Inclusion { rule: Rule, left: Left, right: Part },
     HoldsEmpty { rule: Rule, part: Part },
 }
 
 // What is asked by the number of a rule: a claim, or nothing behind the last one.
-#[derive(Drop)]
+#[derive(Clone, Copy)]
 pub enum Asked {
     Claim(Claim),
     NoMore,

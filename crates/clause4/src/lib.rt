@@ -17,7 +17,7 @@ use looks::{Scope, look, skip};
 use meets::ROWS;
 
 // What clause 4 asks of a pair: its number, the followers of its place and those of its set, and the pair at which the search starts.
-#[derive(Drop)]
+#[derive(Clone, Copy)]
 pub struct Ask {
     pub pair: usize,
     pub followers: u64,
@@ -27,7 +27,7 @@ pub struct Ask {
 
 // What is found of a pair, and the number of the pair at which the search for the next one is to start. The program chooses that number: what
 // is found is the same for each.
-#[derive(Drop)]
+#[derive(Clone, Copy)]
 pub struct Turned {
     pub finding: Finding,
     pub start: usize,
@@ -35,7 +35,7 @@ pub struct Turned {
 
 // The rest of what is missing: the places that miss an event, and the pair at which the next search may start. That is the lowest pair that served,
 // or the number of pairs where none did.
-#[derive(Drop)]
+#[derive(Clone, Copy)]
 pub struct Rest {
     pub missers: u64,
     pub lowest: usize,

@@ -26,14 +26,14 @@ use pairs::{Entry, bytes_of, known_pair, pair_in};
 use places::Side;
 
 // The certificate passes, and takes so many bytes with its end; or its first fault.
-#[derive(Drop)]
+#[derive(Clone, Copy)]
 pub enum Checked {
     Passes(usize),
     Fails(Fault),
 }
 
 // An inclusion that a certificate is to show: over how many events, and the two sides.
-#[derive(Drop)]
+#[derive(Clone, Copy)]
 pub struct Inclusion {
     pub events: usize,
     pub left: Side,
@@ -41,7 +41,7 @@ pub struct Inclusion {
 }
 
 // The search for the first fault: what is the same for all pairs, and the two sides.
-#[derive(Drop)]
+#[derive(Clone, Copy)]
 pub struct Task {
     pub scope: Scope,
     pub left: Side,
@@ -49,7 +49,7 @@ pub struct Task {
 }
 
 // The pair in turn: its number, its place and set, the pair at which the search for what it needs is to start, and what is known to be served.
-#[derive(Drop)]
+#[derive(Clone, Copy)]
 pub struct Turn {
     pub number: usize,
     pub pair: Pair,

@@ -5,7 +5,7 @@ ghost use Rattle.certificate.specs.Certificate.{found, fault};
 ghost use Rattle.faults.specs.Fault.{fault_of};
 
 // A fault of a rule's test: the clause that fails, and the pair, the event and the place at which it does.
-#[derive(Drop)]
+#[derive(Clone, Copy)]
 pub struct Fault {
     pub clause: usize,
     pub pair: usize,
@@ -14,7 +14,7 @@ pub struct Fault {
 }
 
 // Nothing wrong, or a fault.
-#[derive(Drop)]
+#[derive(Clone, Copy)]
 pub enum Finding {
     Fine,
     Found(Fault),

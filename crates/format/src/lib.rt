@@ -14,7 +14,7 @@ pub mod listing; // listing.rt: the pairs of a certificate
 pub mod symbols; // symbols.rt: the symbols of a condition
 
 // The refusals 1 to 10 and 12 to 14 of document 01 and 18 to 20 and 24 to 26 of document 02, with their places; specs/Refusal gives each its number.
-#[derive(Drop)]
+#[derive(Clone, Copy)]
 pub enum Refusal {
     TooLong(usize),
     UnknownKind(usize),
@@ -38,7 +38,7 @@ pub enum Refusal {
 }
 
 // A record with the offset after it. Where there is none, `refusal_at` says why.
-#[derive(Drop)]
+#[derive(Clone, Copy)]
 pub enum Found {
     Record { kind: u8, next: usize },
     NoRecord,

@@ -12,14 +12,14 @@ pub const PAIR_BYTES: usize = 6;
 pub const END_BYTES: usize = 1;
 
 // A left place and a set of right places.
-#[derive(Drop)]
+#[derive(Clone, Copy)]
 pub struct Pair {
     pub place: usize,
     pub set: u64,
 }
 
 // What stands at an offset: whether it is a whole pair, and the fields that it has if it is.
-#[derive(Drop)]
+#[derive(Clone, Copy)]
 pub struct Listed {
     pub there: bool,
     pub pair: Pair,

@@ -5,7 +5,7 @@ use fields::{byte_at, long_set_at, set_at};
 use kinds::{EITHER, EMPTY, JOIN, LEAF, LONG_LEAF, STAR};
 
 // A leaf with its set, EMPTY, JOIN, EITHER or STAR; or that no symbol is there.
-#[derive(Drop)]
+#[derive(Clone, Copy)]
 pub enum Symbol {
     None,
     Leaf(u64),

@@ -15,7 +15,7 @@ pub mod ways; // ways.rt: ways of returning, and what a call enters
 
 // The conditions of a point, by the offsets where they stand. An offset has four bytes, as in the tables: a subject's conditions are copied from claim to
 // claim.
-#[derive(Drop)]
+#[derive(Clone, Copy)]
 pub struct PointConditions {
     pub past: u32,
     pub own: u32,
@@ -23,21 +23,21 @@ pub struct PointConditions {
 }
 
 // The conditions that a method declares of one outcome, by the offsets where they stand.
-#[derive(Drop)]
+#[derive(Clone, Copy)]
 pub struct OutcomeConditions {
     pub trace: u32,
     pub future: u32,
 }
 
 // The conditions that a method declares of its beginning and of the normal outcome.
-#[derive(Drop)]
+#[derive(Clone, Copy)]
 pub struct MethodConditions {
     pub pre: u32,
     pub normal: OutcomeConditions,
 }
 
 // The entry point that rule 26 asks about where a method is called, if it does.
-#[derive(Drop)]
+#[derive(Clone, Copy)]
 pub enum Entry {
     Unasked,
     At(usize),

@@ -5,7 +5,7 @@ ghost use Rattle.instrument.specs.Model.{limits_of, instrument_of};
 
 // The large two-channel instrument, which is document 01's, the entry instrument, which is request 8's, and the four-channel instrument, which is
 // request 11's.
-#[derive(Drop)]
+#[derive(Clone, Copy)]
 pub enum Instrument {
     Large,
     Entry,
@@ -13,14 +13,14 @@ pub enum Instrument {
 }
 
 // What a number stands for where an instrument is asked for.
-#[derive(Drop)]
+#[derive(Clone, Copy)]
 pub enum Named {
     Known(Instrument),
     Unknown,
 }
 
 // What an instrument takes: how many bytes, points and events, and the highest kind of record.
-#[derive(Drop)]
+#[derive(Clone, Copy)]
 pub struct Limits {
     pub bytes: usize,
     pub points: usize,

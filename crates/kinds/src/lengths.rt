@@ -11,7 +11,7 @@ use crate::{
 };
 
 // The length of a body, or that there is no such kind.
-#[derive(Drop)]
+#[derive(Clone, Copy)]
 pub enum Length {
     Of(usize),
     Nothing,

@@ -15,14 +15,14 @@ use looks::Scope;
 use meets::ROWS;
 
 // Followers of a place and of a set that were searched for: the pairs serve each event of the former within the latter.
-#[derive(Drop)]
+#[derive(Clone, Copy)]
 pub struct Known {
     pub followers: u64,
     pub onward: u64,
 }
 
 // What is found of a pair; and for the next one where its search is to start, and what is known to be served.
-#[derive(Drop)]
+#[derive(Clone, Copy)]
 pub struct Ended {
     pub finding: Finding,
     pub start: usize,

@@ -16,7 +16,7 @@ use refusal_rows::{Place, refusal_number, refusal_place};
 use text::{put_number, put_text, put_value};
 
 // A line: the first bytes of a buffer, as many as `size` says.
-#[derive(Drop)]
+#[derive(Clone, Copy)]
 pub struct Line {
     pub bytes: [u8; 160],
     pub size: usize,

@@ -15,7 +15,7 @@ use pairs::known_pair;
 
 // What is the same for all pairs of a certificate: how many they are, over how many events, how many places the left side has and the right one,
 // and the left places that hold an event.
-#[derive(Drop)]
+#[derive(Clone, Copy)]
 pub struct Scope {
     pub count: usize,
     pub events: usize,
@@ -25,7 +25,7 @@ pub struct Scope {
 }
 
 // What a look at a pair leaves: the places that miss an event, and whether the pair served one.
-#[derive(Drop)]
+#[derive(Clone, Copy)]
 pub struct Looked {
     pub missers: u64,
     pub served: bool,

@@ -16,7 +16,7 @@ use places::{Side, side_of};
 use postfix::Part;
 
 // The condition holds the word; or it does not, and this is the length of the longest beginning of the word that begins some word of it.
-#[derive(Drop)]
+#[derive(Clone, Copy)]
 pub enum Matched {
     Yes,
     No(usize),

@@ -12,7 +12,7 @@ use kinds::is_primitive;
 use owners::owners_fit;
 use tally::Tally;
 
-#[derive(Drop)]
+#[derive(Clone, Copy)]
 pub enum Judged {
     Fits,
     Refused(Refusal),

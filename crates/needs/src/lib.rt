@@ -16,7 +16,7 @@ use rules::order::Counts;
 use values::{Method, Step, method_at, step_at};
 
 // How many rules there are, and how many certificates they need.
-#[derive(Drop)]
+#[derive(Clone, Copy)]
 pub struct Needs {
     pub rules: usize,
     pub certificates: usize,

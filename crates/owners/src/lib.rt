@@ -15,7 +15,7 @@ use kinds::{OWNED_POINT, STEPS, STOP, TWO_OUTCOME_BODY, TWO_OUTCOME_CALL, has_bo
 use refusal_rows::Place;
 
 // The owner of a point, a method by its number, where it has one.
-#[derive(Drop)]
+#[derive(Clone, Copy)]
 pub enum Owner {
     Of(usize),
     Nobody,

@@ -9,13 +9,13 @@ ghost use Rattle.pairs.specs.Found.{pair_found};
 use format::listing::{END_BYTES, Listed, PAIR_BYTES, Pair, listed_at, pair_at};
 
 // The certificate's part of the sheet: the bytes from its first pair on. Document 01 asks for this form.
-#[derive(Drop)]
+#[derive(Clone, Copy)]
 pub struct Certificate<'a> {
     pub pairs: &'a [u8],
 }
 
 // A pair, or the end of the certificate.
-#[derive(Drop)]
+#[derive(Clone, Copy)]
 pub enum Entry {
     Pair(Pair),
     End,

@@ -10,7 +10,7 @@ use items::{ends_of, join_top};
 use postfix::{Part, push_part};
 
 // A side's places besides its tables: how many leaves it has, and the set of places that end a word.
-#[derive(Drop)]
+#[derive(Clone, Copy)]
 pub struct Side {
     pub leaves: usize,
     pub ends: u64,

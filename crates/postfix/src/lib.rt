@@ -12,7 +12,7 @@ use kinds::{EITHER, JOIN, STAR, items_taken};
 
 // A part of a side: the condition whose records stand at an offset, one event, or the condition at an offset with the events of channel 0 and of a
 // channel exchanged.
-#[derive(Drop)]
+#[derive(Clone, Copy)]
 pub enum Part {
     Condition(usize),
     Event(usize),
@@ -20,7 +20,7 @@ pub enum Part {
 }
 
 // How high a stack is: its items and their leaves.
-#[derive(Drop)]
+#[derive(Clone, Copy)]
 pub struct Height {
     pub depth: usize,
     pub leaves: usize,

@@ -7,7 +7,7 @@ ghost use Rattle.refusal_rows.specs.Place.{place_in};
 use format::Refusal;
 
 // A refusal's place, where it has one.
-#[derive(Drop)]
+#[derive(Clone, Copy)]
 pub enum Place {
     At(usize),
     Nowhere,

@@ -10,7 +10,7 @@ use kinds::{counts, is_leaf, items_taken};
 pub mod editions; // editions.rt: the mark of the new edition, and stops
 
 // What is begun of a condition: its items, its symbols and its leaves so far.
-#[derive(Drop)]
+#[derive(Clone, Copy)]
 pub struct Begun {
     pub items: usize,
     pub symbols: usize,
@@ -18,7 +18,7 @@ pub struct Begun {
 }
 
 // What is begun past a record, or the record's refusal.
-#[derive(Drop)]
+#[derive(Clone, Copy)]
 pub enum Stepped {
     On(Begun),
     Refused(Refusal),

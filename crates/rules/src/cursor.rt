@@ -11,7 +11,7 @@ use crate::subjects::{Subject, claim_of};
 use claims::{Asked, Claim};
 
 // A subject with its number, and the number of the next of its claims.
-#[derive(Drop)]
+#[derive(Clone, Copy)]
 pub struct Cursor {
     pub number: usize,
     pub subject: Subject,
@@ -19,7 +19,7 @@ pub struct Cursor {
 }
 
 // The next claim, with the cursor behind it, or the end.
-#[derive(Drop)]
+#[derive(Clone, Copy)]
 pub enum Next {
     Claim { claim: Claim, after: Cursor },
     End,

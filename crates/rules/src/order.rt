@@ -18,7 +18,7 @@ use index::{Entry, OutcomeConditions, entry_asked, failed_of, method_of, point_o
 use values::{Body, CallStep, Method, Step, method_at, step_at};
 
 // How many methods and steps a sheet has.
-#[derive(Drop)]
+#[derive(Clone, Copy)]
 pub struct Counts {
     pub methods: usize,
     pub steps: usize,

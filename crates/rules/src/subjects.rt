@@ -12,7 +12,7 @@ use method_claims::{body_claim, first_claim};
 use step_claims::{call_claim, event_claim, pass_claim, stop_claim};
 
 // A method that runs start at, a method with its body, or a step; a primitive has no rules.
-#[derive(Drop)]
+#[derive(Clone, Copy)]
 pub enum Subject {
     First {
         method: usize,

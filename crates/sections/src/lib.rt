@@ -17,20 +17,20 @@ use refusals::editions::stop_fits;
 use tally::{Tally, past};
 
 // What a sheet that is read whole has: its tally, and the offset where its first certificate starts (its length, if it has none).
-#[derive(Drop)]
+#[derive(Clone, Copy)]
 pub struct Contents {
     pub tally: Tally,
     pub certificates: usize,
 }
 
-#[derive(Drop)]
+#[derive(Clone, Copy)]
 pub enum Read {
     Whole(Contents),
     Refused(Refusal),
 }
 
 // Where a section ends, with the tally there, or the refusal that ends reading.
-#[derive(Drop)]
+#[derive(Clone, Copy)]
 pub enum Section {
     Done { at: usize, tally: Tally },
     Refused(Refusal),

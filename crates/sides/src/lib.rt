@@ -12,7 +12,7 @@ use claims::{Claim, Left};
 use places::{Side, joined_side, side_of};
 
 // A claim whose sides are in the tables.
-#[derive(Drop)]
+#[derive(Clone, Copy)]
 pub enum Question {
     Inclusion { rule: Rule, left: Side, right: Side },
     HoldsEmpty { rule: Rule, side: Side },

@@ -20,7 +20,7 @@ use index::ways::{Entered, Failing, Way};
 use postfix::Part;
 
 // The four rules of a call about one way of returning, by name.
-#[derive(Drop)]
+#[derive(Clone, Copy)]
 struct ReturnRules {
     past: Rule,
     own: Rule,

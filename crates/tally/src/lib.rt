@@ -5,7 +5,7 @@ ghost use Rattle.tally.specs.Tally.{count_of, Room, tally_after, nothing_counted
 
 use kinds::{CERTIFICATES, CONDITIONS, METHODS, POINTS, STEPS};
 
-#[derive(Drop)]
+#[derive(Clone, Copy)]
 pub struct Tally {
     pub conditions: usize,
     pub points: usize,

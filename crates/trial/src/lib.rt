@@ -20,14 +20,14 @@ use places::Side;
 use sides::Question;
 
 // The rules pass, and the next certificate starts at an offset; or a rule fails.
-#[derive(Drop)]
+#[derive(Clone, Copy)]
 pub enum Tested {
     Passed(usize),
     Failed { rule: Rule, fault: Fault },
 }
 
 // A question that is put to the certificate at an offset, over so many events.
-#[derive(Drop)]
+#[derive(Clone, Copy)]
 pub struct Trial {
     pub at: usize,
     pub events: usize,

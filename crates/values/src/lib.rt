@@ -11,7 +11,7 @@ use kinds::{
 };
 
 // A point's conditions, by their numbers.
-#[derive(Drop)]
+#[derive(Clone, Copy)]
 pub struct Point {
     pub past: usize,
     pub own: usize,
@@ -19,34 +19,34 @@ pub struct Point {
 }
 
 // What a method declares of one outcome: its conditions, by their numbers.
-#[derive(Drop)]
+#[derive(Clone, Copy)]
 pub struct Declared {
     pub trace: usize,
     pub future: usize,
 }
 
 // What a method declares of its beginning and of the normal outcome.
-#[derive(Drop)]
+#[derive(Clone, Copy)]
 pub struct Declaration {
     pub pre: usize,
     pub normal: Declared,
 }
 
 // The points of a method's body, by their numbers.
-#[derive(Drop)]
+#[derive(Clone, Copy)]
 pub struct Body {
     pub entry: usize,
     pub exit: usize,
 }
 
 // The failed outcome of a method with body: what the method declares of it, and its failed exit.
-#[derive(Drop)]
+#[derive(Clone, Copy)]
 pub struct FailedBody {
     pub declared: Declared,
     pub exit: usize,
 }
 
-#[derive(Drop)]
+#[derive(Clone, Copy)]
 pub enum Method {
     Primitive(Declaration),
     WithBody(Declaration, Body),
@@ -55,7 +55,7 @@ pub enum Method {
 }
 
 // A call: the points that it goes from and to, and the method that it calls.
-#[derive(Drop)]
+#[derive(Clone, Copy)]
 pub struct CallStep {
     pub from: usize,
     pub to: usize,
@@ -63,7 +63,7 @@ pub struct CallStep {
 }
 
 // A step. A call of a method that can fail has a failed target behind it, and a call on a channel the channel; a stop has the point that it is at.
-#[derive(Drop)]
+#[derive(Clone, Copy)]
 pub enum Step {
     Event {
         from: usize,
