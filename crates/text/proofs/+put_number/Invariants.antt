@@ -1,0 +1,5 @@
+-- `text::put_number` meets its contract. The measure is the number.
+use Rattle.text.proofs.+put_number.Given as goal
+
+abbrev pub decreases-put_number : goal.decreases-put_number
+decreases-put_number l = l.n
