@@ -1,0 +1,6 @@
+-- `settle` meets its contract.
+use mathlib.Core.Path.{refl}
+use Rattle.places.proofs.settle.Goals as goal
+
+pub returns : goal.returns
+returns c = record { side-leaves = refl; side-ends = c.ends_of.ensures; row-start = refl }
