@@ -30,9 +30,6 @@ passed c =
     and_both (has c.args.missers p.place) (lies c.args.onward p.set)
     (ap (λ (b : Bool). b && lies c.args.onward p.set) (sym c.listed.ensures) ∙ sym c.both.ensures ∙ c.if-both.true)
 
-missers-small : (c : After-both) → c.args.missers < 2 ^ 64
-missers-small c = search rules
-
 place-lt : (c : Then-both) → c.known_pair-pair.result.place < 64
 place-lt c = let s : c.args.missers < 2 ^ 64 = search rules in number_lt s (passed c).0
 
@@ -70,4 +67,8 @@ returns-then-both c =
 
 pub returns : goal.returns
 returns c =
-    let p = c.requires in record { left = left-of c.known_pair-pair.ensures (left-off _ _ _ _ _ _ _ p.2 (missers-small (goal.at.returns c).After-both) (test-is (goal.at.returns c).After-both ∙ c.if-both.false)); served = λ x. absurd x }
+    let p = c.requires in
+    let tested = (goal.at.returns c).After-both in record {
+      left = left-of c.known_pair-pair.ensures (left-off _ _ _ _ _ _ _ p.2 (search rules) (test-is tested ∙ c.if-both.false));
+      served = λ x. absurd x;
+    }
