@@ -11,7 +11,7 @@ use lib.Dec.{T}
 use Rattle.bits.specs.Bits.{has}
 use Rattle.bits.proofs.Tests.{and-out, and_in, T_false, T-ext, any_out, any-in}
 use Rattle.bits.proofs.Sets.{has-none}
-use Rattle.certificate.specs.Certificate.{Pair, pair, Certificate, pair_of}
+use Rattle.certificate.specs.Certificate.{Certificate, pair_of}
 use Rattle.bits.specs.Rows.{row_has}
 use Rattle.looks.proofs.Leaving.{fails-not}
 use Rattle.looks.specs.Looks.{serves, misses, Passed, Takes, Left}
