@@ -21,9 +21,6 @@ offset_bounds-points-i c = omega (arith, there c)
 pub bounds-points-i : goal.bounds-points-i
 bounds-points-i c = omega (arith, there (goal.at.bounds-points-i c).In-loop-at)
 
-pub overflow_cast-at : goal.overflow_cast-at
-overflow_cast-at c = omega (arith, c.shared_slice_known-in-loop-at-1.given c.loop-at.i)
-
 -- whether its owner is a method
 judged : (c : After-no_method)
     → no_method c.args.methods (owner_at c.args.s.now (get_or c.args.points.now c.loop-at.i 0)) ≡ c.no_method.result

@@ -1,5 +1,4 @@
 use mathlib.Core.Path.{ap, ◌∙◌}
-use native.Mathlib.Omega.{arith}
 use Rattle.owners.specs.Owners.{owner_listed}
 use Rattle.owners.proofs.Owned.{listed, unlisted}
 use Rattle.owners.proofs.owner_named.Goals as goal
@@ -9,9 +8,6 @@ returns-then-points-p c =
     let a = c.args in
     unlisted a.s.now a.points.now c.short_inside-p.result c.if-points-p.true
     ∙ ap (owner_listed a.s.now a.points.now) c.short_inside-p.ensures
-
-pub overflow_cast-points : goal.overflow_cast-points
-overflow_cast-points c = omega (arith, c.shared_slice_known-3-1.given c.short_inside-p.result)
 
 pub returns : goal.returns
 returns c =
