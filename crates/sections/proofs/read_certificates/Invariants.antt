@@ -1,0 +1,19 @@
+-- The loop keeps `Ending`; there are no more certificates than bytes before.
+use mathlib.Core.Path.{◌≡◌}
+use mathlib.Core.List.{[]}
+use Prim.Native.Nat.{◌-◌, ◌≤◌}
+use lib.ListN.{length}
+use Rattle.sheet.specs.Reading.{Reading, ReadResult}
+use Rattle.instrument.specs.Model.{model_with}
+use Rattle.sections.specs.declared.Section.TheVariants.{Done}
+use Rattle.sections.specs.Sections.{Told}
+use Rattle.sections.proofs.Ending.{Ending}
+use Rattle.sections.proofs.read_certificates.Given as goal
+
+abbrev pub invariant-loop-at : goal.invariant-loop-at
+invariant-loop-at l = (l.tally.certificates ≤ l.at)
+    × ((o : ReadResult) (u : Reading) → Told (model_with l.limits) l.s o 5 (Done l.from l.initial.tally) u → u.own 5 ≡ []
+    → Ending (model_with l.limits) l.s o u l.from l.at l.tally l.inside)
+
+abbrev pub decreases-loop-at : goal.decreases-loop-at
+decreases-loop-at l = length l.s - l.at
