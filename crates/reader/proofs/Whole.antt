@@ -6,7 +6,7 @@ use native.Mathlib.Nat.{not-suc-le-zero}
 use native.Mathlib.Omega.{arith}
 use lib.ListN.{length}
 use Rattle.sheet.specs.Model.{Model}
-use Rattle.sheet.specs.Reading.{Counted, Reading, fresh, tally, starts_of, ReadResult, state_of, read_from, read_sheet}
+use Rattle.sheet.specs.Reading.{Counted, Reading, fresh, starts_of, ReadResult, state_of, read_from, read_sheet}
 use Rattle.format.specs.declared.Refusal.{Refusal}
 use Rattle.format.specs.declared.Refusal.TheVariants.{TooLong}
 use Rattle.tally.specs.declared.Tally.{Tally}
