@@ -16,7 +16,7 @@ use Rattle.sheet_laws.specs.AtOffset.{Symbol, leaf-symbol, empty-symbol, join-sy
 use Rattle.sheet_laws.specs.AtOffset.{symbol_at}
 use Rattle.sheet_laws.specs.AtOffset.{symbols_on, symbols_at, postfix}
 use Rattle.format.specs.declared.symbols.Symbol as value
-use Rattle.format.specs.declared.symbols.Symbol.TheVariants.{None, Leaf, Empty, Join, Either, Star}
+use Rattle.format.specs.declared.symbols.Symbol.TheVariants.{None, Leaf, Empty}
 use Rattle.format.specs.Symbols.{value_of, is_symbol, items_taken, leaves_in, IsSymbolAt, IsBehind}
 use Rattle.items.specs.Stack.{Stacked, Roomy, Rows, Makes, a-leaf, an-empty, a-join, an-either, a-star, Turned}
 use Rattle.postfix.specs.Parts.{StandsAt, Pushed}

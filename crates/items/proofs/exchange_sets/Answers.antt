@@ -1,4 +1,3 @@
-use Prim.Native.Nat.{◌-◌}
 use native.Mathlib.Omega.{arith}
 use Rattle.items.proofs.Channels.{exchanging-none, exchanging-more, exchanging-all}
 use Rattle.items.proofs.exchange_sets.Goals as goal

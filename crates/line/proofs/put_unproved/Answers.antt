@@ -9,7 +9,8 @@ use Rattle.line.proofs.put_unproved.Goals as goal
 pub returns : goal.returns
 unfolding ascii
 returns c =
-    let numbers = c.rule_numbers-number.ensures.value in record { put = unproved-pieces _
+    let numbers = c.rule_numbers-number.ensures.value in record {
+      put = unproved-pieces _
           (ap (λ (n : RuleNumbers). n.0) numbers)
           (ap (λ (n : RuleNumbers). n.1) numbers)
           c.put_rule-a.ensures.put
@@ -17,4 +18,6 @@ returns c =
           c.put_value-c.ensures.put
           c.put_value-d.ensures.put
           c.put_value-e.ensures.put
-          c.put_value.ensures.put; upper_bound = search rules }
+          c.put_value.ensures.put;
+      upper_bound = search rules;
+    }

@@ -1,4 +1,3 @@
-use Prim.Native.Nat.{◌-◌}
 use borrow.Author.Rules.{rules}
 use Rattle.bits.proofs.Filling.{unions-none}
 use Rattle.condition.proofs.Longest.{along-start}
@@ -39,8 +38,7 @@ overflow_add-i c =
 
 pub loop-i-preserved : goal.loop-i-preserved
 loop-i-preserved c =
-    let g = c.loop-i in
-    (
+    let g = c.loop-i in (
       λ r t.
           one_along (g.invariant.0 r t) c.loop-i-test.true _ _
           (stepped t c.fill_for.ensures g.places c.union_of-union.result g.i _ c.index-e.ensures c.loop-i-test.true c.union_of-union.ensures.union)

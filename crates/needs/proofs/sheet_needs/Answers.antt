@@ -1,4 +1,3 @@
-use Prim.Native.Nat.{◌-◌}
 use native.Mathlib.Omega.{arith}
 use Rattle.rules.specs.Order.{groups}
 use Rattle.rules.proofs.Groups.{rules-together}
@@ -34,8 +33,7 @@ pub loop-number-smaller : goal.loop-number-smaller
 loop-number-smaller c = omega (arith, c.loop-number-test.true)
 
 pub loop-number-preserved : goal.loop-number-preserved
-loop-number-preserved c =
-    (
+loop-number-preserved c = (
   omega (arith, c.loop-number-test.true),
   λ S cs ps x. next-summed x (c.loop-number.invariant.1 S cs ps x) (omega (arith, c.loop-number-test.true)) (λ xs. c.needs_at-needs.ensures S cs ps xs x),
 )

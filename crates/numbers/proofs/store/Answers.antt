@@ -1,9 +1,7 @@
 use borrow.Author.Rules.{rules}
-use Prim.Native.Nat.{◌-◌}
 use native.Mathlib.Omega.{arith}
 use Rattle.numbers.proofs.Storing.{unstored, none_yet, as_long, one_more, all-of-them}
 use Rattle.numbers.proofs.store.Goals as goal
-
 
 pub returns-then-out-lt-ROOM : goal.returns-then-out-lt-ROOM
 returns-then-out-lt-ROOM c = unstored _ _ c.if-out-lt-ROOM.true

@@ -29,6 +29,11 @@ returns c =
     let few' = q.few in
     let few'' = few-leaves (goal.at.returns c).After-join_top in
     let j = c.join_top.ensures _ c.push_part-n.result q.rows (omega arith) in
-    let n = e.side-leaves in record { few = omega arith; room = j.room; rows = settled-rows e j.rows; tables = λ r t h k.
-              tables e j.rows.rows-follow (omega arith)
-              (joined (j.turned (t ∷ r ∷ []) (join r t ∷ []) a-join (q.pushed t k (r ∷ []) (p.pushed r h [] (bottom refl refl))))) }
+    let n = e.side-leaves in record {
+      few = omega arith;
+      room = j.room;
+      rows = settled-rows e j.rows;
+      tables = λ r t h k.
+          tables e j.rows.rows-follow (omega arith)
+          (joined (j.turned (t ∷ r ∷ []) (join r t ∷ []) a-join (q.pushed t k (r ∷ []) (p.pushed r h [] (bottom refl refl)))));
+    }

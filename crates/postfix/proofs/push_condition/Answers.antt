@@ -1,4 +1,4 @@
-use Prim.Native.Nat.{◌+◌, ◌-◌}
+use Prim.Native.Nat.{◌+◌}
 use mathlib.Core.Path.{sym, ◌∙◌}
 use Rattle.postfix.proofs.Midway.{going_start, Fit, fit, going_on, out-full, out-unfit}
 use borrow.Author.Rules.{rules}

@@ -6,6 +6,10 @@ returns-in-One c = record { room = c.side_of.ensures.room; rows = c.side_of.ensu
 
 pub returns-in-Two : goal.returns-in-Two
 returns-in-Two c =
-    record { room = c.joined_side.ensures.room; rows = c.joined_side.ensures.rows; tables = λ r h.
-        let j = left-two _ r c.in-Two.is h in
-        rw j.join_is (c.joined_side.ensures.tables _ _ j.first-is j.second_is) }
+    record {
+      room = c.joined_side.ensures.room;
+      rows = c.joined_side.ensures.rows;
+      tables = λ r h.
+          let j = left-two _ r c.in-Two.is h in
+          rw j.join_is (c.joined_side.ensures.tables _ _ j.first-is j.second_is);
+    }

@@ -21,31 +21,40 @@ overflow_add-result c = omega (arith, (c.first_fault-found.ensures.bytes _ c.in-
 
 pub returns-in-Passes : goal.returns-in-Passes
 returns-in-Passes c =
-    let a = c.args in record { tried = λ x q.
-      let h = asks-inclusion _ _ _ _ x c.in-Inclusion.is q in
-      let next : a.trial.at + c.in-Passes.bytes ≡ suc (a.trial.at + 6 * length (certificate_at a.s.now a.trial.at)) =
-      omega (arith, (c.first_fault-found.ensures.bytes _ c.in-Passes.is).bytes-are, ap length (part-is (goal.at.returns-in-Passes c).After-first_fault-found)) in
-      tries-as h.rule-is
-      (record {
-        comes-to =
-            ap passed next
-            ∙ trial-finds _ _ _ _ fine
-            (sym (ap checked_finding c.in-Passes.is) ∙ c.first_fault-found.ensures.finding _ _ h.left_is h.right_is ∙ ap (check _ _ _) (part-is (goal.at.returns-in-Passes c).After-first_fault-found));
-      }); room = c.first_fault-found.ensures.room }
+    let a = c.args in record {
+      tried = λ x q.
+          let h = asks-inclusion _ _ _ _ x c.in-Inclusion.is q in
+          let next : a.trial.at + c.in-Passes.bytes ≡ suc (a.trial.at + 6 * length (certificate_at a.s.now a.trial.at)) =
+          omega (arith, (c.first_fault-found.ensures.bytes _ c.in-Passes.is).bytes-are, ap length (part-is (goal.at.returns-in-Passes c).After-first_fault-found)) in
+          tries-as h.rule-is
+          (record {
+            comes-to =
+                ap passed next
+                ∙ trial-finds _ _ _ _ fine
+                (sym (ap checked_finding c.in-Passes.is) ∙ c.first_fault-found.ensures.finding _ _ h.left_is h.right_is ∙ ap (check _ _ _) (part-is (goal.at.returns-in-Passes c).After-first_fault-found));
+          });
+      room = c.first_fault-found.ensures.room;
+    }
 
 pub returns-in-Fails : goal.returns-in-Fails
 returns-in-Fails c =
-    record { tried = λ x q.
-      let h = asks-inclusion _ _ _ _ x c.in-Inclusion.is q in
-      tries-as h.rule-is
-      (record {
-        comes-to =
-            trial-finds _ _ _ _ _
-            (sym (ap checked_finding c.in-Fails.is) ∙ c.first_fault-found.ensures.finding _ _ h.left_is h.right_is ∙ ap (check _ _ _) (part-is (goal.at.returns-in-Fails c).After-first_fault-found));
-      }); room = c.first_fault-found.ensures.room }
+    record {
+      tried = λ x q.
+          let h = asks-inclusion _ _ _ _ x c.in-Inclusion.is q in
+          tries-as h.rule-is
+          (record {
+            comes-to =
+                trial-finds _ _ _ _ _
+                (sym (ap checked_finding c.in-Fails.is) ∙ c.first_fault-found.ensures.finding _ _ h.left_is h.right_is ∙ ap (check _ _ _) (part-is (goal.at.returns-in-Fails c).After-first_fault-found));
+          });
+      room = c.first_fault-found.ensures.room;
+    }
 
 pub returns-in-HoldsEmpty : goal.returns-in-HoldsEmpty
 returns-in-HoldsEmpty c =
-    record { tried = λ x q.
-      let h = asks-empty _ _ _ _ x c.in-HoldsEmpty.is q in
-      tries-as h.rule-is (c.empty_word.ensures _ _ _ _ _ h.part-is); room = c.requires.missing_len }
+    record {
+      tried = λ x q.
+          let h = asks-empty _ _ _ _ x c.in-HoldsEmpty.is q in
+          tries-as h.rule-is (c.empty_word.ensures _ _ _ _ _ h.part-is);
+      room = c.requires.missing_len;
+    }

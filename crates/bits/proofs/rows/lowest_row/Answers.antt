@@ -1,4 +1,3 @@
-use Prim.Native.Nat.{◌-◌}
 use mathlib.Core.Path.{sym, ap₂, ◌∙◌}
 use mathlib.Core.Bool.{Bool, ◌&&◌}
 use native.Mathlib.Omega.{arith}
@@ -15,8 +14,7 @@ returns-then-both c =
     (sym (c.both.ensures ∙ ap₂ (λ (x y : Bool). x && y) c.member.ensures c.member-in-loop-q.ensures) ∙ c.if-both.true)
 
 pub loop-q-preserved : goal.loop-q-preserved
-loop-q-preserved c =
-    (
+loop-q-preserved c = (
   omega arith,
   below_more _ _ c.loop-q.invariant.1
       (sym (c.both.ensures ∙ ap₂ (λ (x y : Bool). x && y) c.member.ensures c.member-in-loop-q.ensures) ∙ c.if-both.false),
