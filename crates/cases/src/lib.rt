@@ -1,14 +1,30 @@
 #![tactic(auto)]
-// Cases in a file: a number of bytes, then as many bytes. The kit has no contract for what is read.
+// Cases in a file: a number of bytes, then as many bytes.
 ghost use Rattle.std.specs.Prelude.{◌≡◌, ◌≤◌, length};
 ghost use Rattle.cases.specs.Bounds.{AtMost};
 
 use fields::short_at;
+use std::io::Read;
 
 #[derive(Drop)]
 pub enum Number {
     Value(usize),
     End,
+}
+
+// The bytes that a reader has left, as many as there is room for; how many they are. A read that fails ends them.
+fn read_full<R: Read>(file: &mut R, room: &mut [u8]) -> usize
+    ensures { result ≤ length room.new }
+{
+    let mut done = 0;
+    while done < room.len() {
+        match file.read(&mut room[done..]) {
+            Ok(0) => break,
+            Ok(n) => done += n,
+            Err(_) => break,
+        }
+    }
+    done
 }
 
 // The number in the first two bytes, low byte first.
@@ -19,11 +35,11 @@ fn first_short(bytes: &[u8]) -> usize
 }
 
 // The number in the next two bytes.
-pub fn next_short(file: i32) -> Number
+pub fn next_short<R: Read>(file: &mut R) -> Number
     ensures { AtMost 65535 result }
 {
     let mut bytes = [0u8; 2];
-    let n = io::read_full(file, &mut bytes);
+    let n = read_full(file, &mut bytes);
     if n < 2 {
         return Number::End;
     }
@@ -31,7 +47,7 @@ pub fn next_short(file: i32) -> Number
 }
 
 // The number in the next four bytes.
-pub fn next_number(file: i32) -> Number
+pub fn next_number<R: Read>(file: &mut R) -> Number
     ensures { AtMost 4294967295 result }
 {
     let low = next_short(file);
@@ -46,7 +62,7 @@ pub fn next_number(file: i32) -> Number
 }
 
 // The next n bytes, as many as there is room for and as there are; how many they are.
-pub fn next_bytes(file: i32, n: usize, room: &mut [u8]) -> usize
+pub fn next_bytes<R: Read>(file: &mut R, n: usize, room: &mut [u8]) -> usize
     ensures upper_bound { result ≤ n }
     ensures upper_bound_2 { result ≤ length room.old }
     ensures room_len_unchanged { length room.new ≡ length room.old }
@@ -54,12 +70,12 @@ pub fn next_bytes(file: i32, n: usize, room: &mut [u8]) -> usize
     if room.len() < n {
         return 0;
     }
-    let got = io::read_full(file, &mut room[..n]);
+    let got = read_full(file, &mut room[..n]);
     if got <= n { got } else { n }
 }
 
 // The next sheet: a number of four bytes and as many bytes; how many they are.
-pub fn next_sheet(file: i32, room: &mut [u8]) -> Number
+pub fn next_sheet<R: Read>(file: &mut R, room: &mut [u8]) -> Number
     ensures at_most { AtMost (length room.old) result }
     ensures room_len_unchanged { length room.new ≡ length room.old }
 {

@@ -46,12 +46,13 @@ pub fn read_all<R: Read>(file: &mut R, room: &mut [u8]) -> Input
     Input::Bytes(done)
 }
 
-// The bytes of the file with this name.
+// The bytes of the file with this name. A name that is not UTF-8 is no file's: std opens none by such a name.
 pub fn read_file<F: Files>(files: &F, name: &[u8], room: &mut [u8]) -> Input
     ensures { ReadInto room.old room.new result }
 {
     let Ok(path) = str::from_utf8(name) else {
-        return Input::Failed(Error::from(ErrorKind::InvalidFilename));
+        let why = Error::new(ErrorKind::InvalidFilename, "File name is not UTF-8");
+        return Input::Failed(why);
     };
     match fs::open(files, path) {
         Ok(mut file) => read_all(&mut file, room),
