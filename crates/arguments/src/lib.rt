@@ -127,7 +127,13 @@ pub fn chosen_instrument<E: Env, W: Write>(env: &E, errors: &mut W, program: &[u
     }
     let named = instrument_at(env, 2);
     if let Named::Unknown = named {
-        wrong_argument(env, errors, program, 2, b"an instrument, large, entry or four");
+        wrong_argument(
+            env,
+            errors,
+            program,
+            2,
+            b"an instrument, large, entry or four",
+        );
     }
     Choice { named, next: 3 }
 }

@@ -1,9 +1,12 @@
 #![tactic(auto)]
 // Cases in a file: a number of bytes, then as many bytes.
-ghost use Rattle.std.specs.Prelude.{◌≡◌, ◌≤◌, length};
-ghost use Rattle.cases.specs.Bounds.{AtMost};
+ghost use Rattle.std.specs.Prelude.{◌≡◌, ◌≤◌, length, take};
+ghost use Rattle.std.specs.Io.KnownBytes.{Consumes};
+ghost use Rattle.sheet.specs.Record.{number_at};
+ghost use Rattle.cases.specs.Bounds.{AtMost, Reads, ReadsSheet};
 
 use fields::short_at;
+use input::read_full;
 use std::io::Read;
 
 #[derive(Drop)]
@@ -12,31 +15,18 @@ pub enum Number {
     End,
 }
 
-// The bytes that a reader has left, as many as there is room for; how many they are. A read that fails ends them.
-fn read_full<R: Read>(file: &mut R, room: &mut [u8]) -> usize
-    ensures { result ≤ length room.new }
-{
-    let mut done = 0;
-    while done < room.len() {
-        match file.read(&mut room[done..]) {
-            Ok(0) => break,
-            Ok(n) => done += n,
-            Err(_) => break,
-        }
-    }
-    done
-}
-
 // The number in the first two bytes, low byte first.
 fn first_short(bytes: &[u8]) -> usize
-    ensures { result ≤ 65535 }
+    ensures upper_bound { result ≤ 65535 }
+    ensures value { result ≡ number_at bytes.now 2 0 }
 {
     short_at(bytes, 0)
 }
 
 // The number in the next two bytes.
 pub fn next_short<R: Read>(file: &mut R) -> Number
-    ensures { AtMost 65535 result }
+    ensures at_most { AtMost 65535 result }
+    ensures bytes { Reads 2 (R.remaining file.old) (R.remaining file.new) result }
 {
     let mut bytes = [0u8; 2];
     let n = read_full(file, &mut bytes);
@@ -48,7 +38,8 @@ pub fn next_short<R: Read>(file: &mut R) -> Number
 
 // The number in the next four bytes.
 pub fn next_number<R: Read>(file: &mut R) -> Number
-    ensures { AtMost 4294967295 result }
+    ensures at_most { AtMost 4294967295 result }
+    ensures bytes { Reads 4 (R.remaining file.old) (R.remaining file.new) result }
 {
     let low = next_short(file);
     let Number::Value(a) = low else {
@@ -66,6 +57,7 @@ pub fn next_bytes<R: Read>(file: &mut R, n: usize, room: &mut [u8]) -> usize
     ensures upper_bound { result ≤ n }
     ensures upper_bound_2 { result ≤ length room.old }
     ensures room_len_unchanged { length room.new ≡ length room.old }
+    ensures bytes { Consumes (R.remaining file.old) (R.remaining file.new) (take result room.new) }
 {
     if room.len() < n {
         return 0;
@@ -78,6 +70,7 @@ pub fn next_bytes<R: Read>(file: &mut R, n: usize, room: &mut [u8]) -> usize
 pub fn next_sheet<R: Read>(file: &mut R, room: &mut [u8]) -> Number
     ensures at_most { AtMost (length room.old) result }
     ensures room_len_unchanged { length room.new ≡ length room.old }
+    ensures bytes { ReadsSheet (R.remaining file.old) (R.remaining file.new) room.new result }
 {
     let size = next_number(file);
     let Number::Value(n) = size else {

@@ -2,6 +2,7 @@
 // Bytes from files, from standard input and from arguments. A contract says which bytes a read gives only where the reader's type says which ones
 // it has left.
 ghost use Rattle.std.specs.Prelude.{◌≡◌, ◌≤◌, length, take};
+ghost use Rattle.std.specs.Io.KnownBytes.{Consumes};
 ghost use Rattle.input.specs.Input.{Within, ReadInto, Gives, GivesAll};
 
 use std::env::{Env, FillError};
@@ -44,6 +45,26 @@ pub fn read_all<R: Read>(file: &mut R, room: &mut [u8]) -> Input
         }
     }
     Input::Bytes(done)
+}
+
+// The same where a read that fails is taken for the end of the input: how many bytes there are.
+pub fn read_full<R: Read>(file: &mut R, room: &mut [u8]) -> usize
+    ensures within { result ≤ length room.new }
+    ensures bytes { Consumes (R.remaining file.old) (R.remaining file.new) (take result room.new) }
+{
+    let mut done = 0;
+    while done < room.len() {
+        match read_some(file, &mut room[done..]) {
+            Input::Failed(_) => break,
+            Input::Bytes(more) => {
+                if more == 0 {
+                    break;
+                }
+                done += more;
+            }
+        }
+    }
+    done
 }
 
 // The bytes of the file with this name. A name that is not UTF-8 is no file's: std opens none by such a name.

@@ -9,10 +9,9 @@ use loader::load_on;
 use printing::{print_answer, print_verdict};
 use reader::read_on;
 use sections::Read;
-use std::fs;
-use std::io;
 use std::io::Write;
 use std::rt::Files;
+use std::{fs, io};
 use tally::Tally;
 use words::word_test_on;
 
@@ -129,15 +128,18 @@ fn print_cases<F: Files, W: Write>(
     }
 }
 
+fn print_all<F: Files, W: Write>(rt: &F, out: &mut W) {
+    print_cases(rt, out, Instrument::Large, Kind::Reading, "reading");
+    print_cases(rt, out, Instrument::Large, Kind::Loading, "sheets");
+    print_cases(rt, out, Instrument::Large, Kind::Words, "words");
+    print_cases(rt, out, Instrument::Entry, Kind::Reading, "entry_reading");
+    print_cases(rt, out, Instrument::Entry, Kind::Loading, "entry_sheets");
+    print_cases(rt, out, Instrument::Entry, Kind::Words, "entry_words");
+    print_cases(rt, out, Instrument::Four, Kind::Reading, "four_reading");
+    print_cases(rt, out, Instrument::Four, Kind::Loading, "four_sheets");
+    print_cases(rt, out, Instrument::Four, Kind::Words, "four_words");
+}
+
 fn main(rt: HostRuntime) {
-    let mut out = rt.stdout();
-    print_cases(&rt, &mut out, Instrument::Large, Kind::Reading, "reading");
-    print_cases(&rt, &mut out, Instrument::Large, Kind::Loading, "sheets");
-    print_cases(&rt, &mut out, Instrument::Large, Kind::Words, "words");
-    print_cases(&rt, &mut out, Instrument::Entry, Kind::Reading, "entry_reading");
-    print_cases(&rt, &mut out, Instrument::Entry, Kind::Loading, "entry_sheets");
-    print_cases(&rt, &mut out, Instrument::Entry, Kind::Words, "entry_words");
-    print_cases(&rt, &mut out, Instrument::Four, Kind::Reading, "four_reading");
-    print_cases(&rt, &mut out, Instrument::Four, Kind::Loading, "four_sheets");
-    print_cases(&rt, &mut out, Instrument::Four, Kind::Words, "four_words");
+    print_all(&rt, &mut rt.stdout());
 }
