@@ -1,13 +1,16 @@
 #![tactic(auto)]
-// The arguments of a program, the instrument and the files that they name, and what is said on standard error about them. The kit has no contract
-// for what is read and written, so the functions that only print have none.
+// The arguments of a program, the instrument and the files that they name, and what is said on standard error about them. What standard error
+// does not take is lost, so the functions that only write there have no contract.
 ghost use Rattle.std.specs.Prelude.{◌≡◌, true, ◌≤◌, length};
 ghost use Rattle.input.specs.Input.{ReadInto};
 ghost use Rattle.arguments.specs.Choice.{Chosen};
 
-use input::{Input, read_all, read_file};
+use input::{Input, argument, first, read_all, read_file};
 use instrument::{Instrument, Named};
-use libc::{STDERR_FILENO, STDIN_FILENO};
+use std::env::{Env, FillError};
+use std::io::{Cursor, Error, ErrorKind, Write};
+use std::rt::Files;
+use std::{io, str};
 
 // The instrument that the arguments name, and the number of the first argument behind the option.
 #[derive(Drop)]
@@ -17,69 +20,94 @@ pub struct Choice {
 }
 
 // Whether argument i is this text. There is room for 4,096 bytes of it.
-pub fn is_argument(i: usize, text: &[u8]) -> bool
+pub fn is_argument<E: Env>(env: &E, i: usize, text: &[u8]) -> bool
     ensures { result ≡ true → length text.now ≤ 4096 }
 {
-    let mut room = io::buffer();
-    let n = os::arg(i, &mut room);
-    check::same(&room[..n], text)
+    let mut room = [0u8; 4096];
+    let n = argument(env, i, &mut room);
+    &room[..n] == text
 }
 
 // On standard error ----------------------------------------------------------------------------------------------------
 
-fn say(text: &[u8]) {
-    io::write_all(STDERR_FILENO, text);
+fn say<W: Write>(errors: &mut W, text: &[u8]) {
+    let _ = errors.write_all(text);
 }
 
-// That something cannot be read, and why, as errno has it.
-fn cannot_read(program: &[u8], what: &[u8]) {
-    say(program);
-    say(b": cannot read ");
-    os::fail(what);
+// What an error's text says, without the number that the system has for it.
+fn without_number(text: &str) -> &str {
+    match text.split_once(" (os error ") {
+        Some((reason, _)) => reason,
+        None => text,
+    }
+}
+
+// Why something failed, and the end of the line.
+fn say_reason<W: Write>(errors: &mut W, why: Error) {
+    let mut text = Cursor::new([0u8; 256]);
+    let _ = write!(text, "{why}");
+    let size = text.position() as usize;
+    say(errors, b": ");
+    if let Ok(all) = str::from_utf8(first(text.get_ref(), size)) {
+        say(errors, without_number(all).as_bytes());
+    }
+    say(errors, b"\n");
+}
+
+// That something cannot be read, and why.
+fn cannot_read<W: Write>(errors: &mut W, program: &[u8], what: &[u8], why: Error) {
+    say(errors, program);
+    say(errors, b": cannot read ");
+    say(errors, what);
+    say_reason(errors, why);
 }
 
 // That the answer could not be written, and why.
-pub fn cannot_write(program: &[u8]) {
-    say(program);
-    os::fail(b": cannot write the answer");
+pub fn cannot_write<W: Write>(errors: &mut W, program: &[u8], why: Error) {
+    say(errors, program);
+    say(errors, b": cannot write the answer");
+    say_reason(errors, why);
 }
 
 // What argument i is: missing, its text, or too long.
-fn say_argument(i: usize) {
-    let mut text = io::buffer();
-    let n = os::arg(i, &mut text);
-    let whole = os::errno() == 0;
-    if os::arg_count() <= i {
-        say(b" is missing");
-    } else if whole {
-        say(b" is `");
-        say(&text[..n]);
-        say(b"`");
-    } else {
-        say(b" is too long");
+fn say_argument<E: Env, W: Write>(env: &E, errors: &mut W, i: usize) {
+    let mut text = [0u8; 4096];
+    match env.arg(i, &mut text) {
+        Err(FillError::NotPresent) => say(errors, b" is missing"),
+        Ok(n) => {
+            say(errors, b" is `");
+            say(errors, &text[..n]);
+            say(errors, b"`");
+        }
+        Err(FillError::TooLong) => say(errors, b" is too long"),
     }
 }
 
 // That argument i is wrong, what it is, and what was expected.
-pub fn wrong_argument(program: &[u8], i: usize, expected: &[u8]) {
-    say(program);
-    say(b": argument ");
-    io::print_decimal(STDERR_FILENO, i as u64);
-    say_argument(i);
-    say(b": expected ");
-    say(expected);
-    say(b"\n");
+pub fn wrong_argument<E: Env, W: Write>(
+    env: &E,
+    errors: &mut W,
+    program: &[u8],
+    i: usize,
+    expected: &[u8],
+) {
+    say(errors, program);
+    let _ = write!(errors, ": argument {i}");
+    say_argument(env, errors, i);
+    say(errors, b": expected ");
+    say(errors, expected);
+    say(errors, b"\n");
 }
 
 // The instrument, or a line on standard error that says what was expected ------------------------------------------------
 
 // The instrument that argument i names.
-fn instrument_at(i: usize) -> Named {
-    if is_argument(i, b"large") {
+fn instrument_at<E: Env>(env: &E, i: usize) -> Named {
+    if is_argument(env, i, b"large") {
         Named::Known(Instrument::Large)
-    } else if is_argument(i, b"entry") {
+    } else if is_argument(env, i, b"entry") {
         Named::Known(Instrument::Entry)
-    } else if is_argument(i, b"four") {
+    } else if is_argument(env, i, b"four") {
         Named::Known(Instrument::Four)
     } else {
         Named::Unknown
@@ -87,49 +115,75 @@ fn instrument_at(i: usize) -> Named {
 }
 
 // The instrument that `--instrument` names, in front of the other arguments; the large one where the option is not given.
-pub fn chosen_instrument(program: &[u8]) -> Choice
+pub fn chosen_instrument<E: Env, W: Write>(env: &E, errors: &mut W, program: &[u8]) -> Choice
     ensures chosen { Chosen result }
     ensures next_bound { result.next ≤ 3 }
 {
-    if !is_argument(1, b"--instrument") {
+    if !is_argument(env, 1, b"--instrument") {
         return Choice {
             named: Named::Known(Instrument::Large),
             next: 1,
         };
     }
-    let named = instrument_at(2);
+    let named = instrument_at(env, 2);
     if let Named::Unknown = named {
-        wrong_argument(program, 2, b"an instrument, large, entry or four");
+        wrong_argument(
+            env,
+            errors,
+            program,
+            2,
+            b"an instrument, large, entry or four",
+        );
     }
     Choice { named, next: 3 }
 }
 
 // Input, or a line on standard error that says what could not be read ----------------------------------------------------
 
-// The bytes of the file that argument i names.
-pub fn read_named(program: &[u8], i: usize, room: &mut [u8]) -> Input
-    ensures { ReadInto room.old room.new result }
+// What was read; where it could not be, that is said.
+fn told<W: Write>(errors: &mut W, program: &[u8], what: &[u8], got: Input) -> Input
+    ensures { result ≡ got }
 {
-    let mut name = io::buffer();
-    let n = os::arg(i, &mut name);
-    if os::errno() != 0 {
-        cannot_read(program, b"the file");
-        return Input::Failed;
-    }
-    let got = read_file(&name[..n], room);
-    if let Input::Failed = got {
-        cannot_read(program, &name[..n]);
+    if let Input::Failed(why) = got {
+        cannot_read(errors, program, what, why);
     }
     got
 }
 
-// The bytes of standard input.
-pub fn read_input(program: &[u8], room: &mut [u8]) -> Input
+// Why an argument cannot be a file's name.
+fn no_name(why: FillError) -> Error {
+    match why {
+        FillError::NotPresent => Error::new(ErrorKind::InvalidInput, "Invalid argument"),
+        FillError::TooLong => Error::new(ErrorKind::InvalidFilename, "File name too long"),
+    }
+}
+
+// The bytes of the file that argument i names.
+pub fn read_named<R: Env + Files, W: Write>(
+    rt: &R,
+    errors: &mut W,
+    program: &[u8],
+    i: usize,
+    room: &mut [u8],
+) -> Input
     ensures { ReadInto room.old room.new result }
 {
-    let got = read_all(STDIN_FILENO, room);
-    if let Input::Failed = got {
-        cannot_read(program, b"standard input");
+    let mut name = [0u8; 4096];
+    match rt.arg(i, &mut name) {
+        Ok(n) => told(errors, program, &name[..n], read_file(rt, &name[..n], room)),
+        Err(e) => told(errors, program, b"the file", Input::Failed(no_name(e))),
     }
-    got
+}
+
+// The bytes of standard input.
+pub fn read_input<I: io::Input, W: Write>(
+    rt: &I,
+    errors: &mut W,
+    program: &[u8],
+    room: &mut [u8],
+) -> Input
+    ensures { ReadInto room.old room.new result }
+{
+    let got = read_all(&mut rt.reader(), room);
+    told(errors, program, b"standard input", got)
 }

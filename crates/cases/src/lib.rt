@@ -1,9 +1,13 @@
 #![tactic(auto)]
-// Cases in a file: a number of bytes, then as many bytes. The kit has no contract for what is read.
-ghost use Rattle.std.specs.Prelude.{◌≡◌, ◌≤◌, length};
-ghost use Rattle.cases.specs.Bounds.{AtMost};
+// Cases in a file: a number of bytes, then as many bytes.
+ghost use Rattle.std.specs.Prelude.{◌≡◌, ◌≤◌, length, take};
+ghost use Rattle.std.specs.Io.KnownBytes.{Consumes};
+ghost use Rattle.sheet.specs.Record.{number_at};
+ghost use Rattle.cases.specs.Bounds.{AtMost, Reads, ReadsSheet};
 
 use fields::short_at;
+use input::read_full;
+use std::io::Read;
 
 #[derive(Drop)]
 pub enum Number {
@@ -13,17 +17,19 @@ pub enum Number {
 
 // The number in the first two bytes, low byte first.
 fn first_short(bytes: &[u8]) -> usize
-    ensures { result ≤ 65535 }
+    ensures upper_bound { result ≤ 65535 }
+    ensures value { result ≡ number_at bytes.now 2 0 }
 {
     short_at(bytes, 0)
 }
 
 // The number in the next two bytes.
-pub fn next_short(file: i32) -> Number
-    ensures { AtMost 65535 result }
+pub fn next_short<R: Read>(file: &mut R) -> Number
+    ensures at_most { AtMost 65535 result }
+    ensures bytes { Reads 2 (R.remaining file.old) (R.remaining file.new) result }
 {
     let mut bytes = [0u8; 2];
-    let n = io::read_full(file, &mut bytes);
+    let n = read_full(file, &mut bytes);
     if n < 2 {
         return Number::End;
     }
@@ -31,8 +37,9 @@ pub fn next_short(file: i32) -> Number
 }
 
 // The number in the next four bytes.
-pub fn next_number(file: i32) -> Number
-    ensures { AtMost 4294967295 result }
+pub fn next_number<R: Read>(file: &mut R) -> Number
+    ensures at_most { AtMost 4294967295 result }
+    ensures bytes { Reads 4 (R.remaining file.old) (R.remaining file.new) result }
 {
     let low = next_short(file);
     let Number::Value(a) = low else {
@@ -46,22 +53,24 @@ pub fn next_number(file: i32) -> Number
 }
 
 // The next n bytes, as many as there is room for and as there are; how many they are.
-pub fn next_bytes(file: i32, n: usize, room: &mut [u8]) -> usize
+pub fn next_bytes<R: Read>(file: &mut R, n: usize, room: &mut [u8]) -> usize
     ensures upper_bound { result ≤ n }
     ensures upper_bound_2 { result ≤ length room.old }
     ensures room_len_unchanged { length room.new ≡ length room.old }
+    ensures bytes { Consumes (R.remaining file.old) (R.remaining file.new) (take result room.new) }
 {
     if room.len() < n {
         return 0;
     }
-    let got = io::read_full(file, &mut room[..n]);
+    let got = read_full(file, &mut room[..n]);
     if got <= n { got } else { n }
 }
 
 // The next sheet: a number of four bytes and as many bytes; how many they are.
-pub fn next_sheet(file: i32, room: &mut [u8]) -> Number
+pub fn next_sheet<R: Read>(file: &mut R, room: &mut [u8]) -> Number
     ensures at_most { AtMost (length room.old) result }
     ensures room_len_unchanged { length room.new ≡ length room.old }
+    ensures bytes { ReadsSheet (R.remaining file.old) (R.remaining file.new) room.new result }
 {
     let size = next_number(file);
     let Number::Value(n) = size else {

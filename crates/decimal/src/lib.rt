@@ -5,6 +5,8 @@ ghost use Rattle.decimal.specs.Decimal.{at_most, number_in};
 ghost use Rattle.decimal.specs.Arguments.{NumberAtMost, EventsIn};
 
 use fields::index;
+use input::{argument, argument_count};
+use std::env::Env;
 
 #[derive(Drop)]
 pub enum Argument {
@@ -50,11 +52,11 @@ fn number_in(text: &[u8]) -> Argument
 }
 
 // Argument i as a number; one that is missing is wrong, and so is one that is longer than 4,096 bytes.
-pub fn number_at(i: usize) -> Argument
+pub fn number_at<E: Env>(env: &E, i: usize) -> Argument
     ensures { NumberAtMost 65535 result }
 {
-    let mut room = io::buffer();
-    let n = os::arg(i, &mut room);
+    let mut room = [0u8; 4096];
+    let n = argument(env, i, &mut room);
     number_in(&room[..n])
 }
 
@@ -66,16 +68,16 @@ fn event_of(n: usize) -> u8
 }
 
 // The events from argument `from` on, as many as there is room for.
-pub fn read_events(from: usize, word: &mut [u8]) -> Events
+pub fn read_events<E: Env>(env: &E, from: usize, word: &mut [u8]) -> Events
     ensures { EventsIn from word.old word.new result }
 {
-    let count = os::arg_count();
+    let count = argument_count(env);
     let mut i = from;
     while i < count {
         if word.len() <= i - from {
             return Events::Count(i - from);
         }
-        let event = number_at(i);
+        let event = number_at(env, i);
         let Argument::Number(e) = event else {
             return Events::WrongAt(i);
         };

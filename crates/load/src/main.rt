@@ -4,36 +4,49 @@
 ghost use Rattle.std.specs.Prelude.{◌≤◌};
 
 use arguments::{cannot_write, chosen_instrument, is_argument, read_input, read_named};
-use input::{Input, first};
+use input::{Input, first, has_argument};
 use instrument::{Instrument, Named};
-use libc::{STDERR_FILENO, STDOUT_FILENO};
 use loader::load_on;
 use printing::print_verdict;
+use std::env::Env;
+use std::io;
+use std::io::Write;
+use std::rt::Files;
 
 // The file that argument i names, or standard input where there is no such argument.
-fn read_sheet(i: usize, room: &mut [u8]) -> Input {
-    if os::arg_count() <= i {
-        read_input(b"load", room)
+fn read_sheet<R: Env + Files + io::Input, E: Write>(
+    rt: &R,
+    errors: &mut E,
+    i: usize,
+    room: &mut [u8],
+) -> Input {
+    if has_argument(rt, i) {
+        read_named(rt, errors, b"load", i, room)
     } else {
-        read_named(b"load", i, room)
+        read_input(rt, errors, b"load", room)
     }
 }
 
 // There is room for one byte more than a sheet may have on any instrument.
-fn print_answer(instrument: Instrument, i: usize) {
+fn print_answer<R: Env + Files + io::Input, O: Write, E: Write>(
+    rt: &R,
+    out: &mut O,
+    errors: &mut E,
+    instrument: Instrument,
+    i: usize,
+) {
     let mut room = [0u8; 65537];
-    let sheet = read_sheet(i, &mut room);
+    let sheet = read_sheet(rt, errors, i, &mut room);
     let Input::Bytes(n) = sheet else {
         return;
     };
-    if !print_verdict(load_on(instrument, first(&room, n))) {
-        cannot_write(b"load");
+    if let Err(e) = print_verdict(out, load_on(instrument, first(&room, n))) {
+        cannot_write(errors, b"load", e);
     }
 }
 
-fn print_help() {
-    let written = io::write_all(
-        STDOUT_FILENO,
+fn print_help<O: Write, E: Write>(out: &mut O, errors: &mut E) {
+    let written = out.write_all(
         b"usage: load [--instrument large|entry|four] [FILE]\n\
           \n\
           Loads the sheet in FILE, or on standard input, and prints one line:\n\
@@ -46,31 +59,38 @@ fn print_help() {
           What is wrong with an argument, and what cannot be read or written, is said on standard error.\n\
           The exit status is always 0.\n",
     );
-    if !written {
-        cannot_write(b"load");
+    if let Err(e) = written {
+        cannot_write(errors, b"load", e);
     }
 }
 
 // Argument `next` is the first one behind the option.
-fn run(instrument: Instrument, next: usize)
+fn run<R: Env + Files + io::Input, O: Write, E: Write>(
+    rt: &R,
+    out: &mut O,
+    errors: &mut E,
+    instrument: Instrument,
+    next: usize,
+)
     requires { next ≤ 3 }
 {
-    if next + 1 < os::arg_count() {
-        io::write_all(
-            STDERR_FILENO,
+    if has_argument(rt, next + 1) {
+        let _ = errors.write_all(
             b"load: more than one argument\nusage: load [--instrument large|entry|four] [FILE]\n",
         );
-    } else if is_argument(next, b"--help") {
-        print_help();
+    } else if is_argument(rt, next, b"--help") {
+        print_help(out, errors);
     } else {
-        print_answer(instrument, next);
+        print_answer(rt, out, errors, instrument, next);
     }
 }
 
-fn main() {
-    let choice = chosen_instrument(b"load");
+fn main(rt: HostRuntime) {
+    let mut out = rt.stdout();
+    let mut errors = rt.stderr();
+    let choice = chosen_instrument(&rt, &mut errors, b"load");
     let named = choice.named;
     if let Named::Known(instrument) = named {
-        run(instrument, choice.next);
+        run(&rt, &mut out, &mut errors, instrument, choice.next);
     }
 }

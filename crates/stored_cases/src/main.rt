@@ -1,54 +1,60 @@
 #![tactic(auto)]
 // Runs the stored cases and prints a line for each: sheets that are read, sheets that are loaded, and words that are tested, on the large
-// instrument, then on the entry instrument and then on the four-channel one.
+// instrument, then on the entry instrument and then on the four-channel one. What cannot be written is left out.
 use answers::Verdict;
 use cases::{Number, next_bytes, next_number, next_sheet, next_short};
 use input::first;
 use instrument::Instrument;
-use libc::STDOUT_FILENO;
 use loader::load_on;
 use printing::{print_answer, print_verdict};
 use reader::read_on;
 use sections::Read;
+use std::io::Write;
+use std::rt::Files;
+use std::{fs, io};
 use tally::Tally;
 use words::word_test_on;
 
 // What is done with the sheets of a file.
-#[derive(Drop)]
+#[derive(Clone, Copy)]
 enum Kind {
     Reading,
     Loading,
     Words,
 }
 
-fn print_count(n: usize) {
-    io::write_all(STDOUT_FILENO, b" ");
-    io::print_decimal(STDOUT_FILENO, n as u64);
+fn print_count<W: Write>(out: &mut W, n: usize) {
+    let _ = write!(out, " {n}");
 }
 
-fn print_tally(t: Tally) {
-    io::write_all(STDOUT_FILENO, b"read");
-    print_count(t.conditions);
-    print_count(t.points);
-    print_count(t.methods);
-    print_count(t.steps);
-    print_count(t.certificates);
-    io::write_all(STDOUT_FILENO, b"\n");
+fn print_tally<W: Write>(out: &mut W, t: Tally) {
+    let _ = out.write_all(b"read");
+    print_count(out, t.conditions);
+    print_count(out, t.points);
+    print_count(out, t.methods);
+    print_count(out, t.steps);
+    print_count(out, t.certificates);
+    let _ = out.write_all(b"\n");
 }
 
 // The refusal, or the five counts of a sheet that is read whole.
-fn print_reading(instrument: Instrument, sheet: &[u8]) {
+fn print_reading<W: Write>(out: &mut W, instrument: Instrument, sheet: &[u8]) {
     let read = read_on(instrument, sheet);
     match read {
-        Read::Whole(contents) => print_tally(contents.tally),
+        Read::Whole(contents) => print_tally(out, contents.tally),
         Read::Refused(x) => {
-            print_verdict(Verdict::Refused(x));
+            let _ = print_verdict(out, Verdict::Refused(x));
         }
     }
 }
 
 // A condition's number, the word's length and the word.
-fn next_word(instrument: Instrument, file: i32, sheet: &[u8]) {
+fn next_word<R: io::Read, W: Write>(
+    out: &mut W,
+    instrument: Instrument,
+    file: &mut R,
+    sheet: &[u8],
+) {
     let condition = next_short(file);
     let Number::Value(k) = condition else {
         return;
@@ -59,24 +65,34 @@ fn next_word(instrument: Instrument, file: i32, sheet: &[u8]) {
     };
     let mut room = [0u8; 65535];
     let got = next_bytes(file, n, &mut room);
-    print_answer(word_test_on(instrument, sheet, k, first(&room, got)));
+    let _ = print_answer(out, word_test_on(instrument, sheet, k, first(&room, got)));
 }
 
 // Behind a sheet, the number of its words, and each word.
-fn print_words(instrument: Instrument, file: i32, sheet: &[u8]) {
+fn print_words<R: io::Read, W: Write>(
+    out: &mut W,
+    instrument: Instrument,
+    file: &mut R,
+    sheet: &[u8],
+) {
     let count = next_number(file);
     let Number::Value(n) = count else {
         return;
     };
     let mut left = n;
     while 0 < left {
-        next_word(instrument, file, sheet);
+        next_word(out, instrument, file, sheet);
         left -= 1;
     }
 }
 
 // False where there is no further case.
-fn next_case(instrument: Instrument, kind: Kind, file: i32) -> bool {
+fn next_case<R: io::Read, W: Write>(
+    out: &mut W,
+    instrument: Instrument,
+    kind: Kind,
+    file: &mut R,
+) -> bool {
     let mut room = [0u8; 65600];
     let size = next_sheet(file, &mut room);
     let Number::Value(n) = size else {
@@ -84,34 +100,46 @@ fn next_case(instrument: Instrument, kind: Kind, file: i32) -> bool {
     };
     let sheet = first(&room, n);
     match kind {
-        Kind::Reading => print_reading(instrument, sheet),
+        Kind::Reading => print_reading(out, instrument, sheet),
         Kind::Loading => {
-            print_verdict(load_on(instrument, sheet));
+            let _ = print_verdict(out, load_on(instrument, sheet));
         }
-        Kind::Words => print_words(instrument, file, sheet),
+        Kind::Words => print_words(out, instrument, file, sheet),
     }
     true
 }
 
-fn print_cases(instrument: Instrument, kind: Kind, name: &[u8]) {
-    let file = os::open_read(name);
+fn print_cases<F: Files, W: Write>(
+    files: &F,
+    out: &mut W,
+    instrument: Instrument,
+    kind: Kind,
+    name: &str,
+) {
+    let Ok(mut file) = fs::open(files, name) else {
+        return;
+    };
     let mut left: usize = 100000;
     while 0 < left {
-        if !next_case(instrument, kind, file) {
+        if !next_case(out, instrument, kind, &mut file) {
             return;
         }
         left -= 1;
     }
 }
 
-fn main() {
-    print_cases(Instrument::Large, Kind::Reading, b"reading");
-    print_cases(Instrument::Large, Kind::Loading, b"sheets");
-    print_cases(Instrument::Large, Kind::Words, b"words");
-    print_cases(Instrument::Entry, Kind::Reading, b"entry_reading");
-    print_cases(Instrument::Entry, Kind::Loading, b"entry_sheets");
-    print_cases(Instrument::Entry, Kind::Words, b"entry_words");
-    print_cases(Instrument::Four, Kind::Reading, b"four_reading");
-    print_cases(Instrument::Four, Kind::Loading, b"four_sheets");
-    print_cases(Instrument::Four, Kind::Words, b"four_words");
+fn print_all<F: Files, W: Write>(rt: &F, out: &mut W) {
+    print_cases(rt, out, Instrument::Large, Kind::Reading, "reading");
+    print_cases(rt, out, Instrument::Large, Kind::Loading, "sheets");
+    print_cases(rt, out, Instrument::Large, Kind::Words, "words");
+    print_cases(rt, out, Instrument::Entry, Kind::Reading, "entry_reading");
+    print_cases(rt, out, Instrument::Entry, Kind::Loading, "entry_sheets");
+    print_cases(rt, out, Instrument::Entry, Kind::Words, "entry_words");
+    print_cases(rt, out, Instrument::Four, Kind::Reading, "four_reading");
+    print_cases(rt, out, Instrument::Four, Kind::Loading, "four_sheets");
+    print_cases(rt, out, Instrument::Four, Kind::Words, "four_words");
+}
+
+fn main(rt: HostRuntime) {
+    print_all(&rt, &mut rt.stdout());
 }

@@ -5,59 +5,75 @@ ghost use Rattle.std.specs.Prelude.{◌≤◌};
 
 use arguments::{cannot_write, chosen_instrument, is_argument, read_named, wrong_argument};
 use decimal::{Argument, Events, number_at, read_events};
-use input::{Input, first};
+use input::{Input, first, has_argument};
 use instrument::{Instrument, Named};
-use libc::{STDERR_FILENO, STDOUT_FILENO};
 use printing::print_answer;
+use std::env::Env;
+use std::io::Write;
+use std::rt::Files;
 use words::word_test_on;
 
-fn wrong(i: usize, expected: &[u8]) {
-    wrong_argument(b"word_test", i, expected);
+fn wrong<R: Env, E: Write>(rt: &R, errors: &mut E, i: usize, expected: &[u8]) {
+    wrong_argument(rt, errors, b"word_test", i, expected);
 }
 
 // That argument i is no event of the instrument.
-fn wrong_event(instrument: Instrument, i: usize) {
+fn wrong_event<R: Env, E: Write>(rt: &R, errors: &mut E, instrument: Instrument, i: usize) {
     match instrument {
-        Instrument::Large => wrong(i, b"an event, a number from 0 to 31"),
-        Instrument::Entry => wrong(i, b"an event, a number from 0 to 31"),
-        Instrument::Four => wrong(i, b"an event, a number from 0 to 63"),
+        Instrument::Large => wrong(rt, errors, i, b"an event, a number from 0 to 31"),
+        Instrument::Entry => wrong(rt, errors, i, b"an event, a number from 0 to 31"),
+        Instrument::Four => wrong(rt, errors, i, b"an event, a number from 0 to 63"),
     }
 }
 
 // The answer on the word of the events from argument `from` on. There is room for one event more than a word may have; what follows it is not
 // read.
-fn print_test(instrument: Instrument, sheet: &[u8], condition: usize, from: usize) {
+fn print_test<R: Env, O: Write, E: Write>(
+    rt: &R,
+    out: &mut O,
+    errors: &mut E,
+    instrument: Instrument,
+    sheet: &[u8],
+    condition: usize,
+    from: usize,
+) {
     let mut word = [0u8; 4097];
-    let events = read_events(from, &mut word);
+    let events = read_events(rt, from, &mut word);
     match events {
         Events::Count(n) => {
-            if !print_answer(word_test_on(instrument, sheet, condition, first(&word, n))) {
-                cannot_write(b"word_test");
+            let answer = word_test_on(instrument, sheet, condition, first(&word, n));
+            if let Err(e) = print_answer(out, answer) {
+                cannot_write(errors, b"word_test", e);
             }
         }
-        Events::WrongAt(i) => wrong_event(instrument, i),
+        Events::WrongAt(i) => wrong_event(rt, errors, instrument, i),
     }
 }
 
 // The sheet's file is argument i, and the others follow it. There is room for one byte more than a sheet may have on any instrument.
-fn print_line(instrument: Instrument, i: usize)
+fn print_line<R: Env + Files, O: Write, E: Write>(
+    rt: &R,
+    out: &mut O,
+    errors: &mut E,
+    instrument: Instrument,
+    i: usize,
+)
     requires { i ≤ 3 }
 {
     let mut room = [0u8; 65537];
-    let sheet = read_named(b"word_test", i, &mut room);
+    let sheet = read_named(rt, errors, b"word_test", i, &mut room);
     let Input::Bytes(n) = sheet else {
         return;
     };
-    let condition = number_at(i + 1);
+    let condition = number_at(rt, i + 1);
     match condition {
-        Argument::Number(k) => print_test(instrument, first(&room, n), k, i + 2),
-        Argument::Wrong => wrong(i + 1, b"the condition's number"),
+        Argument::Number(k) => print_test(rt, out, errors, instrument, first(&room, n), k, i + 2),
+        Argument::Wrong => wrong(rt, errors, i + 1, b"the condition's number"),
     }
 }
 
-fn print_help() {
-    let written = io::write_all(
-        STDOUT_FILENO,
+fn print_help<O: Write, E: Write>(out: &mut O, errors: &mut E) {
+    let written = out.write_all(
         b"usage: word_test [--instrument large|entry|four] SHEET CONDITION EVENT...\n\
           \n\
           Tests whether a condition of the sheet in the file SHEET holds the word of the events, and prints one line.\n\
@@ -74,39 +90,45 @@ fn print_help() {
           What is wrong with an argument, and what cannot be read or written, is said on standard error.\n\
           The exit status is always 0.\n",
     );
-    if !written {
-        cannot_write(b"word_test");
+    if let Err(e) = written {
+        cannot_write(errors, b"word_test", e);
     }
 }
 
-fn misused(i: usize, expected: &[u8]) {
-    wrong(i, expected);
-    io::write_all(
-        STDERR_FILENO,
+fn misused<R: Env, E: Write>(rt: &R, errors: &mut E, i: usize, expected: &[u8]) {
+    wrong(rt, errors, i, expected);
+    let _ = errors.write_all(
         b"usage: word_test [--instrument large|entry|four] SHEET CONDITION EVENT...\n",
     );
 }
 
 // Argument `next` is the first one behind the option.
-fn run(instrument: Instrument, next: usize)
+fn run<R: Env + Files, O: Write, E: Write>(
+    rt: &R,
+    out: &mut O,
+    errors: &mut E,
+    instrument: Instrument,
+    next: usize,
+)
     requires { next ≤ 3 }
 {
-    let count = os::arg_count();
-    if is_argument(next, b"--help") {
-        print_help();
-    } else if count <= next {
-        misused(next, b"the sheet's file");
-    } else if count <= next + 1 {
-        misused(next + 1, b"the condition's number");
+    if is_argument(rt, next, b"--help") {
+        print_help(out, errors);
+    } else if !has_argument(rt, next) {
+        misused(rt, errors, next, b"the sheet's file");
+    } else if !has_argument(rt, next + 1) {
+        misused(rt, errors, next + 1, b"the condition's number");
     } else {
-        print_line(instrument, next);
+        print_line(rt, out, errors, instrument, next);
     }
 }
 
-fn main() {
-    let choice = chosen_instrument(b"word_test");
+fn main(rt: HostRuntime) {
+    let mut out = rt.stdout();
+    let mut errors = rt.stderr();
+    let choice = chosen_instrument(&rt, &mut errors, b"word_test");
     let named = choice.named;
     if let Named::Known(instrument) = named {
-        run(instrument, choice.next);
+        run(&rt, &mut out, &mut errors, instrument, choice.next);
     }
 }
