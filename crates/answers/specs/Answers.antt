@@ -1,7 +1,7 @@
 -- The documents' numbers and values of each answer: "What the loader returns", "Seventeen rules", and document 02, Asks 2 and 4.
 use Rattle.std.specs.Prelude.{ℕ}
 use Rattle.verdict.specs.Verdict.{Report, accepted, refused, unproved}
-use Rattle.verdict.specs.WordTest.{Answer, held, not-held, untested}
+use Rattle.verdict.specs.WordTest.{Answer, held, not_held, untested}
 use Rattle.format.specs.Refusal.{number_of, place_of}
 use Rattle.faults.specs.Fault.{fault_of}
 use Rattle.answers.specs.declared.Rule.{Rule}
@@ -77,5 +77,5 @@ report_of (Unproved r f) = unproved (rule_number r) (rule_subject r) (fault_of f
 
 abbrev pub answer_of : WordAnswer → Answer
 answer_of Yes = held
-answer_of (No n) = not-held n
+answer_of (No n) = not_held n
 answer_of (RefusedWord x) = untested (number_of x) (place_of x)

@@ -6,5 +6,5 @@ use Rattle.arguments.specs.declared.Choice.{Choice}
 
 -- the large one where there is no option; else the option is arguments 1 and 2
 pub data Chosen : Choice → Type 0 where
-  no-option : Chosen (record { named = Known Large; next = 1 })
+  no_option : Chosen (record { named = Known Large; next = 1 })
   option : (named : Named) → Chosen (record { named = named; next = 3 })

@@ -86,8 +86,8 @@ module _ {x more : ℕ} {F₀ F : List ℕ} {rest : ℕ} (l : Linking x more F�
 
   pub linking-all : rest ≡ 0 → Linked x more F₀ F
   linking-all z = record {
-    linked-rows = l.long;
-    linked-is = λ k _.
+    linked_rows = l.long;
+    linked_is = λ k _.
         sym (ap (λ (b : Bool). bit_or (get_or F k 0) (cond b more 0)) (ap (λ (x : ℕ). has x k) z ∙ has-none k) ∙ or_zero_r (get_or F k 0)) ∙ l.whole k;
   }
 
@@ -184,21 +184,21 @@ module _ {S : List ℕ} {n e found q : ℕ} (h : Holders S n e found q) where
 -- The table of holders, by number ---------------------------------------------------------------------------------------
 
 pub holding-none : (S : List ℕ) (n : ℕ) (H : List ℕ) → length H ≡ 64 → Holding S n 0 H
-holding-none S n H h = record { holding-rows = h; holding-is = λ e q l. absurd (omega arith) }
+holding-none S n H h = record { holding_rows = h; holding_is = λ e q l. absurd (omega arith) }
 
 pub holding-more : {S : List ℕ} {n e : ℕ} {H : List ℕ} (x : ℕ) → Holding S n e H → e < 64
     → ((q : ℕ) → 0 < q → q ≤ n → has x q ≡ has (get_or S q 0) e) → Holding S n (e + 1) (set H e x)
 holding-more {S} {n} {e} {H} x h l f =
     record {
-      holding-rows = length-set H e x ∙ h.holding-rows;
-      holding-is = λ i q a b c. at i q b c (below_next a);
+      holding_rows = length-set H e x ∙ h.holding_rows;
+      holding_is = λ i q a b c. at i q b c (below_next a);
     }
   where
     at : (i q : ℕ) → 0 < q → q ≤ n → (i ≡ e) ⊎ (i < e) → has (get_or (set H e x) i 0) q ≡ has (get_or S q 0) i
     at i q b c (inl y) =
-        let g = h.holding-rows in
+        let g = h.holding_rows in
         rw y (ap (λ (v : ℕ). has v q) (get_or-set_same H e x 0 (omega arith)) ∙ f q b c)
-    at i q b c (inr y) = ap (λ (v : ℕ). has v q) (get_or-set_other H e i x 0 (λ (z : i ≡ e). omega arith)) ∙ h.holding-is i q y b c
+    at i q b c (inr y) = ap (λ (v : ℕ). has v q) (get_or-set_other H e i x 0 (λ (z : i ≡ e). omega arith)) ∙ h.holding_is i q y b c
 
 -- The unions that are kept ----------------------------------------------------------------------------------------------
 
@@ -214,8 +214,8 @@ union-none F n (suc x) h l q = let k = lowest-lt (suc x) (λ (e : suc x ≡ 0). 
 -- at the start each set is empty
 pub unions-none : (F : List ℕ) (n : ℕ) → Unions F n (replicate 64 0) (replicate 64 0)
 unions-none F n = record {
-  sets-long = length-replicate {A = ℕ} 64 0;
-  unions-long = length-replicate {A = ℕ} 64 0;
+  sets_long = length-replicate {A = ℕ} 64 0;
+  unions_long = length-replicate {A = ℕ} 64 0;
   united = λ p q l.
       ap (λ (u : ℕ). has u q) (get_or-replicate 64 p 0 0 l) ∙ none-united F n q ∙ ap (λ (x : ℕ). in_rows F n x q) (sym (get_or-replicate 64 p 0 0 l));
 }
@@ -229,15 +229,15 @@ module _ {F : List ℕ} {n : ℕ} {K U : List ℕ} (k : Unions F n K U) where
   pub unions-more : (p x u : ℕ) → p < 64 → ((q : ℕ) → has u q ≡ in_rows F n x q) → Unions F n (set K p x) (set U p u)
   unions-more p x u l f =
       record {
-        sets-long = length-set K p x ∙ k.sets-long;
-        unions-long = length-set U p u ∙ k.unions-long;
+        sets_long = length-set K p x ∙ k.sets_long;
+        unions_long = length-set U p u ∙ k.unions_long;
         united = λ i q h. at i q h (eqb i p) refl;
       }
     where
       at : (i q : ℕ) → i < 64 → (b : Bool) → eqb i p ≡ b → has (get_or (set U p u) i 0) q ≡ in_rows F n (get_or (set K p x) i 0) q
       at i q h true e =
-          let m = k.sets-long in
-          let w = k.unions-long in
+          let m = k.sets_long in
+          let w = k.unions_long in
           rw (eqb-true i p e)
           (ap (λ (y : ℕ). has y q) (get_or-set_same U p u 0 (omega arith))
           ∙ f q

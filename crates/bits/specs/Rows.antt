@@ -13,18 +13,18 @@ in_rows rows n s k = any_below n (λ p. has s p && row_has rows p k)
 
 -- the rows whose numbers the set s has got the numbers of `more`
 pub record Linked (s more : ℕ) (rows rows' : List ℕ) : Type 0 where
-  pub linked-rows : length rows' ≡ 64
-  pub linked-is : (p : ℕ) → p < 64 → get_or rows' p 0 ≡ bit_or (get_or rows p 0) (cond (has s p) more 0)
+  pub linked_rows : length rows' ≡ 64
+  pub linked_is : (p : ℕ) → p < 64 → get_or rows' p 0 ≡ bit_or (get_or rows p 0) (cond (has s p) more 0)
 
 -- row k of `holding` has those of the rows from 1 to n that have the number k, for each k below m
 pub record Holding (rows : List ℕ) (n m : ℕ) (holding : List ℕ) : Type 0 where
-  pub holding-rows : length holding ≡ 64
-  pub holding-is : (k q : ℕ) → k < m → 0 < q → q ≤ n → row_has holding k q ≡ row_has rows q k
+  pub holding_rows : length holding ≡ 64
+  pub holding_is : (k q : ℕ) → k < m → 0 < q → q ≤ n → row_has holding k q ≡ row_has rows q k
 
 -- row p of `unions` is the union of the rows below n whose numbers row p of `sets` has
 pub record Unions (rows : List ℕ) (n : ℕ) (sets unions : List ℕ) : Type 0 where
-  pub sets-long : length sets ≡ 64
-  pub unions-long : length unions ≡ 64
+  pub sets_long : length sets ≡ 64
+  pub unions_long : length unions ≡ 64
   pub united : (p k : ℕ) → p < 64 → row_has unions p k ≡ in_rows rows n (get_or sets p 0) k
 
 -- r is the lowest number below n that passes the test f, or n where none does

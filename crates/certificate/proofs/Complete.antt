@@ -57,7 +57,7 @@ complete events left right c inc exact =
       clause1 = exact.start_first;
       pairs = λ i l.
           let p = pair_of c i in
-          let reached = exact.only-reachable i l in
+          let reached = exact.only_reachable i l in
           let below = reach-set events left right reached in
           record {
             clause2 =
@@ -67,6 +67,6 @@ complete events left right c inc exact =
             clause3 = λ h. some_ends-in right p.set below (reach_leads events left right inc reached [] h);
             clause4 = λ e q m n t.
                 let s = (step right p.set e).set in
-                listed_in right c q s (step-lt right p.set e) (exact.all-reachable (pair q s) (onward e q reached m n t));
+                listed_in right c q s (step-lt right p.set e) (exact.all_reachable (pair q s) (onward e q reached m n t));
           };
     })

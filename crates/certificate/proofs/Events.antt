@@ -87,13 +87,13 @@ module _ (n n' : ℕ) (more : n ≤ n') (left right : Condition) (below : Events
     λ x.
         record {
           start_first = x.start_first;
-          only-reachable = λ i l. reach-more (x.only-reachable i l);
-          all-reachable = λ p r. x.all-reachable p (reach-fewer r);
+          only_reachable = λ i l. reach-more (x.only_reachable i l);
+          all_reachable = λ p r. x.all_reachable p (reach-fewer r);
         },
     λ x.
         record {
           start_first = x.start_first;
-          only-reachable = λ i l. reach-fewer (x.only-reachable i l);
-          all-reachable = λ p r. x.all-reachable p (reach-more r);
+          only_reachable = λ i l. reach-fewer (x.only_reachable i l);
+          all_reachable = λ p r. x.all_reachable p (reach-more r);
         },
   )

@@ -184,7 +184,7 @@ module _ (events : ℕ) (left right : Condition) where
         c,
         record {
           start_first = tt;
-          only-reachable = λ i l. all_grown.reachable (pair_of c i) (pair-member c i l);
-          all-reachable = λ p r. numbered (all_listed r);
+          only_reachable = λ i l. all_grown.reachable (pair_of c i) (pair-member c i l);
+          all_reachable = λ p r. numbered (all_listed r);
         },
       )

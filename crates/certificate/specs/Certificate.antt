@@ -107,5 +107,5 @@ pub data Reachable (events : ℕ) (left right : Condition) : Pair → Type 0 whe
 -- Demand 3, second half: the certificate "lists exactly the reachable pairs, the start first", in any order after it, repeats allowed
 pub record Exact (events : ℕ) (left right : Condition) (c : Certificate) : Type 0 where
   pub start_first : T (starts_right c)
-  pub only-reachable : (i : ℕ) → i < length c → Reachable events left right (pair_of c i)
-  pub all-reachable : (p : Pair) → Reachable events left right p → (i : ℕ) × (i < length c) × (pair_of c i ≡ p)
+  pub only_reachable : (i : ℕ) → i < length c → Reachable events left right (pair_of c i)
+  pub all_reachable : (p : Pair) → Reachable events left right p → (i : ℕ) × (i < length c) × (pair_of c i ≡ p)

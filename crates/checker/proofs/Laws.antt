@@ -40,23 +40,23 @@ next-nearer k c e h = subst (Nearer k c) e h
 
 -- no rules are left
 pub none_left : {events : ℕ} {s : List ℕ} {xs : List runs.Rule} (at : ℕ) → xs ≡ [] → Tries events s xs at (Passed at)
-none_left {events} {s} at none = record { comes-to = sym (ap (λ (xs : List runs.Rule). try_rules events s xs at) none ∙ no-rules events s at) }
+none_left {events} {s} at none = record { comes_to = sym (ap (λ (xs : List runs.Rule). try_rules events s xs at) none ∙ no-rules events s at) }
 
 -- the rules xs are x and then ys
 module _ {events : ℕ} {s : List ℕ} {x : runs.Rule} {xs ys : List runs.Rule} (are : xs ≡ x ∷ ys) {at : ℕ} {t : Tested} (tries : Tries events s (x ∷ []) at t) where
   led : (u : Tested) → t ≡ u → onward (trial_of u) (try_rules events s ys) ≡ try_rules events s xs at
   led u e =
       sym (ap (λ (x : Tested). onward (trial_of x) (try_rules events s ys)) e)
-      ∙ ap (λ (x : Trial). onward x (try_rules events s ys)) tries.comes-to
+      ∙ ap (λ (x : Trial). onward x (try_rules events s ys)) tries.comes_to
       ∙ sym (ap (λ (xs : List runs.Rule). try_rules events s xs at) are ∙ trial-append events s (x ∷ []) ys at)
 
   -- the fault of the first rule is that of all
   pub first_stops : {r : Rule} {f : Fault} → t ≡ Failed r f → Tries events s xs at t
-  first_stops fails = record { comes-to = ap trial_of fails ∙ led _ fails }
+  first_stops fails = record { comes_to = ap trial_of fails ∙ led _ fails }
 
   -- where the first rule passes, the others are left
   pub first_passes : {next : ℕ} {u : Tested} → t ≡ Passed next → Tries events s ys next u → Tries events s xs at u
-  first_passes passes rest = record { comes-to = rest.comes-to ∙ led _ passes }
+  first_passes passes rest = record { comes_to = rest.comes_to ∙ led _ passes }
 
 -- The walk --------------------------------------------------------------------------------------------------------------
 
@@ -72,14 +72,14 @@ module _ {events : ℕ} {s : List ℕ} {S : Sheet} {from at : ℕ} {cursor : Cur
 
   module _ {claim : Claim} {after : Cursor} (g : GoesOn s S h.left claim after) {t : Tested} (tries : (x : runs.Rule) → Says s claim x → Tries events s (x ∷ []) at t) where
     pub walk-stops : {r : Rule} {f : Fault} → t ≡ Failed r f → Tries events s (rules S) from t
-    walk-stops fails = h.leads t (first_stops g.rules-are (tries g.first g.says) fails)
+    walk-stops fails = h.leads t (first_stops g.rules_are (tries g.first g.says) fails)
 
     pub walk-on : {next : ℕ} → t ≡ Passed next → Onward events s S from next after
     walk-on passes =
         record {
           left = g.others;
-          left_at = g.others-left;
-          leads = λ u rest. h.leads u (first_passes g.rules-are (tries g.first g.says) passes rest);
+          left_at = g.others_left;
+          leads = λ u rest. h.leads u (first_passes g.rules_are (tries g.first g.says) passes rest);
         }
 
 -- The tables that a test is lent: the stack on which a side's places are found, the rows of the left side and of the right, and room for the
@@ -88,5 +88,5 @@ pub record RoomToTest (nulls : List Bool) (firsts lasts lfollow lsets rfollow rs
   pub stack : Roomy nulls firsts lasts
   pub left : Rows lfollow lsets
   pub right : Rows rfollow rsets
-  pub missing-long : length missing ≡ 64
+  pub missing_long : length missing ≡ 64
   pub rows_long : length rows ≡ table_rows

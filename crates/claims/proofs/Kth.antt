@@ -30,7 +30,7 @@ module _ {A : Type 0} where
 
 -- a name by its own number and subject
 pub named : {x : answers.Rule} → RuleIs x (rule_number x) (rule_subject x)
-named = record { number_is = refl; subject-is = refl }
+named = record { number_is = refl; subject_is = refl }
 
 -- rule n is x, and k is n
 pub kth-says : {s : List ℕ} {xs : List Rule} {k n : ℕ} {a : Asked} {x : Rule} → k ≡ n → NthIs xs n x → Asks s a x → Kth s xs k a
@@ -40,7 +40,7 @@ kth-says {s} {xs} {a = a} known is h = subst (λ (k : ℕ). Kth s xs k a) (sym k
 pub kth-named : {s : List ℕ} {xs : List Rule} {k j : ℕ} {a : Asked} {r : answers.Rule} {n i : ℕ} {c : Claim} → k ≡ j
     → NthIs xs j (n of i says c) → RuleIs r n i → Asks s a (r says c) → Kth s xs k a
 kth-named {s} {a = a} {c = c} known is name h =
-    kth-says known is (subst (Asks s a) (ap₂ (λ (n i : ℕ). n of i says c) name.number_is name.subject-is) h)
+    kth-says known is (subst (Asks s a) (ap₂ (λ (n i : ℕ). n of i says c) name.number_is name.subject_is) h)
 
 -- behind the last rule there is no claim
 pub kth-done : {s : List ℕ} {xs : List Rule} {k : ℕ} → length xs ≤ k → Kth s xs k NoMore

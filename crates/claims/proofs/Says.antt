@@ -21,7 +21,7 @@ use Rattle.claims.specs.Claims.{◌says◌, LeftIs, Says, WordOf, RaisedIs, Chan
 pub says-in : {s : List ℕ} {r : Rule} (left : Left) (right : Part) (a : Condition) {l b : Condition} → LeftIs s left l → PartIs s right b → a ≡ l
     → Says s (Inclusion r left right) (r says a is_in b)
 says-in {r = r} left right a {l} {b} p q e =
-    record { left_one = l; right-one = b; left_is = p; right_is = q; rule-is = ap (λ (a : Condition). r says a is_in b) e }
+    record { left_one = l; right_one = b; left_is = p; right_is = q; rule_is = ap (λ (a : Condition). r says a is_in b) e }
 
 -- what a step raises, told apart
 module _ (s : List ℕ) {raised : Raised} (t : Option Condition) where
@@ -33,7 +33,7 @@ module _ (s : List ℕ) {raised : Raised} (t : Option Condition) where
 
 -- a part whose word is raised
 pub a_word : {s : List ℕ} {part : Part} {t : Condition} → PartIs s part t → WordOf s part (some t)
-a_word {t = t} p = record { raised-one = t; raised_is = p; some_one = refl }
+a_word {t = t} p = record { raised_one = t; raised_is = p; some_one = refl }
 
 -- A condition r as a call reads it, on the channel k of the code ------------------------------------------------------------
 
@@ -48,4 +48,4 @@ module _ (s : List ℕ) (at : ℕ) (r : Condition) {k : ℕ} where
   pub read-exchanged : (o : Option ℕ) → ChannelIs o k → (k ≡ 0 → ⊥) → StandsAt s at r → ExchangedAt s at k (on_channel o r)
   read-exchanged none is other p = absurd (other is)
   read-exchanged (some c) is other p =
-      subst (λ (k : ℕ). ExchangedAt s at k (exchange c r)) (sym is.0) (record { plain = r; stands = p; exchanged-is = refl; fits = is.1 })
+      subst (λ (k : ℕ). ExchangedAt s at k (exchange c r)) (sym is.0) (record { plain = r; stands = p; exchanged_is = refl; fits = is.1 })

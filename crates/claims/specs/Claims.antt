@@ -21,7 +21,7 @@ use Rattle.claims.specs.declared.forms.Raised.TheVariants.{Nothing, Word}
 -- the name is that of rule n about the method or step k
 pub record RuleIs (x : Rule) (n k : ℕ) : Type 0 where
   pub number_is : rule_number x ≡ n
-  pub subject-is : rule_subject x ≡ k
+  pub subject_is : rule_subject x ≡ k
 
 -- the rule that a name and a claim make
 infix 20 ◌says◌
@@ -30,10 +30,10 @@ r says x = record { number = rule_number r; subject = rule_subject r; claim = x 
 
 pub record JoinIs (s : List ℕ) (first second : Part) (c : Condition) : Type 0 where
   pub first_one : Condition
-  pub second-one : Condition
-  pub first-is : PartIs s first first_one
-  pub second_is : PartIs s second second-one
-  pub join_is : c ≡ join first_one second-one
+  pub second_one : Condition
+  pub first_is : PartIs s first first_one
+  pub second_is : PartIs s second second_one
+  pub join_is : c ≡ join first_one second_one
 
 -- the left of an inclusion is the condition c
 abbrev pub LeftIs : List ℕ → Left → Condition → Type 0
@@ -42,15 +42,15 @@ LeftIs s (Two first second) c = JoinIs s first second c
 
 pub record SaysInclusion (s : List ℕ) (r : Rule) (left : Left) (right : Part) (x : runs.Rule) : Type 0 where
   pub left_one : Condition
-  pub right-one : Condition
+  pub right_one : Condition
   pub left_is : LeftIs s left left_one
-  pub right_is : PartIs s right right-one
-  pub rule-is : x ≡ (r says left_one is_in right-one)
+  pub right_is : PartIs s right right_one
+  pub rule_is : x ≡ (r says left_one is_in right_one)
 
 pub record SaysEmpty (s : List ℕ) (r : Rule) (part : Part) (x : runs.Rule) : Type 0 where
-  pub part-one : Condition
-  pub part-is : PartIs s part part-one
-  pub rule-is : x ≡ (r says holds_empty part-one)
+  pub part_one : Condition
+  pub part_is : PartIs s part part_one
+  pub rule_is : x ≡ (r says holds_empty part_one)
 
 -- the claim stands for the rule x, of the conditions that stand in the sheet's bytes
 abbrev pub Says : List ℕ → Claim → runs.Rule → Type 0
@@ -74,9 +74,9 @@ pub data Kth (s : List ℕ) (xs : List runs.Rule) (k : ℕ) (a : Asked) : Type 0
 -- What a step raises: nothing, or a word of a condition t ---------------------------------------------------------------
 
 pub record WordOf (s : List ℕ) (part : Part) (t : Option Condition) : Type 0 where
-  pub raised-one : Condition
-  pub raised_is : PartIs s part raised-one
-  pub some_one : t ≡ some raised-one
+  pub raised_one : Condition
+  pub raised_is : PartIs s part raised_one
+  pub some_one : t ≡ some raised_one
 
 abbrev pub RaisedIs : List ℕ → Raised → Option Condition → Type 0
 RaisedIs s Nothing t = t ≡ none

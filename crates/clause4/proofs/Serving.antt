@@ -68,8 +68,8 @@ module _ (c : Certificate) (start m onward : ℕ) (sets : List ℕ) (missers : �
     going_more {missers''} {rows''} l f = record {
       stands = stands_on g.stands (omega arith) (omega arith);
       long = f.rows_long;
-      small = f.missers-small;
-      among = λ q t. g.among q (f.missers-among q t);
+      small = f.missers_small;
+      among = λ q t. g.among q (f.missers_among q t);
       was = λ q e x. g.was q e (both q e x).0;
       unmet = λ q e x. seen-on (g.unmet q e (both q e x).0) (λ j h k.
           subst (unserving q e) (le_antisymm h (omega arith)) (fails-not (serves m onward sets q e (pair_of c i)) (both q e x).1));

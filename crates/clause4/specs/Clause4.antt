@@ -28,9 +28,9 @@ pub record Active (sets : List ℕ) (n events set : ℕ) : Type 0 where
 -- what is the same for all pairs of a certificate c, with the tables of the two sides and the rows that are kept of c
 pub record Scoped (c : Certificate) (x : Scope) (lsets rsets rows : List ℕ) : Type 0 where
   pub searched : Searched c x rsets rows
-  pub few-events : x.events ≤ 64
-  pub few-left : x.n ≤ 64
-  pub alive-is : Active lsets x.n x.events x.alive
+  pub few_events : x.events ≤ 64
+  pub few_left : x.n ≤ 64
+  pub alive_is : Active lsets x.n x.events x.alive
 
 -- the rows of the places `missers` are the events of the mask that each holds
 pub record Wanted (missers : ℕ) (sets : List ℕ) (mask : ℕ) (rows : List ℕ) : Type 0 where

@@ -58,8 +58,8 @@ starts-some (p ∷ c) h = omega arith
 
 module _ (c : Certificate) where
   -- by what stands first
-  pub no-pair : pair_found c 0 ≡ entry.End → false ≡ starts_right c
-  no-pair h = sym (starts_none c (found-end c 0 zero-le h))
+  pub no_pair : pair_found c 0 ≡ entry.End → false ≡ starts_right c
+  no_pair h = sym (starts_none c (found-end c 0 zero-le h))
 
   pub first-pair : {p : format.Pair} → pair_found c 0 ≡ entry.Pair p → (eqb p.place 0 && eqb p.set 1) ≡ starts_right c
   first-pair h = let (a, b) = found-pair c 0 h in sym (starts_with c a b)
@@ -68,7 +68,7 @@ module _ (c : Certificate) where
 pub spans : (part : List ℕ) {n : ℕ} → starts_right (certificate_at part 0) ≡ true → n ≡ 6 * length (certificate_at part 0) + 1 → Spans part n
 spans part h e =
     let (a, b) = last-inside part (length (certificate_at part 0)) refl (starts-some (certificate_at part 0) h) in
-    record { bytes-are = e; begins = a; ends = omega arith }
+    record { bytes_are = e; begins = a; ends = omega arith }
 
 -- All clauses -----------------------------------------------------------------------------------------------------------
 

@@ -48,7 +48,7 @@ inside-place place n b e = ltb→lt place n (and-out (ltb place n) b (rw e tt)).
 module _ (r : Condition) (side : Side) (follow sets : List ℕ) (t : Tables r side follow sets) where
   places-are : (n : ℕ) → PlacesOf side.leaves n → n ≡ places r
   unfolding places
-  places-are n p = let e = t.leaves-is in let f = t.few in p.places_is (omega arith) ∙ ap (λ (k : ℕ). suc k) e
+  places-are n p = let e = t.leaves_is in let f = t.few in p.places_is (omega arith) ∙ ap (λ (k : ℕ). suc k) e
 
   place-le : (p : ℕ) → p < places r → p ≤ leaves r
   unfolding places
@@ -60,7 +60,7 @@ module _ (r : Condition) (side : Side) (follow sets : List ℕ) (t : Tables r si
 
   leaf-row : (q e : ℕ) → 0 < q → q ≤ leaves r → row_has sets q e ≡ leaf_holds r q e
   unfolding leaf_holds
-  leaf-row q e a b = ap (λ (s : ℕ). has s e) (t.sets-is q a b)
+  leaf-row q e a b = ap (λ (s : ℕ). has s e) (t.sets_is q a b)
 
 -- A set within the stepped set ------------------------------------------------------------------------------------------
 
@@ -71,7 +71,7 @@ module _ (g : Condition) (side : Side) (follow sets : List ℕ) (tg : Tables g s
       onward-is q
       ∙ ap (λ (n : ℕ). any_below n (λ p. has s p && row_has follow p q)) (places-are g side follow sets tg m m-is)
       ∙ any-cong (places g) (λ p. has s p && row_has follow p q) (λ p. has s p && follows g p q)
-      (λ p l. ap (λ (b : Bool). has s p && b) (tg.follow-is p q (place-le g side follow sets tg p l)))
+      (λ p l. ap (λ (b : Bool). has s p && b) (tg.follow_is p q (place-le g side follow sets tg p l)))
 
   onward-leaf : (q : ℕ) → T (has onward q) → (0 < q) × (q ≤ leaves g)
   onward-leaf q h =
@@ -192,7 +192,7 @@ module _ (x : Task) (l g : Condition) {lfollow lsets rfollow rsets rows : List �
 
     wanted-is : (e q : ℕ) → (row_has lfollow p.place q && row_has lsets q e) ≡ (follows l p.place q && leaf_holds l q e)
     wanted-is e q =
-        ap (λ (b : Bool). b && row_has lsets q e) (tl.follow-is p.place q on-side)
+        ap (λ (b : Bool). b && row_has lsets q e) (tl.follow_is p.place q on-side)
         ∙ and-cong (follows l p.place q) (row_has lsets q e) (leaf_holds l q e)
         (λ f. let (a, b) = follows-leaf l p.place q f in leaf-row l x.left lfollow lsets tl q e a b)
 

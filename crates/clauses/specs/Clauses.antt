@@ -17,7 +17,7 @@ checked_finding (Fails f) = found (fault_of f)
 -- The bytes of a certificate that passes, with its end: a pair is six, the end one. It has a pair, so it starts inside its part; all its pairs stand
 -- there, and its end may be the end of the part.
 pub record Spans (part : List ℕ) (bytes : ℕ) : Type 0 where
-  pub bytes-are : bytes ≡ 6 * length (certificate_at part 0) + 1
+  pub bytes_are : bytes ≡ 6 * length (certificate_at part 0) + 1
   pub begins : 0 < length part
   pub ends : bytes ≤ length part + 1
 

@@ -132,11 +132,11 @@ module _ (a b : Condition) where
 
 -- The condition b is a part of r: leaf suc j of b is leaf (at j) of r, ends a word where it does in b, and is followed by the same leaves.
 pub record Part (r b : Condition) (at : ℕ → ℕ) : Type 0 where
-  pub part-ends : (j : ℕ) → suc j ≤ leaves b → ends r (at j) ≡ ends b (suc j)
-  pub part-holds : (j e : ℕ) → suc j ≤ leaves b → leaf_holds r (at j) e ≡ leaf_holds b (suc j) e
-  pub follower-out : (j q : ℕ) → suc j ≤ leaves b → T (follows r (at j) q)
+  pub part_ends : (j : ℕ) → suc j ≤ leaves b → ends r (at j) ≡ ends b (suc j)
+  pub part_holds : (j e : ℕ) → suc j ≤ leaves b → leaf_holds r (at j) e ≡ leaf_holds b (suc j) e
+  pub follower_out : (j q : ℕ) → suc j ≤ leaves b → T (follows r (at j) q)
       → (k : ℕ) × (suc k ≤ leaves b) × (q ≡ at k) × T (follows b (suc j) (suc k))
-  pub follower-in : (j k : ℕ) → suc j ≤ leaves b → suc k ≤ leaves b → T (follows b (suc j) (suc k)) → T (follows r (at j) (at k))
+  pub follower_in : (j k : ℕ) → suc j ≤ leaves b → suc k ≤ leaves b → T (follows b (suc j) (suc k)) → T (follows r (at j) (at k))
 
 module _ (a b : Condition) where
   either-follows : (j : ℕ) → suc j ≤ leaves a → (q : ℕ)
@@ -147,16 +147,16 @@ module _ (a b : Condition) where
   pub either_first : Part (either a b) a (λ j. suc j)
   unfolding ends last leaf_holds leaf_set
   either_first = record {
-    part-ends = λ j l. beside-left (leaves a) _ _ (suc j) l;
-    part-holds = λ j e l. ap (λ (s : ℕ). has s e) (beside-left (leaves a) _ _ (suc j) l);
-    follower-out = λ j q l n.
+    part_ends = λ j l. beside-left (leaves a) _ _ (suc j) l;
+    part_holds = λ j e l. ap (λ (s : ℕ). has s e) (beside-left (leaves a) _ _ (suc j) l);
+    follower_out = λ j q l n.
         ⊎_elim
         (λ (x : (q ≤ leaves a) × T (follows a (suc j) q)).
         let (k, g, i) = follows-suc a (suc j) q x.1 in
         (k, i, g, rw g at x.1))
         (λ (x : (k : ℕ) × (q ≡ suc (leaves a + k)) × ⊥). absurd x.2)
         (beside-out (leaves a) (λ k. follows a (suc j) k) (λ k. false) q (rw (either-follows j l q) at n));
-    follower-in = λ j k l i n. rw (either-follows j l (suc k), beside-left (leaves a) (λ k. follows a (suc j) k) (λ k. false) (suc k) i) n;
+    follower_in = λ j k l i n. rw (either-follows j l (suc k), beside-left (leaves a) (λ k. follows a (suc j) k) (λ k. false) (suc k) i) n;
   }
 
   -- the second side of a condition r that is a join or an either
@@ -167,15 +167,15 @@ module _ (a b : Condition) where
       → Part r b (λ j. suc (leaves a + j))
   unfolding leaf_holds
   second r ends_is set_is follows_is = record {
-    part-ends = λ j l. ends_is j;
-    part-holds = λ j e l. ap (λ (s : ℕ). has s e) (set_is j);
-    follower-out = λ j q l n.
+    part_ends = λ j l. ends_is j;
+    part_holds = λ j e l. ap (λ (s : ℕ). has s e) (set_is j);
+    follower_out = λ j q l n.
         ⊎_elim
         (λ (x : (q ≤ leaves a) × ⊥). absurd x.1)
         (λ (x : (k : ℕ) × (q ≡ suc (leaves a + k)) × T (follows b (suc j) (suc k))).
         (x.0, (follows-leaf b (suc j) (suc x.0) x.2).1, x.1, x.2))
         (beside-out (leaves a) (λ k. false) (λ k. follows b (suc j) k) q (rw (follows_is j q) at n));
-    follower-in = λ j k l i n. rw (follows_is j (suc (leaves a + k)), beside-right (leaves a) (λ k. false) (λ k. follows b (suc j) k) k) n;
+    follower_in = λ j k l i n. rw (follows_is j (suc (leaves a + k)), beside-right (leaves a) (λ k. false) (λ k. follows b (suc j) k) k) n;
   }
 
   pub join-second : Part (join a b) b (λ j. suc (leaves a + j))

@@ -157,14 +157,14 @@ abbrev Right : Condition → ℕ → Type 0
 Right r p = T (ends r p) ⊎ ((q : ℕ) × (p < q) × T (follows r p q) × Entered r q)
 
 part_right : {r b : Condition} {at : ℕ → ℕ} (part : Part r b at) → ((j k : ℕ) → j < k → at j < at k) → (j : ℕ) → suc j ≤ leaves b → Right b (suc j) → Right r (at j)
-part_right {r} {b} {at} part ascends j l (inl h) = inl (rw (part.part-ends j l) h)
+part_right {r} {b} {at} part ascends j l (inl h) = inl (rw (part.part_ends j l) h)
 part_right {r} {b} {at} part ascends j l (inr (q, less, n, (e, t, (w, k)))) =
     let (i, g, m) = follows-suc b (suc j) q n in
     inr (
       at i,
       ascends j i (omega arith),
-      part.follower-in j i l m (rw g at n),
-      (e, rw (part.part-holds i e m) (rw g at t), (w, part← part w i m (rw g at k))),
+      part.follower_in j i l m (rw g at n),
+      (e, rw (part.part_holds i e m) (rw g at t), (w, part← part w i m (rw g at k))),
     )
 
 -- the first side of a join

@@ -19,23 +19,23 @@ Leads r p (e ∷ w) = (q : ℕ) × T (follows r p q) × T (leaf_holds r q e) × 
 
 module _ {r b : Condition} {at : ℕ → ℕ} (part : Part r b at) where
   pub part→ : (w : Word) (j : ℕ) → suc j ≤ leaves b → Leads r (at j) w → Leads b (suc j) w
-  part→ [] j l h = rw (part.part-ends j l) at h
+  part→ [] j l h = rw (part.part_ends j l) at h
   part→ (e ∷ w) j l h =
       let (q, n, t, k) = h in
-      let (i, m, g, o) = part.follower-out j q l n in
-      (suc i, o, rw (g, part.part-holds i e m) at t, part→ w i m (rw g at k))
+      let (i, m, g, o) = part.follower_out j q l n in
+      (suc i, o, rw (g, part.part_holds i e m) at t, part→ w i m (rw g at k))
 
   pub part← : (w : Word) (j : ℕ) → suc j ≤ leaves b → Leads b (suc j) w → Leads r (at j) w
-  part← [] j l h = rw (part.part-ends j l) h
+  part← [] j l h = rw (part.part_ends j l) h
   part← (e ∷ w) j l h =
       let (q, n, t, k) = h in
       let (i, g, m) = follows-suc b (suc j) q n in
-      (at i, part.follower-in j i l m (rw g at n), rw (part.part-holds i e m) (rw g at t), part← w i m (rw g at k))
+      (at i, part.follower_in j i l m (rw g at n), rw (part.part_holds i e m) (rw g at t), part← w i m (rw g at k))
 
   -- a word of b begins at one of its first leaves
   first→ : (e : ℕ) (w : Word) (j : ℕ) → T (first b (suc j)) → T (leaf_holds r (at j) e) → Leads r (at j) w → Leads b 0 (e ∷ w)
   unfolding follows
-  first→ e w j n t k = let l = (follows-leaf b 0 (suc j) n).1 in (suc j, n, rw (part.part-holds j e l) at t, part→ w j l k)
+  first→ e w j n t k = let l = (follows-leaf b 0 (suc j) n).1 in (suc j, n, rw (part.part_holds j e l) at t, part→ w j l k)
 
   pub first← : (e : ℕ) (w : Word) → Leads b 0 (e ∷ w)
       → (j : ℕ) × (suc j ≤ leaves b) × T (first b (suc j)) × T (leaf_holds r (at j) e) × Leads r (at j) w
@@ -43,7 +43,7 @@ module _ {r b : Condition} {at : ℕ → ℕ} (part : Part r b at) where
   first← e w h =
       let (q, n, t, k) = h in
       let (j, g, l) = follows-suc b 0 q n in
-      (j, l, rw g at n, rw (part.part-holds j e l) (rw g at t), part← w j l (rw g at k))
+      (j, l, rw g at n, rw (part.part_holds j e l) (rw g at t), part← w j l (rw g at k))
 
 -- Join ------------------------------------------------------------------------------------------------------------------
 

@@ -21,8 +21,8 @@ use Rattle.condition.specs.Exchange.{swap_channel, swap, exchange_set}
 
 -- the event f is e with channel 0 and channel c exchanged
 pub data Swapped (c e f : ℕ) : Type 0 where
-  to-channel : e < 16 → f ≡ 16 * c + e → Swapped c e f
-  from-channel : e / 16 ≡ c → f ≡ e % 16 → Swapped c e f
+  to_channel : e < 16 → f ≡ 16 * c + e → Swapped c e f
+  from_channel : e / 16 ≡ c → f ≡ e % 16 → Swapped c e f
   unmoved : 16 ≤ e → e / 16 ≢ c → f ≡ e → Swapped c e f
 
 -- what becomes of channel 0, of channel c, and of the others
@@ -47,31 +47,31 @@ pub swapped : (c e : ℕ) → Swapped c e (swap c e)
 swapped c e = go (ℕ_discrete (e / 16) 0) (ℕ_discrete (e / 16) c)
   where
     go : Dec (e / 16 ≡ 0) → Dec (e / 16 ≡ c) → Swapped c e (swap c e)
-    go (yes x) b = let f = swap-to c e c (first-channel c (e / 16) x) in to-channel (omega arith) (omega arith)
-    go (no x) (yes y) = let f = swap-to c e 0 (own-channel c (e / 16) x y) in from-channel y (omega arith)
+    go (yes x) b = let f = swap-to c e c (first-channel c (e / 16) x) in to_channel (omega arith) (omega arith)
+    go (no x) (yes y) = let f = swap-to c e 0 (own-channel c (e / 16) x y) in from_channel y (omega arith)
     go (no x) (no y) = let f = swap-to c e (e / 16) (other-channel c (e / 16) x y) in unmoved (omega arith) y (omega arith)
 
 module _ {c e f : ℕ} where
   twice : {g : ℕ} → Swapped c e f → Swapped c f g → g ≡ e
-  twice (to-channel a b) (to-channel x y) = omega arith
-  twice (to-channel a b) (from-channel x y) = omega arith
-  twice (to-channel a b) (unmoved x z y) = omega arith
-  twice (from-channel a b) (to-channel x y) = omega arith
-  twice (from-channel a b) (from-channel x y) = omega arith
-  twice (from-channel a b) (unmoved x z y) = omega arith
-  twice (unmoved a d b) (to-channel x y) = omega arith
-  twice (unmoved a d b) (from-channel x y) = omega arith
+  twice (to_channel a b) (to_channel x y) = omega arith
+  twice (to_channel a b) (from_channel x y) = omega arith
+  twice (to_channel a b) (unmoved x z y) = omega arith
+  twice (from_channel a b) (to_channel x y) = omega arith
+  twice (from_channel a b) (from_channel x y) = omega arith
+  twice (from_channel a b) (unmoved x z y) = omega arith
+  twice (unmoved a d b) (to_channel x y) = omega arith
+  twice (unmoved a d b) (from_channel x y) = omega arith
   twice (unmoved a d b) (unmoved x z y) = omega arith
 
   -- events above channel c stay, and those up to it stay up to it
   above : Swapped c e f → 16 * suc c ≤ e → f ≡ e
-  above (to-channel a b) l = omega arith
-  above (from-channel a b) l = omega arith
+  above (to_channel a b) l = omega arith
+  above (from_channel a b) l = omega arith
   above (unmoved a d b) l = b
 
   stays-below : {n : ℕ} → Swapped c e f → 16 * suc c ≤ n → e < n → f < n
-  stays-below (to-channel a b) l h = omega arith
-  stays-below (from-channel a b) l h = omega arith
+  stays-below (to_channel a b) l h = omega arith
+  stays-below (from_channel a b) l h = omega arith
   stays-below (unmoved a d b) l h = omega arith
 
 pub swap-swap : (c e : ℕ) → swap c (swap c e) ≡ e
@@ -82,8 +82,8 @@ pub swap-zero : (e : ℕ) → swap 0 e ≡ e
 swap-zero e = go (swapped 0 e)
   where
     go : Swapped 0 e (swap 0 e) → swap 0 e ≡ e
-    go (to-channel a b) = omega arith
-    go (from-channel a b) = omega arith
+    go (to_channel a b) = omega arith
+    go (from_channel a b) = omega arith
     go (unmoved a d b) = b
 
 -- an event is below n exactly where its exchanged one is
@@ -190,11 +190,11 @@ module _ (c s : ℕ) where
   Moved e f = xor (xor (has s e) (has (difference c s) e)) (has shifted e) ≡ has s f
 
   moved : (e f : ℕ) → Swapped c e f → 0 < c → Moved e f
-  moved e f (to-channel a b) l =
+  moved e f (to_channel a b) l =
       ap₂ (λ (x y : Bool). xor (xor (has s e) x) y) (difference_low e a) (has-shl-low (difference c s) (16 * c) e (omega arith))
       ∙ xor-cancel-left (has s e) (has s (16 * c + e))
       ∙ ap (λ (x : ℕ). has s x) (sym b)
-  moved e f (from-channel a b) l =
+  moved e f (from_channel a b) l =
       let k : e ≡ 16 * c + f = omega arith in
       ap₂ (λ (x y : Bool). xor (xor (has s e) x) y) (difference-high e (omega arith)) (shifted-high f e k ∙ difference_low f (omega arith))
       ∙ ap (λ (x : ℕ). xor (xor (has s e) false) (xor (has s f) (has s x))) (sym k)

@@ -55,7 +55,7 @@ module _ {M : Model} {s : List ℕ} {o : ReadResult} {r : Reading} {t : Tally} (
           low = omega arith;
           high = high;
           inside = omega (arith, mark-next s 0 here, inside s 0 (omega (arith, here)));
-          not-2 = ap (λ (k : ℕ). eqb k 0 || ltb M.kinds k) here ∙ le-ltb M.kinds 18 high;
+          not_2 = ap (λ (k : ℕ). eqb k 0 || ltb M.kinds k) here ∙ le-ltb M.kinds 18 high;
         }
 
     role : (kind_of (byte_at s 0)).role ≡ edition

@@ -13,7 +13,7 @@ use Rattle.sheet.specs.Kind.{Role, symbol, a_pair, counts, edition, kind_of, sec
 use Rattle.sheet.specs.Record.{byte_at, record_at}
 use Rattle.sheet.specs.Reading.{Opened, nothing, Reading, tally, start_of, in_condition, wrong_items, is_leaf, full, over_limit, refusal_of, opened_past, past_at, ReadResult, refusal, owners_from}
 use Rattle.sheet_laws.proofs.Take.{next-lt}
-use Rattle.sheet_laws.proofs.Order.{is-4, is-19, is-20, is-5, is-6, all_named, is-9, is-18, is-24, is-26, four, five, six, takes}
+use Rattle.sheet_laws.proofs.Order.{is_4, is_19, is_20, is_5, is_6, all_named, is_9, is_18, is_24, is_26, four, five, six, takes}
 use Rattle.sheet_laws.proofs.Editions.{mark-late}
 use Rattle.format.specs.declared.Refusal.{Refusal}
 use Rattle.format.specs.declared.Refusal.TheVariants.{WrongSection, Unfinished, EditionNotFirst}
@@ -31,7 +31,7 @@ use Rattle.sections.specs.declared.Section.TheVariants.{Done, Refused}
 use Rattle.sections.specs.Sections.{Counts, Comes, Extended, Filled}
 use Rattle.sections.proofs.Comes.{ended, refuses, taken-on}
 use Rattle.sections.proofs.Counted.{at-is, counts_same, grown-same, closed, counts-more, grown-more}
-use Rattle.sections.proofs.Tests.{or_right, and_right, section-is, not-3, in_order, no-mark, no_stop, no-method, no_call, no_join, no-channel}
+use Rattle.sections.proofs.Tests.{or_right, and_right, section-is, not-3, in_order, no-mark, no_stop, no-method, no_call, no_join, no_channel}
 
 -- what is open is what the code has begun, from the offset `start` on; if nothing is, the next condition would start here
 pub record Matches (o : Opened) (at start : ℕ) (b : Begun) : Type 0 where
@@ -107,7 +107,7 @@ module _ {M : Model} {s : List ℕ} {o : ReadResult} {r : Reading} {at start : �
             let cannot-stand = ap (λ (k : ℕ). not (in_condition (section_of k) (kind_of k).role)) w.kind ∙ ap not outside in
             let is_open : (eqb u.opened.section 1 && not (in_condition (section_of (byte_at s at)) (kind_of (byte_at s at)).role)) ≡ true =
             ap (λ (k : ℕ). eqb k 1 && not (in_condition (section_of (byte_at s at)) (kind_of (byte_at s at)).role)) (h.matches.opened some) ∙ cannot-stand in
-            ends (WrongSection at) (four M s at u w.not-2 (not-3 w u) (or_right (ltb (section_of (byte_at s at)) u.section) _ is_open), refl)
+            ends (WrongSection at) (four M s at u w.not_2 (not-3 w u) (or_right (ltb (section_of (byte_at s at)) u.section) _ is_open), refl)
 
         module _ (none : b.symbols ≤ 0) where
           -- 19
@@ -116,7 +116,7 @@ module _ {M : Model} {s : List ℕ} {o : ReadResult} {r : Reading} {at start : �
               let here : byte_at s at ≡ 18 = w.kind ∙ is in
               let order = in_order w u (omega (arith, h.section, ap section_of is))
               (ap (λ (o : Opened). eqb o.section 1 && not (in_condition (section_of (byte_at s at)) (kind_of (byte_at s at)).role)) (h.matches.closed none)) in
-              ends (EditionNotFirst at) (mark-late s at here (behind at here h.marked) M u w.not-2 (not-3 w u) order, refl)
+              ends (EditionNotFirst at) (mark-late s at here (behind at here h.marked) M u w.not_2 (not-3 w u) order, refl)
             where
               behind : (at : ℕ) → byte_at s at ≡ 18 → past_mark M.kinds s ≤ at → 0 < at
               behind zero here marked =
@@ -149,13 +149,13 @@ module _ {M : Model} {s : List ℕ} {o : ReadResult} {r : Reading} {at start : �
         other : (k : ℕ) → in_condition (section_of k) (kind_of k).role ≡ false → kind ≡ k → ⊥
         other k out is = subst T (sym stands ∙ ap (λ (k : ℕ). in_condition (section_of k) (kind_of k).role) is ∙ out) tt
 
-        not-19 : is-19 M s at u ≡ false
+        not-19 : is_19 M s at u ≡ false
         not-19 = no-mark w u (other 18 refl)
 
-        not-20 : is-20 M s at u ≡ false
+        not-20 : is_20 M s at u ≡ false
         not-20 = no_stop w u (other 19 refl)
 
-        not-4 : is-4 M s at u ≡ false
+        not-4 : is_4 M s at u ≡ false
         not-4 =
             in_order w u (omega (arith, one, h.section))
             (and_right (eqb u.opened.section 1) _ (ap not stands_here))
@@ -163,17 +163,17 @@ module _ {M : Model} {s : List ℕ} {o : ReadResult} {r : Reading} {at start : �
         names : all_named M s at u ≡ true
         names = names-nothing M.events _ (byte_at s at) (λ low high. omega (arith, here)) (record_at s at).values
 
-        no-first : is-9 M s at u ≡ false
+        no-first : is_9 M s at u ≡ false
         no-first = no-method w u (λ e. omega (arith, one))
 
-        not-wrong : is-18 M s at u ≡ false
+        not-wrong : is_18 M s at u ≡ false
         not-wrong = no_call w u (λ e. omega (arith, one))
 
-        not-owned : is-24 M s at u ≡ false
+        not-owned : is_24 M s at u ≡ false
         not-owned = no_join w u (λ e. omega (arith, one)) (λ e. omega (arith, one))
 
-        not-stray : is-26 M s at u ≡ false
-        not-stray = no-channel w u (λ e. omega (arith, one))
+        not-stray : is_26 M s at u ≡ false
+        not-stray = no_channel w u (λ e. omega (arith, one))
 
         -- what the step tells: the record's refusal, or what is open past the record
         abbrev Goes : Begun → Type 0
@@ -189,12 +189,12 @@ module _ {M : Model} {s : List ℕ} {o : ReadResult} {r : Reading} {at start : �
           taken_is : takes_items (kind_of (byte_at s at)).role ≡ takes-n
           taken_is = ap takes_items role
 
-          items-is : is-5 M s at u ≡ ltb b.items (items_of_kind (byte_at s at))
+          items-is : is_5 M s at u ≡ ltb b.items (items_of_kind (byte_at s at))
           items-is =
               ap (λ (y : Role). wrong_items (section_of (byte_at s at)) y (length u.opened.items)) role
               ∙ ap (λ (n : ℕ). ltb n takes-n) h.matches.items ∙ ap (λ (n : ℕ). ltb b.items n) (sym taken_is)
 
-          limit_is : is-6 M s at u ≡ (leb symbol_limit b.symbols || (leaf_kind (byte_at s at) && leb leaf_limit b.leaves))
+          limit_is : is_6 M s at u ≡ (leb symbol_limit b.symbols || (leaf_kind (byte_at s at) && leb leaf_limit b.leaves))
           limit_is =
               ap (λ (y : Role). over_limit M u (record_at s at) (section_of (byte_at s at)) y) role
               ∙ ap (λ (n : ℕ). leb symbol_limit n || (is_leaf (record_at s at) && leb leaf_limit u.opened.leaves)) h.matches.symbols
@@ -206,10 +206,10 @@ module _ {M : Model} {s : List ℕ} {o : ReadResult} {r : Reading} {at start : �
               ap (λ (y : Role). opened_past u.opened (record_at s at) (section_of (byte_at s at)) y) role
               ∙ ap (λ (k : ℕ). opened_past u.opened (record_at s at) k (symbol takes-n make)) here
 
-          abbrev next-begun : Begun
-          next-begun = record { items = b.items - items_of_kind (byte_at s at) + 1; symbols = b.symbols + 1; leaves = b.leaves + leaves_of_kind (byte_at s at) }
+          abbrev next_begun : Begun
+          next_begun = record { items = b.items - items_of_kind (byte_at s at) + 1; symbols = b.symbols + 1; leaves = b.leaves + leaves_of_kind (byte_at s at) }
 
-          more : takes-n ≤ b.items → Matches (opened_past u.opened (record_at s at) 1 (symbol takes-n make)) q start next-begun
+          more : takes-n ≤ b.items → Matches (opened_past u.opened (record_at s at) 1 (symbol takes-n make)) q start next_begun
           more enough =
               let m = h.matches in
               record {
@@ -224,24 +224,24 @@ module _ {M : Model} {s : List ℕ} {o : ReadResult} {r : Reading} {at start : �
           symbol-tells : Tells (symbol_step b (byte_at s at) at)
           symbol-tells =
               cond-by Tells (ltb b.items (items_of_kind (byte_at s at)))
-              (λ e. (five M s at u w.not-2 (not-3 w u) not-4 not-19 not-20 (items-is ∙ e), refl))
+              (λ e. (five M s at u w.not_2 (not-3 w u) not-4 not-19 not-20 (items-is ∙ e), refl))
               (λ e. cond-by Tells (leb symbol_limit b.symbols)
-              (λ f. (six M s at u w.not-2 (not-3 w u) not-4 not-19 not-20 (items-is ∙ e) (limit_is ∙ simp f), refl))
+              (λ f. (six M s at u w.not_2 (not-3 w u) not-4 not-19 not-20 (items-is ∙ e) (limit_is ∙ simp f), refl))
               (λ f. cond-by Tells (leaf_kind (byte_at s at) && leb leaf_limit b.leaves)
-              (λ g. (six M s at u w.not-2 (not-3 w u) not-4 not-19 not-20 (items-is ∙ e) (limit_is ∙ simp (f, g)), refl))
+              (λ g. (six M s at u w.not_2 (not-3 w u) not-4 not-19 not-20 (items-is ∙ e) (limit_is ∙ simp (f, g)), refl))
               (λ g. (
-                takes M s at u w.not-2 (not-3 w u) not-4 not-19 not-20 (items-is ∙ e) (limit_is ∙ simp (f, g)) names no-first not-wrong not-owned not-stray,
+                takes M s at u w.not_2 (not-3 w u) not-4 not-19 not-20 (items-is ∙ e) (limit_is ∙ simp (f, g)) names no-first not-wrong not-owned not-stray,
                 λ true-is. absurd (subst T (sym true-is ∙ ap counts_one role) tt),
-                λ false-is. subst (λ (x : Opened). Matches x q start next-begun) (sym opened-is) (more (omega (arith, ltb-false b.items (items_of_kind (byte_at s at)) e, taken_is))),
+                λ false-is. subst (λ (x : Opened). Matches x q start next_begun) (sym opened-is) (more (omega (arith, ltb-false b.items (items_of_kind (byte_at s at)) e, taken_is))),
               ))))
 
         module _ (role : (kind_of (byte_at s at)).role ≡ counts) where
-          one-item-is : is-5 M s at u ≡ not (eqb b.items 1)
+          one-item-is : is_5 M s at u ≡ not (eqb b.items 1)
           one-item-is =
               ap (λ (y : Role). wrong_items (section_of (byte_at s at)) y (length u.opened.items)) role
               ∙ ap (λ (k : ℕ). eqb k 1 && not (eqb (length u.opened.items) 1)) here ∙ ap (λ (n : ℕ). not (eqb n 1)) h.matches.items
 
-          full_is : is-6 M s at u ≡ leb condition_limit (count_of t 1)
+          full_is : is_6 M s at u ≡ leb condition_limit (count_of t 1)
           full_is =
               ap (λ (y : Role). over_limit M u (record_at s at) (section_of (byte_at s at)) y) role
               ∙ ap (λ (k : ℕ). full M k (tally u k)) here ∙ ap (leb condition_limit) (h.counts 1)
@@ -250,13 +250,13 @@ module _ {M : Model} {s : List ℕ} {o : ReadResult} {r : Reading} {at start : �
           end-tells =
               cond-by Tells (eqb b.items 1)
               (λ e. cond-by Tells (leb condition_limit (count_of t 1))
-              (λ f. (six M s at u w.not-2 (not-3 w u) not-4 not-19 not-20 (one-item-is ∙ ap not e) (full_is ∙ f), refl))
+              (λ f. (six M s at u w.not_2 (not-3 w u) not-4 not-19 not-20 (one-item-is ∙ ap not e) (full_is ∙ f), refl))
               (λ f. (
-                takes M s at u w.not-2 (not-3 w u) not-4 not-19 not-20 (one-item-is ∙ ap not e) (full_is ∙ f) names no-first not-wrong not-owned not-stray,
+                takes M s at u w.not_2 (not-3 w u) not-4 not-19 not-20 (one-item-is ∙ ap not e) (full_is ∙ f) names no-first not-wrong not-owned not-stray,
                 λ true-is. (role, refl),
                 λ false-is. absurd (subst T (sym (ap counts_one role) ∙ false-is) tt),
               )))
-              (λ e. (five M s at u w.not-2 (not-3 w u) not-4 not-19 not-20 (one-item-is ∙ ap not e), refl))
+              (λ e. (five M s at u w.not_2 (not-3 w u) not-4 not-19 not-20 (one-item-is ∙ ap not e), refl))
 
         abbrev step : Bool → Stepped
         step ends = cond ends (end_step b (count_of t 1) at) (symbol_step b (byte_at s at) at)

@@ -12,7 +12,7 @@ use Rattle.sheet.specs.Model.{Model}
 use Rattle.sheet.specs.Kind.{body_length}
 use Rattle.sheet.specs.Record.{byte_at, record_at, next_at}
 use Rattle.sheet.specs.Reading.{Reading, refusal_of}
-use Rattle.sheet_laws.proofs.Take.{next-is}
+use Rattle.sheet_laws.proofs.Take.{next_is}
 use Rattle.sheet_laws.proofs.Order.{two, three}
 use Rattle.kinds.specs.declared.lengths.Length.TheVariants.{Of, Nothing}
 use Rattle.kinds.specs.Kinds.{last_kind, is_known}
@@ -89,7 +89,7 @@ module _ (kinds : ℕ) (s : List ℕ) (at : ℕ) where
             (omega (arith, body-le k), inside s at (omega arith))
 
         next-found : at + 1 + n ≡ next_at s at
-        next-found = ap (λ (n : ℕ). at + 1 + n) ((length-out k n has).2 ∙ ap body_length is) ∙ sym (next-is s at)
+        next-found = ap (λ (n : ℕ). at + 1 + n) ((length-out k n has).2 ∙ ap body_length is) ∙ sym (next_is s at)
 
         pub body-past-end : length s < at + 1 + n → found.NoRecord ≡ found_at kinds s at
         body-past-end h = sym (found-is ∙ simp (known, lt-ltb (length s) (next_at s at) (omega (arith, next-found))))
@@ -113,7 +113,7 @@ module _ (M : Model) (s : List ℕ) (at : ℕ) where
     pub low : 1 ≤ k
     pub high : k ≤ M.kinds
     pub inside : next_at s at ≤ length s
-    pub not-2 : (eqb (byte_at s at) 0 || ltb M.kinds (byte_at s at)) ≡ false
+    pub not_2 : (eqb (byte_at s at) 0 || ltb M.kinds (byte_at s at)) ≡ false
 
   -- by the tests that `found_at` makes
   by_tests : (P : Found → Type 0) → (is_known M.kinds (byte_at s at) ≡ false → P found.NoRecord)
@@ -130,7 +130,7 @@ module _ (M : Model) (s : List ℕ) (at : ℕ) where
         low = (known_out M.kinds (byte_at s at) a).0;
         high = (known_out M.kinds (byte_at s at) a).1;
         inside = ltb-false (length s) (next_at s at) b;
-        not-2 = known-not-2 M.kinds (byte_at s at) a;
+        not_2 = known-not-2 M.kinds (byte_at s at) a;
       })))
       unknown)
 
@@ -142,7 +142,7 @@ module _ (M : Model) (s : List ℕ) (at : ℕ) where
       (λ w e.
       let kind : byte_at s at ≡ k = cc in
       let next : next_at s at ≡ q = cc in
-      record { kind = kind; next = next; low = omega (arith, w.low); high = omega (arith, w.high); inside = w.inside; not-2 = w.not-2 })
+      record { kind = kind; next = next; low = omega (arith, w.low); high = omega (arith, w.high); inside = w.inside; not_2 = w.not_2 })
       e
 
   -- the record there is refused in the state r, with the number and the place of y

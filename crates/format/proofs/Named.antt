@@ -7,33 +7,33 @@ use native.Mathlib.Omega.{arith}
 use lib.ListN.{length}
 use lib.Dec.{ltb, eqb, lit≤}
 use borrow.Author.Tests.{lt-ltb, le-ltb, ne_eqb}
-use Rattle.sheet.specs.Kind.{conditions, points, methods, steps, Field, a-name, an-event, an-owner, a-channel, kind_of, section_of, widths, body_length}
+use Rattle.sheet.specs.Kind.{conditions, points, methods, steps, Field, a_name, an-event, an-owner, a-channel, kind_of, section_of, widths, body_length}
 use Rattle.sheet.proofs.Kind.{◌and◌}
-use Rattle.sheet_laws.proofs.Take.{next-is}
+use Rattle.sheet_laws.proofs.Take.{next_is}
 use Rattle.kinds.specs.Kinds.{last_kind}
 use Rattle.kinds.proofs.Table.{by_rows}
 use Rattle.format.specs.Named.{Named}
 
 -- two points, and three conditions, in front of other fields
 abbrev pub two : List Field → List Field
-two fs = a-name points ∷ a-name points ∷ fs
+two fs = a_name points ∷ a_name points ∷ fs
 
 abbrev pub three : List Field → List Field
-three fs = a-name conditions ∷ a-name conditions ∷ a-name conditions ∷ fs
+three fs = a_name conditions ∷ a_name conditions ∷ a_name conditions ∷ fs
 
 -- what stands behind the three conditions of a point or a method, and behind the two points of a step that is no stop
 abbrev pub declared_behind : ℕ → List Field
 declared_behind k =
     cond (eqb k 9) (two [])
-    (cond (eqb k 15) (a-name conditions ∷ a-name conditions ∷ [])
-    (cond (eqb k 16) (two (a-name conditions ∷ a-name conditions ∷ a-name points ∷ [])) (cond (eqb k 20) (an-owner ∷ []) [])))
+    (cond (eqb k 15) (a_name conditions ∷ a_name conditions ∷ [])
+    (cond (eqb k 16) (two (a_name conditions ∷ a_name conditions ∷ a_name points ∷ [])) (cond (eqb k 20) (an-owner ∷ []) [])))
 
 abbrev pub step_behind : ℕ → List Field
 step_behind k =
-    cond (eqb k 10) (an-event ∷ []) (cond (eqb k 11) (a-name methods ∷ []) (cond (eqb k 17) (a-name points ∷ a-name methods ∷ []) (cond (eqb k 22) (a-name methods ∷ a-channel ∷ []) [])))
+    cond (eqb k 10) (an-event ∷ []) (cond (eqb k 11) (a_name methods ∷ []) (cond (eqb k 17) (a_name points ∷ a_name methods ∷ []) (cond (eqb k 22) (a_name methods ∷ a-channel ∷ []) [])))
 
 abbrev step_fields : ℕ → List Field
-step_fields k = cond (eqb k 19) (a-name points ∷ []) (two (step_behind k))
+step_fields k = cond (eqb k 19) (a_name points ∷ []) (two (step_behind k))
 
 -- the fields of a point, a method or a step, whose kind is one of the table
 fields-are : (k : ℕ) → points ≤ section_of k → section_of k ≤ steps
@@ -62,7 +62,7 @@ module _ {s : List ℕ} {at kind : ℕ} (w : Named s at kind) where
 
   -- the record stands inside the sheet: its body, of the kind k, its start, and its body of these fields
   pub kind-inside : (k : ℕ) → kind ≡ k → at + 1 + body_length k ≤ length s
-  kind-inside k e = omega (arith, next-is s at, ap body_length (w.is ∙ e), w.inside)
+  kind-inside k e = omega (arith, next_is s at, ap body_length (w.is ∙ e), w.inside)
 
   pub starts-inside : at < length s
   starts-inside = omega (arith, kind-inside kind refl)
@@ -90,13 +90,13 @@ module _ {s : List ℕ} {at kind : ℕ} (w : Named s at kind) where
         ∙ ap (λ (b : Bool). cond b (three (declared_behind kind)) (step_fields kind)) (le-ltb (section_of kind) steps late)
 
     -- a stop
-    pub stop-fields : kind ≡ 19 → (kind_of kind).fields ≡ a-name points ∷ []
+    pub stop-fields : kind ≡ 19 → (kind_of kind).fields ≡ a_name points ∷ []
     stop-fields stops = step-fields ∙ ap step_fields stops
 
     -- another step
     module _ (goes_on : kind ≡ 19 → ⊥) where
       pub goes : (fs : List Field) → step_behind kind ≡ fs → (kind_of kind).fields ≡ two fs
-      goes fs e = step-fields ∙ ap (λ (b : Bool). cond b (a-name points ∷ []) (two (step_behind kind))) (ne_eqb kind 19 goes_on) ∙ ap two e
+      goes fs e = step-fields ∙ ap (λ (b : Bool). cond b (a_name points ∷ []) (two (step_behind kind))) (ne_eqb kind 19 goes_on) ∙ ap two e
 
       pub two-inside : at + 5 ≤ length s
       two-inside = omega (arith, inside (two (step_behind kind)) (goes (step_behind kind) refl))

@@ -2,7 +2,7 @@
 use Rattle.std.specs.Prelude.{◌≡◌, Bool, true, false, List, ℕ, ◌+◌, ◌≤◌, ◌<◌, length}
 use Rattle.std.proofs.Math.Option.{Option, none, some}
 use Rattle.sheet.specs.Record.{next_at}
-use Rattle.sheet_laws.specs.AtOffset.{leaf-symbol, empty-symbol, join-symbol, either-symbol, star-symbol, symbol_at}
+use Rattle.sheet_laws.specs.AtOffset.{leaf_symbol, empty-symbol, join-symbol, either-symbol, star-symbol, symbol_at}
 use Rattle.sheet_laws.specs.AtOffset as sheet
 use Rattle.format.specs.declared.symbols.Symbol.{Symbol}
 use Rattle.format.specs.declared.symbols.Symbol.TheVariants.{None, Leaf, Empty, Join, Either, Star}
@@ -10,7 +10,7 @@ use Rattle.format.specs.declared.symbols.Symbol.TheVariants.{None, Leaf, Empty, 
 -- a symbol as a value, and None where there is none
 abbrev pub value_of : Option sheet.Symbol → Symbol
 value_of none = None
-value_of (some (leaf-symbol set)) = Leaf set
+value_of (some (leaf_symbol set)) = Leaf set
 value_of (some empty-symbol) = Empty
 value_of (some join-symbol) = Join
 value_of (some either-symbol) = Either
@@ -44,10 +44,10 @@ leaves_in Star = 0
 
 -- y is the symbol at the offset; its record stands in the sheet
 pub record IsSymbolAt (s : List ℕ) (at : ℕ) (y : Symbol) : Type 0 where
-  pub symbol-is : y ≡ value_of (symbol_at s at)
+  pub symbol_is : y ≡ value_of (symbol_at s at)
   pub inside : is_symbol y ≡ true → at < length s
 
 -- the next record stands n bytes behind the symbol at the offset, if there is one; no symbol has more than nine
 pub record IsBehind (s : List ℕ) (at n : ℕ) : Type 0 where
-  pub next-is : is_symbol (value_of (symbol_at s at)) ≡ true → next_at s at ≡ at + n
+  pub next_is : is_symbol (value_of (symbol_at s at)) ≡ true → next_at s at ≡ at + n
   pub few : n ≤ 9

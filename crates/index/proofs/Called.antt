@@ -18,11 +18,11 @@ use Rattle.index.specs.Indexed.{CalledIn}
 module _ {S : Sheet} {s methods : List ℕ} {m : ℕ} (x : CalledIn S s methods m) {new : Bool} (told : new ≡ is_new s) where
   -- it asks about none in a sheet of the old edition
   pub none-asked : not new ≡ true → none ≡ entry_asked S m
-  none-asked old = sym (ap (λ (b : Bool). cond b (entry_in (body S m)) none) (x.edition-is ∙ sym told ∙ not-true new old))
+  none-asked old = sym (ap (λ (b : Bool). cond b (entry_in (body S m)) none) (x.edition_is ∙ sym told ∙ not-true new old))
 
   -- and in one of the new edition about that of the method w, if it has a body
-  pub entry-is : not new ≡ false → {v w : Method} → v ≡ w → method_value v ≡ method_at s (get_or methods m 0) → entry_in (method_value w).body ≡ entry_asked S m
-  entry-is marked is read =
+  pub entry_is : not new ≡ false → {v w : Method} → v ≡ w → method_value v ≡ method_at s (get_or methods m 0) → entry_in (method_value w).body ≡ entry_asked S m
+  entry_is marked is read =
       sym
-      (ap₂ (λ (b : Bool) (y : Option sheet.Method). cond b (entry_in (body_in y)) none) (x.edition-is ∙ sym told ∙ not-false new marked)
+      (ap₂ (λ (b : Bool) (y : Option sheet.Method). cond b (entry_in (body_in y)) none) (x.edition_is ∙ sym told ∙ not-false new marked)
       (x.is ∙ ap (λ (y : sheet.Method). some y) (sym read ∙ ap method_value is)))

@@ -41,39 +41,39 @@ module _ {S : Sheet} {s conditions points methods steps : List ℕ} (x : Indexes
 
   pub point-in : (p : ℕ) → p < length S.points → PointIn S s conditions points p
   point-in p l =
-      let is = x.points-tabled.is p l in
-      let n = each-some (PointNamed (length S.conditions)) x.names-exist.points-named p _ is in
+      let is = x.points_tabled.is p l in
+      let n = each-some (PointNamed (length S.conditions)) x.names_exist.points_named p _ is in
       record {
-        exists = omega (arith, x.points-tabled.few);
-        inside = x.points-tabled.inside p l;
-        past-named = field-named (λ (y : Point). y.past) _ _ is n.past-exists;
-        own-named = field-named (λ (y : Point). y.own) _ _ is n.own-exists;
-        due-named = field-named (λ (y : Point). y.due) _ _ is n.due-exists;
+        exists = omega (arith, x.points_tabled.few);
+        inside = x.points_tabled.inside p l;
+        past_named = field-named (λ (y : Point). y.past) _ _ is n.past_exists;
+        own_named = field-named (λ (y : Point). y.own) _ _ is n.own_exists;
+        due_named = field-named (λ (y : Point). y.due) _ _ is n.due_exists;
       }
 
   module _ (m : ℕ) (l : m < length S.methods) where
     pub method-is : get_elem? S.methods m ≡ some (method_at s (get_or methods m 0))
-    method-is = x.methods-tabled.is m l
+    method-is = x.methods_tabled.is m l
 
     named : MethodNamed (length S.conditions) (length S.points) (method_at s (get_or methods m 0))
-    named = each-some (MethodNamed (length S.conditions) (length S.points)) x.names-exist.methods-named m _ method-is
+    named = each-some (MethodNamed (length S.conditions) (length S.points)) x.names_exist.methods_named m _ method-is
 
     declared-in : (o : Outcome) (d : Declared) → declared_for o (method_at s (get_or methods m 0)) ≡ some d → DeclaredIn S s conditions d m o
     declared-in o d e =
         let is : declared_in o (get_elem? S.methods m) ≡ some d = ap (declared_in o) method-is ∙ e in
-        let n = subst (DeclaredNamed (length S.conditions)) e (named.declared-named o) in
+        let n = subst (DeclaredNamed (length S.conditions)) e (named.declared_named o) in
         record {
-          trace-named = field-named (λ (y : Declared). y.trace) _ _ is n.0;
-          future-named = field-named (λ (y : Declared). y.future) _ _ is n.1;
+          trace_named = field-named (λ (y : Declared). y.trace) _ _ is n.0;
+          future_named = field-named (λ (y : Declared). y.future) _ _ is n.1;
         }
 
     pub method-in : MethodIn S s conditions methods m
     method-in =
         record {
-          exists = omega (arith, x.methods-tabled.few);
-          inside = x.methods-tabled.inside m l;
-          pre-named = field-named (λ (y : Method). y.pre) _ _ method-is named.pre-exists;
-          normal-named = declared-in normal _ refl;
+          exists = omega (arith, x.methods_tabled.few);
+          inside = x.methods_tabled.inside m l;
+          pre_named = field-named (λ (y : Method). y.pre) _ _ method-is named.pre_exists;
+          normal_named = declared-in normal _ refl;
         }
 
     -- it has two outcomes
@@ -83,8 +83,8 @@ module _ {S : Sheet} {s conditions points methods steps : List ℕ} (x : Indexes
           exists = method-in.exists;
           inside = method-in.inside;
           declared = d;
-          failing-is = e;
-          failed-named = declared-in failed d e;
+          failing_is = e;
+          failed_named = declared-in failed d e;
         }
 
     pub fails-in : true ≡ is_some (declared_in failed (get_elem? S.methods m)) → FailedIn S s conditions methods m
@@ -94,38 +94,38 @@ module _ {S : Sheet} {s conditions points methods steps : List ℕ} (x : Indexes
 
     -- a call of it can be asked about
     pub called-in : CalledIn S s methods m
-    called-in = record { exists = method-in.exists; inside = method-in.inside; is = method-is; edition-is = x.edition-is }
+    called-in = record { exists = method-in.exists; inside = method-in.inside; is = method-is; edition_is = x.edition_is }
 
     -- its body, and that the points of the body exist
     pub body_is : body S m ≡ (method_at s (get_or methods m 0)).body
     body_is = ap body_in method-is
 
-    pub body-named : (b : Option Body) → (method_at s (get_or methods m 0)).body ≡ b → BodyNamed (length S.points) b
-    body-named b e = subst (BodyNamed (length S.points)) e named.body-named
+    pub body_named : (b : Option Body) → (method_at s (get_or methods m 0)).body ≡ b → BodyNamed (length S.points) b
+    body_named b e = subst (BodyNamed (length S.points)) e named.body_named
 
     -- the entry that rule 26 asks about exists
     pub entry_named : (e : ℕ) → entry_asked S m ≡ some e → e < length S.points
-    entry_named = asked-named S.new (body S m) (body-named (body S m) (sym body_is))
+    entry_named = asked-named S.new (body S m) (body_named (body S m) (sym body_is))
 
   module _ (i : ℕ) (l : i < length S.steps) where
     pub step-few : i < step_limit
-    step-few = omega (arith, x.steps-tabled.few)
+    step-few = omega (arith, x.steps_tabled.few)
 
     pub step-inside : get_or steps i 0 < length s
-    step-inside = x.steps-tabled.inside i l
+    step-inside = x.steps_tabled.inside i l
 
     pub step_is : get_elem? S.steps i ≡ some (step_at s (get_or steps i 0))
-    step_is = x.steps-tabled.is i l
+    step_is = x.steps_tabled.is i l
 
     -- its names exist, its target, its channel and its event fit
     pub step-named : (t : Step) → step_at s (get_or steps i 0) ≡ t → StepNamed (length S.points) (length S.methods) t
-    step-named t e = each-some (StepNamed (length S.points) (length S.methods)) x.names-exist.steps-named i t (step_is ∙ ap (λ (t : Step). some t) e)
+    step-named t e = each-some (StepNamed (length S.points) (length S.methods)) x.names_exist.steps_named i t (step_is ∙ ap (λ (t : Step). some t) e)
 
     pub target_fits : (t : Step) → step_at s (get_or steps i 0) ≡ t → TargetsFit S t
-    target_fits t e = each-some (TargetsFit S) x.outcomes-fit.targets-fit i t (step_is ∙ ap (λ (t : Step). some t) e)
+    target_fits t e = each-some (TargetsFit S) x.outcomes_fit.targets_fit i t (step_is ∙ ap (λ (t : Step). some t) e)
 
     pub channel-fits : (t : Step) → step_at s (get_or steps i 0) ≡ t → StepOnChannel S t
-    channel-fits t e = each-some (StepOnChannel S) x.channels-fit i t (step_is ∙ ap (λ (t : Step). some t) e)
+    channel-fits t e = each-some (StepOnChannel S) x.channels_fit i t (step_is ∙ ap (λ (t : Step). some t) e)
 
     pub event-fits : (t : Step) → step_at s (get_or steps i 0) ≡ t → EventBelow 64 t
-    event-fits t e = each-some (EventBelow 64) x.events-fit i t (step_is ∙ ap (λ (t : Step). some t) e)
+    event-fits t e = each-some (EventBelow 64) x.events_fit i t (step_is ∙ ap (λ (t : Step). some t) e)

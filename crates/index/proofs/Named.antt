@@ -29,17 +29,17 @@ module _ {s conditions : List ℕ} where
 
   pub point-named : {S : Sheet} {points : List ℕ} {p : ℕ} → PointIn S s conditions points p → (v : Point) → PointHas v (point_at s (get_or points p 0))
       → Named s conditions v.past v.own v.due (past S p) (own S p) (due S p)
-  point-named x v e = named-as e.past_is e.own_is e.due-is x.past-named x.own-named x.due-named
+  point-named x v e = named-as e.past_is e.own_is e.due_is x.past_named x.own_named x.due_named
 
   module _ {S : Sheet} {methods : List ℕ} {m : ℕ} where
-    pub pre-named : MethodIn S s conditions methods m → (v : Declaration) → Declares v (method_at s (get_or methods m 0))
+    pub pre_named : MethodIn S s conditions methods m → (v : Declaration) → Declares v (method_at s (get_or methods m 0))
         → ConditionIn s conditions v.pre (pre S m)
-    pre-named x v e = in_table e.pre_is x.pre-named
+    pre_named x v e = in_table e.pre_is x.pre_named
 
-    pub normal-named : MethodIn S s conditions methods m → (v : Declaration) → Declares v (method_at s (get_or methods m 0))
+    pub normal_named : MethodIn S s conditions methods m → (v : Declaration) → Declares v (method_at s (get_or methods m 0))
         → DeclaredIn S s conditions (declared_value v.normal) m normal
-    normal-named x v e = subst (λ (d : sheet.Declared). DeclaredIn S s conditions d m normal) (sym e.normal-is) x.normal-named
+    normal_named x v e = subst (λ (d : sheet.Declared). DeclaredIn S s conditions d m normal) (sym e.normal_is) x.normal_named
 
-    pub failed-named : FailedIn S s conditions methods m → (v : Declared) → DeclaresFailed v (method_at s (get_or methods m 0))
+    pub failed_named : FailedIn S s conditions methods m → (v : Declared) → DeclaresFailed v (method_at s (get_or methods m 0))
         → DeclaredIn S s conditions (declared_value v) m failed
-    failed-named x v e = subst (λ (d : sheet.Declared). DeclaredIn S s conditions d m failed) (sym (e x.declared x.failing-is)) x.failed-named
+    failed_named x v e = subst (λ (d : sheet.Declared). DeclaredIn S s conditions d m failed) (sym (e x.declared x.failing_is)) x.failed_named

@@ -5,14 +5,14 @@ use Prim.Native.Nat.{ℕ, ◌≤◌, ◌<◌}
 use native.Mathlib.Omega.{arith}
 use lib.ListN.{length, get_or, get_elem?}
 use Rattle.sheet.specs.Model.{Model}
-use Rattle.sheet.specs.Sheet.{Method, Step, event-step, call_step, pass_step, stop_step, body_in}
+use Rattle.sheet.specs.Sheet.{Method, Step, event_step, call_step, pass_step, stop_step, body_in}
 use Rattle.sheet.specs.Kind.{conditions, points, methods, steps}
 use Rattle.sheet.specs.Reading.{Reading, starts_of, whole, read_sheet}
 use Rattle.sheet.specs.Decode.{sheet_of}
 use Rattle.sheet_laws.specs.Names.{HasBody, EventBelow}
 use Rattle.sheet.proofs.Each.{each_map}
 use Rattle.sheet_laws.proofs.Located.{Found, Located, located}
-use Rattle.sheet_laws.proofs.Channels.{channels-fit}
+use Rattle.sheet_laws.proofs.Channels.{channels_fit}
 use Rattle.index.specs.Indexed.{Tabled, ConditionsIn, Indexes}
 
 -- a table has these offsets, and behind them whatever it has
@@ -31,7 +31,7 @@ tabled at s rows held counted few found =
 
 -- an event below a number that fits a set fits it too
 fits : (n : ℕ) → n ≤ 64 → (t : Step) → EventBelow n t → EventBelow 64 t
-fits n few (event-step p q a) h = omega arith
+fits n few (event_step p q a) h = omega arith
 fits n few (call_step t) h = tt
 fits n few (pass_step p q) h = tt
 fits n few (stop_step p) h = tt
@@ -46,13 +46,13 @@ module _ (M : Model) (s : List ℕ) (r : Reading) (h : read_sheet M s ≡ whole 
 
   pub read-conditions : {cs : List ℕ} → HoldsOffsets (starts_of (r.own conditions)) cs → ConditionsIn (sheet_of M s) s cs
   read-conditions held c l =
-      let there = x.condition-stands c l in
+      let there = x.condition_stands c l in
       record {
-        exists = omega (arith, x.few-conditions);
-        inside = rw (held c (omega (arith, x.conditions-counted))) there.inside;
+        exists = omega (arith, x.few_conditions);
+        inside = rw (held c (omega (arith, x.conditions_counted))) there.inside;
         stands =
-            rw (held c (omega (arith, x.conditions-counted)))
-            (record { in-postfix = there.in-postfix; few-symbols = there.few-symbols; few-leaves = there.few-leaves });
+            rw (held c (omega (arith, x.conditions_counted)))
+            (record { in_postfix = there.in_postfix; few_symbols = there.few_symbols; few_leaves = there.few_leaves });
       }
 
   pub read-indexes : {cs ps ms ts : List ℕ} → M.points ≤ length ps → M.events ≤ 64
@@ -62,13 +62,13 @@ module _ (M : Model) (s : List ℕ) (r : Reading) (h : read_sheet M s ≡ whole 
   read-indexes rows events c p m t =
       record {
         conditions-in = read-conditions c;
-        points-tabled = tabled _ s _ p x.points-counted (omega (arith, x.few-points)) x.point-found;
-        methods-tabled = tabled _ s _ m x.methods-counted x.few-methods x.method-found;
-        steps-tabled = tabled _ s _ t x.steps-counted x.few-steps x.step-found;
-        names-exist = x.names;
-        outcomes-fit = x.outcomes;
-        channels-fit = channels-fit M s r h;
-        events-fit = each_map (fits M.events events) x.events;
-        a-method = has_one (sheet_of M s).methods x.first;
-        edition-is = x.edition;
+        points_tabled = tabled _ s _ p x.points_counted (omega (arith, x.few_points)) x.point_found;
+        methods_tabled = tabled _ s _ m x.methods_counted x.few_methods x.method_found;
+        steps_tabled = tabled _ s _ t x.steps_counted x.few_steps x.step_found;
+        names_exist = x.names;
+        outcomes_fit = x.outcomes;
+        channels_fit = channels_fit M s r h;
+        events_fit = each_map (fits M.events events) x.events;
+        a_method = has_one (sheet_of M s).methods x.first;
+        edition_is = x.edition;
       }

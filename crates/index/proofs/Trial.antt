@@ -6,10 +6,10 @@ use native.Mathlib.Omega.{arith}
 use lib.ListN.{length}
 use Rattle.certificate.specs.Certificate.{Certificate, Finding, fine, found}
 use Rattle.sheet_laws.specs.AtOffset.{certificate_at}
-use Rattle.sheet_laws.proofs.Certified.{Chain, no-certificate, a-certificate-more}
+use Rattle.sheet_laws.proofs.Certified.{Chain, no_certificate, a_certificate_more}
 use Rattle.runs.specs.Rules.{Claim, ◌is_in◌, holds_empty, Rule, ◌of◌says◌}
 use Rattle.verdict.specs.Verdict.{Report, test_of, needed, certificates_needed, left_after, next_of, reported, first_fault}
-use Rattle.verdict.proofs.Judged.{needed-is, first-is}
+use Rattle.verdict.proofs.Judged.{needed-is, first_is}
 use Rattle.index.specs.Trial.{Trial, passed, failed, after_certificate, after_test, try_rules, report_on}
 
 -- what a trial leads to: the trial of what is left, from the offset that it ends at, or its fault
@@ -64,8 +64,8 @@ module _ (events : ℕ) (s : List ℕ) (otherwise : Report) where
       next-chained : (claim : Claim) {at : ℕ} {os : List ℕ} → Chain s end at os → length os ≡ needed claim + certificates_needed xs
           → reported (n of k says claim) (test_of events claim (next_of (standing os))) (first_fault events xs (left_after claim (standing os)) otherwise)
           ≡ report_on otherwise (after_test (n of k says claim) (test_of events claim (certificate_at s at)) (try_rules events s xs (after_certificate s claim at)))
-      next-chained (a is_in b) no-certificate l = absurd (omega arith)
-      next-chained (a is_in b) (a-certificate-more {at = at} {os = os} t) l =
+      next-chained (a is_in b) no_certificate l = absurd (omega arith)
+      next-chained (a is_in b) (a_certificate_more {at = at} {os = os} t) l =
           ap (reported (n of k says a is_in b) (test_of events (a is_in b) (certificate_at s at))) (rest _ os t (omega arith))
           ∙ report-after (n of k says a is_in b) (test_of events (a is_in b) (certificate_at s at)) (try_rules events s xs (after_certificate s (a is_in b) at))
       next-chained (holds_empty a) {at} {os} t l =
@@ -77,6 +77,6 @@ module _ (events : ℕ) (s : List ℕ) (otherwise : Report) where
     unfolding first_fault
     tried-chained [] {at} t l = ap (report_on otherwise) (sym (no-rules events s at))
     tried-chained (x ∷ xs) {at} {os} t l =
-        first-is events otherwise x xs (standing os)
+        first_is events otherwise x xs (standing os)
         ∙ next-chained x.number x.subject xs (λ at os. tried-chained xs {at = at} {os = os}) x.claim t (l ∙ needed-is x xs)
         ∙ ap (report_on otherwise) (sym (trial-is events s x xs at))

@@ -11,8 +11,8 @@ use Rattle.sheet.specs.Model.{Model}
 use Rattle.sheet.specs.Kind.{certificates}
 use Rattle.sheet.specs.Reading.{Reading, starts_of, whole, refusal, read_sheet}
 use Rattle.sheet.specs.Decode.{sheet_of}
-use Rattle.sheet_laws.proofs.Located.{certificates-are, certificates-counted}
-use Rattle.sheet_laws.proofs.Certified.{Chain, no-certificate, a-certificate-more}
+use Rattle.sheet_laws.proofs.Located.{certificates_are, certificates-counted}
+use Rattle.sheet_laws.proofs.Certified.{Chain, no_certificate, a_certificate_more}
 use Rattle.runs.specs.Rules.{rules, count}
 use Rattle.verdict.specs.Verdict.{accepted, refused, certificates_needed, first_fault, verdict_after, verdict_of}
 use Rattle.verdict.proofs.Loads.{verdict-is, after-whole, after-refusal, enough, first, judged-is}
@@ -40,10 +40,10 @@ module _ (M : Model) (s : List ℕ) where
       verdict-tried same =
           by_number
           ∙ ap (λ b. cond b (first M s (sheet_of M s)) (refused 10 (some (length s)))) (eq-eqb _ _ (certificates-counted M s r h ∙ same))
-          ∙ ap (λ (cs : List Certificate). first_fault M.events (rules (sheet_of M s)) cs (accepted (count (sheet_of M s)))) (certificates-are M s r h)
+          ∙ ap (λ (cs : List Certificate). first_fault M.events (rules (sheet_of M s)) cs (accepted (count (sheet_of M s)))) (certificates_are M s r h)
           ∙ tried-chained M.events s (accepted (count (sheet_of M s))) end (rules (sheet_of M s)) chain same
 
 -- whichever offset stands for the first certificate where there is none
 pub chained-from : {s : List ℕ} {end from : ℕ} {os : List ℕ} → Chain s end from os → (d : ℕ) → (end : ℕ) × Chain s end (get_or os 0 d) os
-chained-from no-certificate d = (d, no-certificate)
-chained-from {end = end} (a-certificate-more t) d = (end, a-certificate-more t)
+chained-from no_certificate d = (d, no_certificate)
+chained-from {end = end} (a_certificate_more t) d = (end, a_certificate_more t)

@@ -35,49 +35,49 @@ ConditionsIn S s conditions = (c : ℕ) → c < length S.conditions → Conditio
 -- the tables lead to the sheet S in the bytes s; its names exist, its outcomes, channels and events fit, it has a method, and the bytes tell its edition
 pub record Indexes (S : Sheet) (s conditions points methods steps : List ℕ) : Type 0 where
   pub conditions-in : ConditionsIn S s conditions
-  pub points-tabled : Tabled point_at s (length points) points S.points
-  pub methods-tabled : Tabled method_at s method_limit methods S.methods
-  pub steps-tabled : Tabled step_at s step_limit steps S.steps
-  pub names-exist : NamesExist S
-  pub outcomes-fit : OutcomesFit S
-  pub channels-fit : ChannelsFit S
-  pub events-fit : Each (EventBelow 64) S.steps
-  pub a-method : 0 < length S.methods
-  pub edition-is : S.new ≡ is_new s
+  pub points_tabled : Tabled point_at s (length points) points S.points
+  pub methods_tabled : Tabled method_at s method_limit methods S.methods
+  pub steps_tabled : Tabled step_at s step_limit steps S.steps
+  pub names_exist : NamesExist S
+  pub outcomes_fit : OutcomesFit S
+  pub channels_fit : ChannelsFit S
+  pub events_fit : Each (EventBelow 64) S.steps
+  pub a_method : 0 < length S.methods
+  pub edition_is : S.new ≡ is_new s
 
 -- the point p of the sheet S: the point where the table says, with its conditions
 pub record PointIn (S : Sheet) (s conditions points : List ℕ) (p : ℕ) : Type 0 where
   pub exists : p < length points
   pub inside : get_or points p 0 < length s
-  pub past-named : ConditionIn s conditions (point_at s (get_or points p 0)).past (past S p)
-  pub own-named : ConditionIn s conditions (point_at s (get_or points p 0)).own (own S p)
-  pub due-named : ConditionIn s conditions (point_at s (get_or points p 0)).due (due S p)
+  pub past_named : ConditionIn s conditions (point_at s (get_or points p 0)).past (past S p)
+  pub own_named : ConditionIn s conditions (point_at s (get_or points p 0)).own (own S p)
+  pub due_named : ConditionIn s conditions (point_at s (get_or points p 0)).due (due S p)
 
 -- what the method m of the sheet S declares of the outcome o, where its conditions have the numbers of d
 pub record DeclaredIn (S : Sheet) (s conditions : List ℕ) (d : Declared) (m : ℕ) (o : Outcome) : Type 0 where
-  pub trace-named : ConditionIn s conditions d.trace (trace S m o)
-  pub future-named : ConditionIn s conditions d.future (future S m o)
+  pub trace_named : ConditionIn s conditions d.trace (trace S m o)
+  pub future_named : ConditionIn s conditions d.future (future S m o)
 
 -- the method m of the sheet S: the method where the table says, with its conditions; and one that has two outcomes, with those of the failed one
 pub record MethodIn (S : Sheet) (s conditions methods : List ℕ) (m : ℕ) : Type 0 where
   pub exists : m < method_limit
   pub inside : get_or methods m 0 < length s
-  pub pre-named : ConditionIn s conditions (method_at s (get_or methods m 0)).pre (pre S m)
-  pub normal-named : DeclaredIn S s conditions (method_at s (get_or methods m 0)).normal m normal
+  pub pre_named : ConditionIn s conditions (method_at s (get_or methods m 0)).pre (pre S m)
+  pub normal_named : DeclaredIn S s conditions (method_at s (get_or methods m 0)).normal m normal
 
 pub record FailedIn (S : Sheet) (s conditions methods : List ℕ) (m : ℕ) : Type 0 where
   pub exists : m < method_limit
   pub inside : get_or methods m 0 < length s
   pub declared : Declared
-  pub failing-is : (method_at s (get_or methods m 0)).failing ≡ some declared
-  pub failed-named : DeclaredIn S s conditions declared m failed
+  pub failing_is : (method_at s (get_or methods m 0)).failing ≡ some declared
+  pub failed_named : DeclaredIn S s conditions declared m failed
 
 -- the method m of the sheet S, as a call of it asks: the method where the table says, and the edition that the bytes tell
 pub record CalledIn (S : Sheet) (s methods : List ℕ) (m : ℕ) : Type 0 where
   pub exists : m < method_limit
   pub inside : get_or methods m 0 < length s
   pub is : get_elem? S.methods m ≡ some (method_at s (get_or methods m 0))
-  pub edition-is : S.new ≡ is_new s
+  pub edition_is : S.new ≡ is_new s
 
 -- the entry that rule 26 asks about, by the value of the code
 abbrev pub entry_value : Entry → Option ℕ
@@ -86,14 +86,14 @@ entry_value (At e) = some e
 
 -- the offsets where the conditions of the point p stand, those of the outcome o of the method m, and those of the method m
 pub record PointIs (s : List ℕ) (S : Sheet) (p : ℕ) (x : PointConditions) : Type 0 where
-  pub past-stands : StandsAt s x.past (past S p)
-  pub own-stands : StandsAt s x.own (own S p)
-  pub due-stands : StandsAt s x.due (due S p)
+  pub past_stands : StandsAt s x.past (past S p)
+  pub own_stands : StandsAt s x.own (own S p)
+  pub due_stands : StandsAt s x.due (due S p)
 
 pub record OutcomeIs (s : List ℕ) (S : Sheet) (m : ℕ) (o : Outcome) (x : OutcomeConditions) : Type 0 where
-  pub trace-stands : StandsAt s x.trace (trace S m o)
-  pub future-stands : StandsAt s x.future (future S m o)
+  pub trace_stands : StandsAt s x.trace (trace S m o)
+  pub future_stands : StandsAt s x.future (future S m o)
 
 pub record MethodIs (s : List ℕ) (S : Sheet) (m : ℕ) (x : MethodConditions) : Type 0 where
-  pub pre-stands : StandsAt s x.pre (pre S m)
-  pub normal-is : OutcomeIs s S m normal x.normal
+  pub pre_stands : StandsAt s x.pre (pre S m)
+  pub normal_is : OutcomeIs s S m normal x.normal

@@ -12,8 +12,8 @@ use Rattle.index.specs.declared.ways.Entered.TheVariants.{Unasked, Due}
 
 -- the way by which the method m returns with the outcome o, at or to the point p
 pub record WayIs (s : List ℕ) (S : Sheet) (m : ℕ) (o : Outcome) (p : ℕ) (x : Way) : Type 0 where
-  pub point-is : PointIs s S p x.point
-  pub declared-is : OutcomeIs s S m o x.declared
+  pub point_is : PointIs s S p x.point
+  pub declared_is : OutcomeIs s S m o x.declared
 
 -- the failed way of the method m, at or to a point, if there is one
 abbrev pub FailingIs : List ℕ → Sheet → ℕ → Option ℕ → Failing → Type 0

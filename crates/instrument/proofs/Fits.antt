@@ -11,15 +11,15 @@ use Rattle.instrument.specs.Model.{model_of, model_with, limits_of}
 
 pub record Fits (M : Model) : Type 0 where
   pub few_bytes : M.bytes ≤ 4294967296
-  pub few-points : M.points ≤ 512
-  pub few-events : M.events ≤ 64
-  pub few-kinds : M.kinds ≤ 22
+  pub few_points : M.points ≤ 512
+  pub few_events : M.events ≤ 64
+  pub few_kinds : M.kinds ≤ 22
   pub wide : set_events M ≤ M.events
 
 pub instrument-fits : (i : Instrument) → Fits (model_of i)
-instrument-fits Large = record { few_bytes = omega arith; few-points = omega arith; few-events = omega arith; few-kinds = omega arith; wide = omega arith }
-instrument-fits Entry = record { few_bytes = omega arith; few-points = omega arith; few-events = omega arith; few-kinds = omega arith; wide = omega arith }
-instrument-fits Four = record { few_bytes = omega arith; few-points = omega arith; few-events = omega arith; few-kinds = omega arith; wide = omega arith }
+instrument-fits Large = record { few_bytes = omega arith; few_points = omega arith; few_events = omega arith; few_kinds = omega arith; wide = omega arith }
+instrument-fits Entry = record { few_bytes = omega arith; few_points = omega arith; few_events = omega arith; few_kinds = omega arith; wide = omega arith }
+instrument-fits Four = record { few_bytes = omega arith; few_points = omega arith; few_events = omega arith; few_kinds = omega arith; wide = omega arith }
 
 -- and of its limits
 pub limits-fit : (i : Instrument) {l : Limits} → l ≡ limits_of i → Fits (model_with l)

@@ -28,7 +28,7 @@ pub record Exchanging (b q c : ℕ) (S₀ S : List ℕ) : Type 0 where
 pub exchanging-none : (b c : ℕ) (S : List ℕ) → Exchanging b b c S S
 exchanging-none b c S = record {
   on = omega arith;
-  so_far = record { rows = refl; exchanged-is = λ p l h. absurd (omega arith); first-stay = λ p h. refl };
+  so_far = record { rows = refl; exchanged_is = λ p l h. absurd (omega arith); first_stay = λ p h. refl };
   others = λ p l. refl;
 }
 
@@ -41,8 +41,8 @@ module _ {b q c : ℕ} {S₀ S : List ℕ} (g : Exchanging b q c S₀ S) where
         on = omega arith;
         so_far = record {
           rows = length-set S (q + 1) x ∙ g.so_far.rows;
-          exchanged-is = λ p a h. at p a (eq-or-lt_of_le h);
-          first-stay = λ p h. other p (λ (k : p ≡ q + 1). omega arith) ∙ g.so_far.first-stay p h;
+          exchanged_is = λ p a h. at p a (eq-or-lt_of_le h);
+          first_stay = λ p h. other p (λ (k : p ≡ q + 1). omega arith) ∙ g.so_far.first_stay p h;
         };
         others = λ p h. other p (λ (k : p ≡ q + 1). omega arith) ∙ g.others p (omega arith);
       }
@@ -56,13 +56,13 @@ module _ {b q c : ℕ} {S₀ S : List ℕ} (g : Exchanging b q c S₀ S) where
           ∙ get_or-set_same S (q + 1) x 0 l
           ∙ e
           ∙ ap (λ (y : ℕ). exchange_set c y) (g.others (q + 1) (omega arith) ∙ ap (λ (p : ℕ). get_or S₀ p 0) (sym k))
-      at p a (inr h) = other p (λ (k : p ≡ q + 1). omega arith) ∙ g.so_far.exchanged-is p a (omega arith)
+      at p a (inr h) = other p (λ (k : p ≡ q + 1). omega arith) ∙ g.so_far.exchanged_is p a (omega arith)
 
   pub exchanging-all : {n : ℕ} → n ≤ q → SetsExchanged b n c S₀ S
   exchanging-all h = record {
     rows = g.so_far.rows;
-    exchanged-is = λ p a l. g.so_far.exchanged-is p a (omega arith);
-    first-stay = g.so_far.first-stay;
+    exchanged_is = λ p a l. g.so_far.exchanged_is p a (omega arith);
+    first_stay = g.so_far.first_stay;
   }
 
 -- The topmost condition -------------------------------------------------------------------------------------------------
@@ -72,8 +72,8 @@ module _ (c : ℕ) (r : Condition) {b : ℕ} where
   item-exchanged : {n : Bool} {f l : ℕ} → ItemIs r b n f l → ItemIs (exchange c r) b n f l
   item-exchanged i = record {
     null_is = i.null_is ∙ sym (exchange-nullable c r);
-    first-is = λ k. i.first-is k ∙ behind-cong b (λ i. first r i) (λ i. first (exchange c r) i) (λ j. sym (exchange-first c r (suc j))) k;
-    last-is = λ k. i.last-is k ∙ behind-cong b (λ i. last r i) (λ i. last (exchange c r) i) (λ j. sym (exchange-last c r (suc j))) k;
+    first_is = λ k. i.first_is k ∙ behind-cong b (λ i. first r i) (λ i. first (exchange c r) i) (λ j. sym (exchange-first c r (suc j))) k;
+    last_is = λ k. i.last_is k ∙ behind-cong b (λ i. last r i) (λ i. last (exchange c r) i) (λ j. sym (exchange-last c r (suc j))) k;
   }
 
   -- and their sets are exchanged
@@ -81,12 +81,12 @@ module _ (c : ℕ) (r : Condition) {b : ℕ} where
   rows-exchanged x w =
       let e = exchange-leaves c r in
       record {
-        follow-is = λ j q h.
-            w.follow-is j q (omega arith)
+        follow_is = λ j q h.
+            w.follow_is j q (omega arith)
             ∙ behind-cong b (λ i. follow r (suc j) i) (λ i. follow (exchange c r) (suc j) i) (λ i. sym (exchange-follow c r (suc j) (suc i))) q;
-        sets-is = λ j h.
-            x.exchanged-is (suc (b + j)) (omega arith) (omega arith)
-            ∙ ap (λ (y : ℕ). exchange_set c y) (w.sets-is j (omega arith))
+        sets_is = λ j h.
+            x.exchanged_is (suc (b + j)) (omega arith) (omega arith)
+            ∙ ap (λ (y : ℕ). exchange_set c y) (w.sets_is j (omega arith))
             ∙ sym (exchange-leaf_set c r (suc j));
       }
 
@@ -103,7 +103,7 @@ stacked-exchanged {S = S} {S' = S'} {c = c} {m = m} {r = r} x below (above {m = 
     let y : SetsExchanged m₀ m c S S' = subst (λ (k : ℕ). SetsExchanged k m c S S') (same-leaves below t) x in
     above
     (agree
-    (record { nulls = λ k l. refl; firsts = λ k l. refl; lasts = λ k l. refl; rows = λ k l. refl; sets = y.first-stay })
+    (record { nulls = λ k l. refl; firsts = λ k l. refl; lasts = λ k l. refl; rows = λ k l. refl; sets = y.first_stay })
     t)
     e
     (f ∙ ap (λ (n : ℕ). m₀ + n) (sym (exchange-leaves c r)))

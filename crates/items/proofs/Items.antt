@@ -22,16 +22,16 @@ use Rattle.items.proofs.Behind.{behind-at, behind-cong, behind-map, behind-or, b
 pub item-same : {r : Condition} {b : ℕ} {n n' : Bool} {f f' l l' : ℕ} → n' ≡ n → f' ≡ f → l' ≡ l → ItemIs r b n f l → ItemIs r b n' f' l'
 item-same p q s i = record {
   null_is = p ∙ i.null_is;
-  first-is = λ k. ap (λ (x : ℕ). has x k) q ∙ i.first-is k;
-  last-is = λ k. ap (λ (x : ℕ). has x k) s ∙ i.last-is k;
+  first_is = λ k. ap (λ (x : ℕ). has x k) q ∙ i.first_is k;
+  last_is = λ k. ap (λ (x : ℕ). has x k) s ∙ i.last_is k;
 }
 
 pub rows_same : {r : Condition} {b : ℕ} {F F' S S' : List ℕ}
     → ((p : ℕ) → p ≤ b + leaves r → get_or F' p 0 ≡ get_or F p 0) → ((p : ℕ) → p ≤ b + leaves r → get_or S' p 0 ≡ get_or S p 0)
     → RowsAre r b F S → RowsAre r b F' S'
 rows_same f s w = record {
-  follow-is = λ j q h. ap (λ (x : ℕ). has x q) (f (suc _) (omega arith)) ∙ w.follow-is j q h;
-  sets-is = λ j h. s (suc _) (omega arith) ∙ w.sets-is j h;
+  follow_is = λ j q h. ap (λ (x : ℕ). has x q) (f (suc _) (omega arith)) ∙ w.follow_is j q h;
+  sets_is = λ j h. s (suc _) (omega arith) ∙ w.sets_is j h;
 }
 
 -- Leaf and empty --------------------------------------------------------------------------------------------------------
@@ -40,26 +40,26 @@ pub item-leaf : (x b : ℕ) → ItemIs (leaf x) b false (2 ^ suc b) (2 ^ suc b)
 unfolding nullable first last
 item-leaf x b = record {
   null_is = refl;
-  first-is = λ k. has_one (suc b) k ∙ behind-leaf b k;
-  last-is = λ k. has_one (suc b) k ∙ behind-leaf b k;
+  first_is = λ k. has_one (suc b) k ∙ behind-leaf b k;
+  last_is = λ k. has_one (suc b) k ∙ behind-leaf b k;
 }
 
 pub rows-leaf : (x b : ℕ) (F S : List ℕ) → get_or F (suc b) 0 ≡ 0 → get_or S (suc b) 0 ≡ x → RowsAre (leaf x) b F S
 unfolding follow leaf_set leaves
 rows-leaf x b F S f s = record {
-  follow-is = λ j q h.
+  follow_is = λ j q h.
       let e : suc (b + j) ≡ suc b = omega arith in
       ap (λ (y : ℕ). has (get_or F y 0) q) e ∙ ap (λ (y : ℕ). has y q) f ∙ has-none q ∙ behind-none b q;
-  sets-is = λ j h. let e : suc (b + j) ≡ suc b = omega arith in ap (λ (y : ℕ). get_or S y 0) e ∙ s;
+  sets_is = λ j h. let e : suc (b + j) ≡ suc b = omega arith in ap (λ (y : ℕ). get_or S y 0) e ∙ s;
 }
 
 pub item-empty : (b : ℕ) → ItemIs empty b true 0 0
 unfolding nullable first last
-item-empty b = record { null_is = refl; first-is = λ k. has-none k ∙ behind-none b k; last-is = λ k. has-none k ∙ behind-none b k }
+item-empty b = record { null_is = refl; first_is = λ k. has-none k ∙ behind-none b k; last_is = λ k. has-none k ∙ behind-none b k }
 
 pub rows_empty : (b : ℕ) (F S : List ℕ) → RowsAre empty b F S
 unfolding leaves
-rows_empty b F S = record { follow-is = λ j q h. absurd (omega arith); sets-is = λ j h. absurd (omega arith) }
+rows_empty b F S = record { follow_is = λ j q h. absurd (omega arith); sets_is = λ j h. absurd (omega arith) }
 
 -- Join and either: items ------------------------------------------------------------------------------------------------
 
@@ -68,18 +68,18 @@ module _ (a c : Condition) (b : ℕ) {na nc : Bool} {fa la fc lc : ℕ} (i : Ite
   unfolding nullable first last
   item-join = record {
     null_is = ap₂ (λ (x y : Bool). x && y) i.null_is j.null_is;
-    first-is = λ k.
+    first_is = λ k.
         has-or fa (cond na fc 0) k
-        ∙ ap₂ (λ (x y : Bool). x || y) (i.first-is k)
-        (has-cond na fc k ∙ ap₂ (λ (x y : Bool). x && y) i.null_is (j.first-is k)
+        ∙ ap₂ (λ (x y : Bool). x || y) (i.first_is k)
+        (has-cond na fc k ∙ ap₂ (λ (x y : Bool). x && y) i.null_is (j.first_is k)
         ∙ behind-map (λ (x : Bool). nullable a && x) (and-false (nullable a)) (b + leaves a) (λ i. first c i) k)
         ∙ behind-beside b (leaves a) (λ i. first a i) (λ i. nullable a && first c i) (first-up a) k;
-    last-is = λ k.
+    last_is = λ k.
         has-or (cond nc la 0) lc k
         ∙ ap₂ (λ (x y : Bool). x || y)
-        (has-cond nc la k ∙ ap₂ (λ (x y : Bool). x && y) j.null_is (i.last-is k) ∙ and_comm (nullable c) (behind b (λ i. last a i) k)
+        (has-cond nc la k ∙ ap₂ (λ (x y : Bool). x && y) j.null_is (i.last_is k) ∙ and_comm (nullable c) (behind b (λ i. last a i) k)
         ∙ behind-map (λ (x : Bool). x && nullable c) refl b (λ i. last a i) k)
-        (j.last-is k)
+        (j.last_is k)
         ∙ behind-beside b (leaves a) (λ i. last a i && nullable c) (λ i. last c i) (λ h. ap (λ (x : Bool). x && nullable c) (last_up a h)) k;
   }
 
@@ -87,11 +87,11 @@ module _ (a c : Condition) (b : ℕ) {na nc : Bool} {fa la fc lc : ℕ} (i : Ite
   unfolding nullable first last
   item-either = record {
     null_is = ap₂ (λ (x y : Bool). x || y) i.null_is j.null_is;
-    first-is = λ k.
-        has-or fa fc k ∙ ap₂ (λ (x y : Bool). x || y) (i.first-is k) (j.first-is k)
+    first_is = λ k.
+        has-or fa fc k ∙ ap₂ (λ (x y : Bool). x || y) (i.first_is k) (j.first_is k)
         ∙ behind-beside b (leaves a) (λ i. first a i) (λ i. first c i) (first-up a) k;
-    last-is = λ k.
-        has-or la lc k ∙ ap₂ (λ (x y : Bool). x || y) (i.last-is k) (j.last-is k)
+    last_is = λ k.
+        has-or la lc k ∙ ap₂ (λ (x y : Bool). x || y) (i.last_is k) (j.last_is k)
         ∙ behind-beside b (leaves a) (λ i. last a i) (λ i. last c i) (last_up a) k;
   }
 
@@ -100,33 +100,33 @@ module _ (a c : Condition) (b : ℕ) {na nc : Bool} {fa la fc lc : ℕ} (i : Ite
 pub linked-has : {la fc : ℕ} {F F' : List ℕ} → Linked la fc F F' → (p q : ℕ) → p < 64
     → has (get_or F' p 0) q ≡ (has (get_or F p 0) q || (has la p && has fc q))
 linked-has {la} {fc} {F} {F'} k p q h =
-    ap (λ (x : ℕ). has x q) (k.linked-is p h)
+    ap (λ (x : ℕ). has x q) (k.linked_is p h)
     ∙ has-or (get_or F p 0) (cond (has la p) fc 0) q
     ∙ ap (λ (x : Bool). has (get_or F p 0) q || x) (has-cond (has la p) fc q)
 
 -- A condition r of the leaves of a and, behind them, those of c, where `across` says which leaves of c follow a leaf of a.
 record Sides (a c r : Condition) (across : ℕ → ℕ → Bool) : Type 0 where
-  leaves-are : leaves r ≡ leaves a + leaves c
-  sets-are : (k : ℕ) → leaf_set r k ≡ beside (leaves a) (λ i. leaf_set a i) (λ i. leaf_set c i) k
-  first-side : (j k : ℕ) → suc j ≤ leaves a → follow r (suc j) k ≡ beside (leaves a) (λ i. follow a (suc j) i) (λ i. across (suc j) i) k
-  second-side : (j k : ℕ) → follow r (suc (leaves a + j)) k ≡ beside (leaves a) (λ _. false) (λ i. follow c (suc j) i) k
+  leaves_are : leaves r ≡ leaves a + leaves c
+  sets_are : (k : ℕ) → leaf_set r k ≡ beside (leaves a) (λ i. leaf_set a i) (λ i. leaf_set c i) k
+  first_side : (j k : ℕ) → suc j ≤ leaves a → follow r (suc j) k ≡ beside (leaves a) (λ i. follow a (suc j) i) (λ i. across (suc j) i) k
+  second_side : (j k : ℕ) → follow r (suc (leaves a + j)) k ≡ beside (leaves a) (λ _. false) (λ i. follow c (suc j) i) k
 
 join-sides : (a c : Condition) → Sides a c (join a c) (λ i j. last a i && first c j)
 unfolding leaves leaf_set follow
 join-sides a c = record {
-  leaves-are = refl;
-  sets-are = λ k. refl;
-  first-side = λ j k h. beside-left (leaves a) _ _ (suc j) h;
-  second-side = λ j k. beside-right (leaves a) _ _ j;
+  leaves_are = refl;
+  sets_are = λ k. refl;
+  first_side = λ j k h. beside-left (leaves a) _ _ (suc j) h;
+  second_side = λ j k. beside-right (leaves a) _ _ j;
 }
 
 either-sides : (a c : Condition) → Sides a c (either a c) (λ _ _. false)
 unfolding leaves leaf_set follow
 either-sides a c = record {
-  leaves-are = refl;
-  sets-are = λ k. refl;
-  first-side = λ j k h. beside-left (leaves a) _ _ (suc j) h;
-  second-side = λ j k. beside-right (leaves a) _ _ j;
+  leaves_are = refl;
+  sets_are = λ k. refl;
+  first_side = λ j k h. beside-left (leaves a) _ _ (suc j) h;
+  second_side = λ j k. beside-right (leaves a) _ _ j;
 }
 
 module _ {a c r : Condition} {across : ℕ → ℕ → Bool} (x : Sides a c r across) (b : ℕ) {F S : List ℕ} (F' : List ℕ) (v : RowsAre a b F S)
@@ -138,35 +138,35 @@ module _ {a c r : Condition} {across : ℕ → ℕ → Bool} (x : Sides a c r ac
       → has (get_or F' (suc (b + j)) 0) q ≡ behind b (λ i. follow r (suc j) i) q
   follow-at j q h (inl l) =
       more j q l
-      ∙ ap (λ (y : Bool). y || behind (b + leaves a) (λ i. across (suc j) i) q) (v.follow-is j q l)
+      ∙ ap (λ (y : Bool). y || behind (b + leaves a) (λ i. across (suc j) i) q) (v.follow_is j q l)
       ∙ behind-beside b (leaves a) (λ i. follow a (suc j) i) (λ i. across (suc j) i) (follow-up a (suc j)) q
-      ∙ sym (behind-cong b (λ i. follow r (suc j) i) _ (λ k. x.first-side j (suc k) l) q)
+      ∙ sym (behind-cong b (λ i. follow r (suc j) i) _ (λ k. x.first_side j (suc k) l) q)
   follow-at j q h (inr l) =
       let (i, e) = l in
       let far : suc (b + j) ≡ suc (b + leaves a + i) = omega arith in
       ap (λ (y : ℕ). has (get_or F' y 0) q) far
       ∙ kept i q (omega arith)
-      ∙ w.follow-is i q (omega arith)
+      ∙ w.follow_is i q (omega arith)
       ∙ ap (λ (y : Bool). y || behind (b + leaves a) (λ k. follow c (suc i) k) q) (behind-none b q)
       ∙ behind-beside b (leaves a) (λ _. false) (λ k. follow c (suc i) k) (λ _. refl) q
-      ∙ sym (behind-cong b (λ k. follow r (suc j) k) _ (λ k. ap (λ (y : ℕ). follow r y (suc k)) e ∙ x.second-side i (suc k)) q)
+      ∙ sym (behind-cong b (λ k. follow r (suc j) k) _ (λ k. ap (λ (y : ℕ). follow r y (suc k)) e ∙ x.second_side i (suc k)) q)
 
   set_at : (j : ℕ) → suc j ≤ leaves a + leaves c → (suc j ≤ leaves a) ⊎ ((i : ℕ) × (suc j ≡ suc (leaves a + i)))
       → get_or S (suc (b + j)) 0 ≡ leaf_set r (suc j)
-  set_at j h (inl l) = v.sets-is j l ∙ sym (x.sets-are (suc j) ∙ beside-left (leaves a) _ _ (suc j) l)
+  set_at j h (inl l) = v.sets_is j l ∙ sym (x.sets_are (suc j) ∙ beside-left (leaves a) _ _ (suc j) l)
   set_at j h (inr l) =
       let (i, e) = l in
       let far : suc (b + j) ≡ suc (b + leaves a + i) = omega arith in
       ap (λ (y : ℕ). get_or S y 0) far
-      ∙ w.sets-is i (omega arith)
-      ∙ sym (x.sets-are (suc j) ∙ ap (λ (y : ℕ). beside (leaves a) (λ i. leaf_set a i) (λ i. leaf_set c i) y) e ∙ beside-right (leaves a) _ _ i)
+      ∙ w.sets_is i (omega arith)
+      ∙ sym (x.sets_are (suc j) ∙ ap (λ (y : ℕ). beside (leaves a) (λ i. leaf_set a i) (λ i. leaf_set c i) y) e ∙ beside-right (leaves a) _ _ i)
 
   rows-sides : RowsAre r b F' S
   rows-sides =
-      let n = x.leaves-are in
+      let n = x.leaves_are in
       record {
-        follow-is = λ j q h. follow-at j q (omega arith) (side (leaves a) (suc j));
-        sets-is = λ j h. set_at j (omega arith) (side (leaves a) (suc j));
+        follow_is = λ j q h. follow-at j q (omega arith) (side (leaves a) (suc j));
+        sets_is = λ j h. set_at j (omega arith) (side (leaves a) (suc j));
       }
 
 module _ (a c : Condition) (b : ℕ) {F S : List ℕ} (v : RowsAre a b F S) (w : RowsAre c (b + leaves a) F S) where
@@ -183,7 +183,7 @@ module _ (a c : Condition) (b : ℕ) {F S : List ℕ} (v : RowsAre a b F S) (w :
       (λ n q h.
       linked-has k (suc (b + n)) q (omega arith)
       ∙ ap (λ (y : Bool). has (get_or F (suc (b + n)) 0) q || y)
-      (ap₂ (λ (x y : Bool). x && y) (i.last-is (suc (b + n)) ∙ behind-at b (λ i. last a i) n) (j.first-is q)
+      (ap₂ (λ (x y : Bool). x && y) (i.last_is (suc (b + n)) ∙ behind-at b (λ i. last a i) n) (j.first_is q)
       ∙ behind-map (λ (x : Bool). last a (suc n) && x) (and-false (last a (suc n))) (b + leaves a) (λ i. first c i) q))
       (λ n q h.
       linked-has k (suc (b + leaves a + n)) q (omega arith)
@@ -193,23 +193,23 @@ module _ (a c : Condition) (b : ℕ) {F S : List ℕ} (v : RowsAre a b F S) (w :
       not_last : (n : ℕ) → has la (suc (b + leaves a + n)) ≡ false
       not_last n =
           let e : suc (b + leaves a + n) ≡ suc (b + (leaves a + n)) = omega arith in
-          ap (λ (y : ℕ). has la y) e ∙ i.last-is (suc (b + (leaves a + n))) ∙ behind-at b (λ i. last a i) (leaves a + n) ∙ last_up a n
+          ap (λ (y : ℕ). has la y) e ∙ i.last_is (suc (b + (leaves a + n))) ∙ behind-at b (λ i. last a i) (leaves a + n) ∙ last_up a n
 
 -- Star ------------------------------------------------------------------------------------------------------------------
 
 module _ (a : Condition) (b : ℕ) {n : Bool} {f l : ℕ} (i : ItemIs a b n f l) where
   pub item-star : ItemIs (star a) b true f l
   unfolding nullable first last
-  item-star = record { null_is = refl; first-is = i.first-is; last-is = i.last-is }
+  item-star = record { null_is = refl; first_is = i.first_is; last_is = i.last_is }
 
   pub rows-star : {F F' S : List ℕ} → RowsAre a b F S → Linked l f F F' → b + leaves a < 64 → RowsAre (star a) b F' S
   unfolding leaves leaf_set follow
   rows-star {F} {F'} {S} w k m = record {
-    follow-is = λ j q h.
+    follow_is = λ j q h.
         linked-has k (suc (b + j)) q (omega arith)
-        ∙ ap₂ (λ (u v : Bool). u || v) (w.follow-is j q h)
-        (ap₂ (λ (u v : Bool). u && v) (i.last-is (suc (b + j)) ∙ behind-at b (λ i. last a i) j) (i.first-is q)
+        ∙ ap₂ (λ (u v : Bool). u || v) (w.follow_is j q h)
+        (ap₂ (λ (u v : Bool). u && v) (i.last_is (suc (b + j)) ∙ behind-at b (λ i. last a i) j) (i.first_is q)
         ∙ behind-map (λ (x : Bool). last a (suc j) && x) (and-false (last a (suc j))) b (λ i. first a i) q)
         ∙ behind-or b (λ i. follow a (suc j) i) (λ i. last a (suc j) && first a i) q;
-    sets-is = w.sets-is;
+    sets_is = w.sets_is;
   }

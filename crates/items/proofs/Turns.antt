@@ -13,7 +13,7 @@ use Rattle.bits.specs.Rows.{Linked}
 use Rattle.format.specs.declared.symbols.Symbol.{Symbol}
 use Rattle.format.specs.declared.symbols.Symbol.TheVariants.{None, Leaf, Empty, Join, Either, Star}
 use Rattle.format.specs.Symbols.{is_symbol}
-use Rattle.items.specs.Stack.{ItemIs, RowsAre, Stacked, bottom, above, Roomy, Rows, Makes, a-leaf, an-empty, a-join, an-either, a-star, Turned}
+use Rattle.items.specs.Stack.{ItemIs, RowsAre, Stacked, bottom, above, Roomy, Rows, Makes, a_leaf, an_empty, a_join, an_either, a_star, Turned}
 use Rattle.items.proofs.Behind.{behind-low}
 use Rattle.items.proofs.Items.{item-same, rows_same, item-leaf, rows-leaf, item-empty, rows_empty, item-join, rows_join, item-either, rows-either, item-star, rows-star}
 
@@ -24,11 +24,11 @@ pub turned_as : {y y' : Symbol} {N : List Bool} {A L F S : List ℕ} {N' : List 
 turned_as e t = rw e t
 
 makes-symbol : {y : Symbol} {rs rs' : List Condition} → Makes y rs rs' → is_symbol y ≡ true
-makes-symbol a-leaf = refl
-makes-symbol an-empty = refl
-makes-symbol a-join = refl
-makes-symbol an-either = refl
-makes-symbol a-star = refl
+makes-symbol a_leaf = refl
+makes-symbol an_empty = refl
+makes-symbol a_join = refl
+makes-symbol an_either = refl
+makes-symbol a_star = refl
 
 pub turned_none : {N : List Bool} {A L F S : List ℕ} {d m : ℕ} → Roomy N A L → Rows F S → Turned None N A L F S N A L F S d m
 turned_none room rows = record { room = room; rows = rows; turned = λ rs rs' h t. absurd (false≢true (makes-symbol h)) }
@@ -66,16 +66,16 @@ kept l i k a d h = get_or-set_other l i k a d (λ (e : k ≡ i). omega arith)
 module _ {N : List Bool} {A L : List ℕ} (room : Roomy N A L) (i : ℕ) (n : Bool) where
   pub room-null : Roomy (set N i n) A L
   room-null = record {
-    room-nulls = length-set N i n ∙ room.room-nulls;
-    room-firsts = room.room-firsts;
-    room-lasts = room.room-lasts;
+    room_nulls = length-set N i n ∙ room.room_nulls;
+    room_firsts = room.room_firsts;
+    room_lasts = room.room_lasts;
   }
 
   pub room-item : (f l : ℕ) → Roomy (set N i n) (set A i f) (set L i l)
   room-item f l = record {
-    room-nulls = length-set N i n ∙ room.room-nulls;
-    room-firsts = length-set A i f ∙ room.room-firsts;
-    room-lasts = length-set L i l ∙ room.room-lasts;
+    room_nulls = length-set N i n ∙ room.room_nulls;
+    room_firsts = length-set A i f ∙ room.room_firsts;
+    room_lasts = length-set L i l ∙ room.room_lasts;
   }
 
 -- The topmost item ------------------------------------------------------------------------------------------------------
@@ -117,8 +117,8 @@ module _ {N : List Bool} {A L : List ℕ} (room : Roomy N A L) {d : ℕ} (h : d 
       record {
         room = room-item room d false f l;
         rows = record {
-          rows-follow = length-set F (m + 1) 0 ∙ rows.rows-follow;
-          rows-sets = length-set S (m + 1) x ∙ rows.rows-sets;
+          rows_follow = length-set F (m + 1) 0 ∙ rows.rows_follow;
+          rows_sets = length-set S (m + 1) x ∙ rows.rows_sets;
         };
         turned = λ rs rs' h t. go h t;
       }
@@ -128,7 +128,7 @@ module _ {N : List Bool} {A L : List ℕ} (room : Roomy N A L) {d : ℕ} (h : d 
 
       go : {rs rs' : List Condition} → Makes (Leaf x) rs rs' → Stacked N A L F S d m rs
           → Stacked (set N d false) (set A d f) (set L d l) (set F (m + 1) 0) (set S (m + 1) x) (d + 1 - 0) (m + 1) rs'
-      go a-leaf t =
+      go a_leaf t =
           let n = leaf-leaves x in
           above {d' = d + 1 - 0} {m' = m + 1} {r = leaf x}
           (agree
@@ -142,20 +142,20 @@ module _ {N : List Bool} {A L : List ℕ} (room : Roomy N A L) {d : ℕ} (h : d 
           t)
           (omega arith)
           (omega arith)
-          (item-same (get_or-set_same N d false false (omega (arith, room.room-nulls)))
-          (get_or-set_same A d f 0 (omega (arith, room.room-firsts)) ∙ fe ∙ ap (λ (k : ℕ). 2 ^ k) s)
-          (get_or-set_same L d l 0 (omega (arith, room.room-lasts)) ∙ le ∙ ap (λ (k : ℕ). 2 ^ k) s)
+          (item-same (get_or-set_same N d false false (omega (arith, room.room_nulls)))
+          (get_or-set_same A d f 0 (omega (arith, room.room_firsts)) ∙ fe ∙ ap (λ (k : ℕ). 2 ^ k) s)
+          (get_or-set_same L d l 0 (omega (arith, room.room_lasts)) ∙ le ∙ ap (λ (k : ℕ). 2 ^ k) s)
           (item-leaf x m))
           (rows-leaf x m (set F (m + 1) 0) (set S (m + 1) x)
-          (ap (λ (k : ℕ). get_or (set F (m + 1) 0) k 0) (sym s) ∙ get_or-set_same F (m + 1) 0 0 (omega (arith, rows.rows-follow)))
-          (ap (λ (k : ℕ). get_or (set S (m + 1) x) k 0) (sym s) ∙ get_or-set_same S (m + 1) x 0 (omega (arith, rows.rows-sets))))
+          (ap (λ (k : ℕ). get_or (set F (m + 1) 0) k 0) (sym s) ∙ get_or-set_same F (m + 1) 0 0 (omega (arith, rows.rows_follow)))
+          (ap (λ (k : ℕ). get_or (set S (m + 1) x) k 0) (sym s) ∙ get_or-set_same S (m + 1) x 0 (omega (arith, rows.rows_sets))))
 
   pub push-empty : (F S : List ℕ) (m : ℕ) → Rows F S → Turned Empty N A L F S (set N d true) (set A d 0) (set L d 0) F S d m
   push-empty F S m rows = record { room = room-item room d true 0 0; rows = rows; turned = λ rs rs' h t. go h t }
     where
       go : {rs rs' : List Condition} → Makes Empty rs rs' → Stacked N A L F S d m rs
           → Stacked (set N d true) (set A d 0) (set L d 0) F S (d + 1 - 0) (m + 0) rs'
-      go an-empty t =
+      go an_empty t =
           let n = empty-leaves in
           above {d' = d + 1 - 0} {m' = m + 0} {r = empty}
           (agree
@@ -169,8 +169,8 @@ module _ {N : List Bool} {A L : List ℕ} (room : Roomy N A L) {d : ℕ} (h : d 
           t)
           (omega arith)
           (omega arith)
-          (item-same (get_or-set_same N d true false (omega (arith, room.room-nulls))) (get_or-set_same A d 0 0 (omega (arith, room.room-firsts)))
-          (get_or-set_same L d 0 0 (omega (arith, room.room-lasts)))
+          (item-same (get_or-set_same N d true false (omega (arith, room.room_nulls))) (get_or-set_same A d 0 0 (omega (arith, room.room_firsts)))
+          (get_or-set_same L d 0 0 (omega (arith, room.room_lasts)))
           (item-empty m))
           (rows_empty m F S)
 
@@ -192,8 +192,8 @@ either-leaves a c = refl
 linked-kept : {a : Condition} {b : ℕ} {n : Bool} {f l x : ℕ} {F F' : List ℕ} → Linked l x F F' → ItemIs a b n f l
     → (p : ℕ) → p ≤ b → p < 64 → get_or F' p 0 ≡ get_or F p 0
 linked-kept {a} {b} {n} {f} {l} {x} {F} {F'} k i p h few =
-    k.linked-is p few
-    ∙ ap (λ (y : Bool). bit_or (get_or F p 0) (cond y x 0)) (i.last-is p ∙ behind-low b (λ i. last a i) p h)
+    k.linked_is p few
+    ∙ ap (λ (y : Bool). bit_or (get_or F p 0) (cond y x 0)) (i.last_is p ∙ behind-low b (λ i. last a i) p h)
     ∙ or_zero_r (get_or F p 0)
 
 module _ {N : List Bool} {A L F F' S : List ℕ} {d m : ℕ} (room : Roomy N A L) (h : d ≤ 50) where
@@ -201,17 +201,17 @@ module _ {N : List Bool} {A L F F' S : List ℕ} {d m : ℕ} (room : Roomy N A L
   star-top k rows few =
       record {
         room = room-null room (d - 1) true;
-        rows = record { rows-follow = k.linked-rows; rows-sets = rows.rows-sets };
+        rows = record { rows_follow = k.linked_rows; rows_sets = rows.rows_sets };
         turned = λ rs rs' h t. go h t;
       }
     where
       go : {rs rs' : List Condition} → Makes Star rs rs' → Stacked N A L F S d m rs → Stacked (set N (d - 1) true) A L F' S (d + 1 - 1) (m + 0) rs'
-      go (a-star {a = a}) t =
+      go (a_star {a = a}) t =
           let p = top t in
           let n = star-leaves a in
           let g = p.deep in
           let y = p.count in
-          let v = room.room-nulls in
+          let v = room.room_nulls in
           above {d' = d + 1 - 1} {m' = m + 0} {r = star a}
           (agree
           (record {
@@ -237,9 +237,9 @@ module _ {N : List Bool} {A L F F' S : List ℕ} {d m : ℕ} (room : Roomy N A L
         let g = q.deep in
         let y = p.count in
         let z = q.count in
-        let v = room.room-nulls in
-        let v' = room.room-firsts in
-        let v'' = room.room-lasts in
+        let v = room.room_nulls in
+        let v' = room.room_firsts in
+        let v'' = room.room_lasts in
         above {d' = d + 1 - 2} {m' = m + 0} {r = r}
         (agree
         (record {
@@ -272,14 +272,14 @@ module _ {N : List Bool} {A L F S : List ℕ} {d m : ℕ} (room : Roomy N A L) (
   join-top {F'} {x} {y} {n} k ex ey en rows few =
       record {
         room = room-item room (d - 1 - 1) n _ _;
-        rows = record { rows-follow = k.linked-rows; rows-sets = rows.rows-sets };
+        rows = record { rows_follow = k.linked_rows; rows_sets = rows.rows_sets };
         turned = λ rs rs' h t. go h t;
       }
     where
       go : {rs rs' : List Condition} → Makes Join rs rs' → Stacked N A L F S d m rs
           → Stacked (set N (d - 1 - 1) n) (set A (d - 1 - 1) (bit_or (get_or A (d - 1 - 1) 0) x)) (set L (d - 1 - 1) (bit_or y (get_or L (d - 1) 0))) F' S
           (d + 1 - 2) (m + 0) rs'
-      go (a-join {a = a} {b = c}) t =
+      go (a_join {a = a} {b = c}) t =
           let p = top t in
           let q = top p.rest in
           let z = p.count in
@@ -298,7 +298,7 @@ module _ {N : List Bool} {A L F S : List ℕ} {d m : ℕ} (room : Roomy N A L) (
       go : {rs rs' : List Condition} → Makes Either rs rs' → Stacked N A L F S d m rs
           → Stacked (set N (d - 1 - 1) n) (set A (d - 1 - 1) (bit_or (get_or A (d - 1 - 1) 0) (get_or A (d - 1) 0)))
           (set L (d - 1 - 1) (bit_or (get_or L (d - 1 - 1) 0) (get_or L (d - 1) 0))) F S (d + 1 - 2) (m + 0) rs'
-      go (an-either {a = a} {b = c}) t =
+      go (an_either {a = a} {b = c}) t =
           let p = top t in
           let q = top p.rest in
           merge room h p q (either-leaves a c) (item-same en refl refl (item-either a c q.below q.item (second-item p q)))

@@ -15,13 +15,13 @@ behind b f k = beside b (λ _. false) f k
 -- the item of r behind b leaves: whether r is nullable, the set of its first leaves and that of its last leaves
 pub record ItemIs (r : Condition) (b : ℕ) (n : Bool) (f l : ℕ) : Type 0 where
   pub null_is : n ≡ nullable r
-  pub first-is : (k : ℕ) → has f k ≡ behind b (λ i. first r i) k
-  pub last-is : (k : ℕ) → has l k ≡ behind b (λ i. last r i) k
+  pub first_is : (k : ℕ) → has f k ≡ behind b (λ i. first r i) k
+  pub last_is : (k : ℕ) → has l k ≡ behind b (λ i. last r i) k
 
 -- the rows of the leaves of r behind b leaves: their followers in F, and their sets in S
 pub record RowsAre (r : Condition) (b : ℕ) (F S : List ℕ) : Type 0 where
-  pub follow-is : (j q : ℕ) → suc j ≤ leaves r → has (get_or F (suc (b + j)) 0) q ≡ behind b (λ i. follow r (suc j) i) q
-  pub sets-is : (j : ℕ) → suc j ≤ leaves r → get_or S (suc (b + j)) 0 ≡ leaf_set r (suc j)
+  pub follow_is : (j q : ℕ) → suc j ≤ leaves r → has (get_or F (suc (b + j)) 0) q ≡ behind b (λ i. follow r (suc j) i) q
+  pub sets_is : (j : ℕ) → suc j ≤ leaves r → get_or S (suc (b + j)) 0 ≡ leaf_set r (suc j)
 
 -- The stack has the items of the conditions rs, the topmost first: d items with m leaves. Item i is nullable by N, and has its first leaves in
 -- A and its last leaves in L at i.
@@ -32,22 +32,22 @@ pub data Stacked (N : List Bool) (A L F S : List ℕ) : ℕ → ℕ → List Con
 
 -- room for the items of one condition, on one item: of 96 symbols that leave one item, each adds at most one, so there are never more than 48
 pub record Roomy (N : List Bool) (A L : List ℕ) : Type 0 where
-  pub room-nulls : length N ≡ 50
-  pub room-firsts : length A ≡ 50
-  pub room-lasts : length L ≡ 50
+  pub room_nulls : length N ≡ 50
+  pub room_firsts : length A ≡ 50
+  pub room_lasts : length L ≡ 50
 
 -- a row for each place of a side
 pub record Rows (F S : List ℕ) : Type 0 where
-  pub rows-follow : length F ≡ 64
-  pub rows-sets : length S ≡ 64
+  pub rows_follow : length F ≡ 64
+  pub rows_sets : length S ≡ 64
 
 -- what a symbol makes of the items before it, the topmost first
 pub data Makes : Symbol → List Condition → List Condition → Type 0 where
-  a-leaf : {set : ℕ} {rs : List Condition} → Makes (Leaf set) rs (leaf set ∷ rs)
-  an-empty : {rs : List Condition} → Makes Empty rs (empty ∷ rs)
-  a-join : {a b : Condition} {rs : List Condition} → Makes Join (b ∷ a ∷ rs) (join a b ∷ rs)
-  an-either : {a b : Condition} {rs : List Condition} → Makes Either (b ∷ a ∷ rs) (either a b ∷ rs)
-  a-star : {a : Condition} {rs : List Condition} → Makes Star (a ∷ rs) (star a ∷ rs)
+  a_leaf : {set : ℕ} {rs : List Condition} → Makes (Leaf set) rs (leaf set ∷ rs)
+  an_empty : {rs : List Condition} → Makes Empty rs (empty ∷ rs)
+  a_join : {a b : Condition} {rs : List Condition} → Makes Join (b ∷ a ∷ rs) (join a b ∷ rs)
+  an_either : {a b : Condition} {rs : List Condition} → Makes Either (b ∷ a ∷ rs) (either a b ∷ rs)
+  a_star : {a : Condition} {rs : List Condition} → Makes Star (a ∷ rs) (star a ∷ rs)
 
 -- the symbol y was pushed on d items with m leaves
 pub record Turned (y : Symbol) (N : List Bool) (A L F S : List ℕ) (N' : List Bool) (A' L' F' S' : List ℕ) (d m : ℕ) : Type 0 where

@@ -9,8 +9,8 @@ use Rattle.sheet.specs.Model.{large}
 use Rattle.sheet.proofs.Each.{each-head, each_tail}
 use Rattle.sheet.specs.Sheet.{normal, condition}
 use Rattle.sheet.specs.Decode.{sheet_of}
-use Rattle.runs.specs.Runs.{return, by-step, run, Safe}
-use Rattle.runs.proofs.Alike.{visits, to-first}
+use Rattle.runs.specs.Runs.{return, by_step, run, Safe}
+use Rattle.runs.proofs.Alike.{visits, to_first}
 use Rattle.verdict.specs.Verdict.{accepted, verdict_of}
 use Rattle.verdict.specs.Cases.{start_only}
 use Rattle.verdict.proofs.Bytes.{small, are-bytes}
@@ -88,10 +88,10 @@ stands-for = (refl, refl, refl, refl)
 met-in-outermost : (v : Word) → Holds (condition visits 2) v → Holds (condition visits 3) (2 ∷ v)
 unfolding sheet sheet_of run small
 met-in-outermost v h =
-    let ms = to-first ++ (by-step 3 normal [] ∷ return normal ∷ []) in
+    let ms = to_first ++ (by_step 3 normal [] ∷ return normal ∷ []) in
     each-head (each_tail ((loads large sheet (omega arith) (are-bytes sheet tt)).owing 22 is-accepted ms)) (Memᴰ.tail (Memᴰ.head refl)) v h
 
 -- And that run, with a step of each kind in the sheet, is safe by the promise.
-safe-in-outermost : Safe (sheet_of large sheet) (run (sheet_of large sheet) 0 (to-first ++ (by-step 3 normal [] ∷ return normal ∷ [])))
+safe-in-outermost : Safe (sheet_of large sheet) (run (sheet_of large sheet) 0 (to_first ++ (by_step 3 normal [] ∷ return normal ∷ [])))
 unfolding sheet small
-safe-in-outermost = (loads large sheet (omega arith) (are-bytes sheet tt)).sound 22 is-accepted (to-first ++ (by-step 3 normal [] ∷ return normal ∷ []))
+safe-in-outermost = (loads large sheet (omega arith) (are-bytes sheet tt)).sound 22 is-accepted (to_first ++ (by_step 3 normal [] ∷ return normal ∷ []))

@@ -31,21 +31,21 @@ leaf8 a b c d e f g h = 0x15 ∷ a ∷ b ∷ c ∷ d ∷ e ∷ f ∷ g ∷ h ∷
 abbrev pub Events : Type 0
 Events = List ℕ × List ℕ
 
-abbrev pub of-0 : Events
-of-0 = (leaf4 0x01 0 0 0, leaf4 0x02 0 0 0)
+abbrev pub of_0 : Events
+of_0 = (leaf4 0x01 0 0 0, leaf4 0x02 0 0 0)
 
-abbrev pub of-1 : Events
-of-1 = (leaf4 0 0 0x01 0, leaf4 0 0 0x02 0)
+abbrev pub of_1 : Events
+of_1 = (leaf4 0 0 0x01 0, leaf4 0 0 0x02 0)
 
-abbrev of-3 : Events
-of-3 = (leaf8 0 0 0 0 0 0 0x01 0, leaf8 0 0 0 0 0 0 0x02 0)
+abbrev of_3 : Events
+of_3 = (leaf8 0 0 0 0 0 0 0x01 0, leaf8 0 0 0 0 0 0 0x02 0)
 
 -- EMPTY; open, close of channel 0; and open, close, both of the channel of the points
 abbrev conditions : Events → List ℕ
 conditions (opening, closing) =
     (0x02 ∷ 0x06 ∷ [])
-    ++ of-0.0 ++ (0x06 ∷ [])
-    ++ of-0.1 ++ (0x06 ∷ [])
+    ++ of_0.0 ++ (0x06 ∷ [])
+    ++ of_0.1 ++ (0x06 ∷ [])
     ++ opening ++ (0x06 ∷ [])
     ++ closing ++ (0x06 ∷ [])
     ++ opening ++ closing ++ (0x03 ∷ 0x06 ∷ [])
@@ -72,24 +72,24 @@ gate events future c d = conditions events ++ points ++ methods future ++ call_o
 gates : List Printed
 gates =
     -- 2 + 4 + 5 + 5
-    printed (gate of-1 2 1 1) "accepted 16"
-    ∷ printed (gate of-3 2 3 3) "accepted 16"
-    ∷ printed (gate of-0 2 0 0) "accepted 16"
+    printed (gate of_1 2 1 1) "accepted 16"
+    ∷ printed (gate of_3 2 3 3) "accepted 16"
+    ∷ printed (gate of_0 2 0 0) "accepted 16"
     -- the first call on another channel: 11, the trace; clause 4 names the event of that channel
-    ∷ printed (gate of-1 2 0 1) "unproved rule 11 step 0 clause 4 pair 0 event 0 place 1"
-    ∷ printed (gate of-1 2 2 1) "unproved rule 11 step 0 clause 4 pair 0 event 32 place 1"
-    ∷ printed (gate of-3 2 1 3) "unproved rule 11 step 0 clause 4 pair 0 event 16 place 1"
+    ∷ printed (gate of_1 2 0 1) "unproved rule 11 step 0 clause 4 pair 0 event 0 place 1"
+    ∷ printed (gate of_1 2 2 1) "unproved rule 11 step 0 clause 4 pair 0 event 32 place 1"
+    ∷ printed (gate of_3 2 1 3) "unproved rule 11 step 0 clause 4 pair 0 event 16 place 1"
     -- the second: 10, the pre
-    ∷ printed (gate of-1 2 1 0) "unproved rule 10 step 1 clause 4 pair 0 event 16 place 1"
-    ∷ printed (gate of-3 2 3 2) "unproved rule 10 step 1 clause 4 pair 0 event 48 place 1"
+    ∷ printed (gate of_1 2 1 0) "unproved rule 10 step 1 clause 4 pair 0 event 16 place 1"
+    ∷ printed (gate of_3 2 3 2) "unproved rule 10 step 1 clause 4 pair 0 event 48 place 1"
     -- a future that is already of the channel: 13
-    ∷ printed (gate of-1 4 1 1) "unproved rule 13 step 0 clause 4 pair 0 event 17 place 1"
-    ∷ printed (gate of-3 4 3 3) "unproved rule 13 step 0 clause 4 pair 0 event 49 place 1"
+    ∷ printed (gate of_1 4 1 1) "unproved rule 13 step 0 clause 4 pair 0 event 17 place 1"
+    ∷ printed (gate of_3 4 3 3) "unproved rule 13 step 0 clause 4 pair 0 event 49 place 1"
     -- conditions that are not exchanged
-    ∷ printed (gate of-0 2 1 1) "unproved rule 11 step 0 clause 4 pair 0 event 16 place 1"
+    ∷ printed (gate of_0 2 1 1) "unproved rule 11 step 0 clause 4 pair 0 event 16 place 1"
     -- 26 at the call
-    ∷ printed (gate of-1 2 4 1) "refused 26 at 84"
-    ∷ printed (gate of-1 2 1 4) "refused 26 at 92"
+    ∷ printed (gate of_1 2 4 1) "refused 26 at 84"
+    ∷ printed (gate of_1 2 1 4) "refused 26 at 92"
     ∷ []
 
 gates-print : AsPrinted four gates
@@ -97,7 +97,7 @@ unfolding gates gate verdict_of line
 gates-print = refl
 
 -- "The two-channel instrument still gives 2 for both kinds": at the first call, and at the first leaf of 8 bytes
-gates-on-large : AsPrinted large (printed (gate of-1 2 1 1) "refused 2 at 84" ∷ printed (gate of-3 2 3 3) "refused 2 at 14" ∷ [])
+gates-on-large : AsPrinted large (printed (gate of_1 2 1 1) "refused 2 at 84" ∷ printed (gate of_3 2 3 3) "refused 2 at 14" ∷ [])
 unfolding gate verdict_of line
 gates-on-large = refl
 

@@ -15,7 +15,7 @@ use Rattle.sheet.specs.Sheet.{Outcome, normal, failed}
 use Rattle.sheet.specs.Decode.{sheet_of}
 use Rattle.sheet.proofs.Each.{each-head, each_tail}
 use Rattle.runs.specs.Rules.{rules, count}
-use Rattle.runs.specs.Runs.{Move, return, by-step, run, Safe}
+use Rattle.runs.specs.Runs.{Move, return, by_step, run, Safe}
 use Rattle.verdict.specs.Verdict.{Report, accepted, certificates_needed, verdict_of}
 use Rattle.verdict.specs.Promise.{done, bare, certified, Loads}
 use Rattle.verdict.proofs.Parts.{record_of, one, two, three, ones, all_empty, with_primitive, method16}
@@ -65,16 +65,16 @@ is-accepted = refl
 
 -- a run that opens and closes, and one that fails to open
 abbrev opens : List Move
-opens = by-step 0 normal (0 ∷ []) ∷ by-step 1 normal [] ∷ return normal ∷ []
+opens = by_step 0 normal (0 ∷ []) ∷ by_step 1 normal [] ∷ return normal ∷ []
 
 abbrev fails : List Move
-fails = by-step 0 failed [] ∷ return normal ∷ []
+fails = by_step 0 failed [] ∷ return normal ∷ []
 
 -- both end; what each call returned with, the last first
 record Ends (ms : List Move) (raised : Word) (outcomes : List Outcome) : Type 0 where
   ends : (run (sheet_of large gate) 0 ms).ended ≡ true
   history : (run (sheet_of large gate) 0 ms).history ≡ raised
-  returned : map (λ r. r.outcome) (run (sheet_of large gate) 0 ms).returned-calls ≡ outcomes
+  returned : map (λ r. r.outcome) (run (sheet_of large gate) 0 ms).returned_calls ≡ outcomes
 
 both_end : Ends opens (0 ∷ 1 ∷ []) (normal ∷ normal ∷ []) × Ends fails [] (normal ∷ failed ∷ [])
 unfolding gate sheet_of run
@@ -88,11 +88,11 @@ is-safe = (loads large gate (omega arith) (are-bytes gate tt)).sound 18 is-accep
 -- what followed the primitive is what its outcome asks: 1 where it opened, nothing where it failed
 closed_after : Holds (leaf 2) (1 ∷ [])
 unfolding gate sheet_of run
-closed_after = each-head (each_tail ((is-safe opens).ended-well refl))
+closed_after = each-head (each_tail ((is-safe opens).ended_well refl))
 
 nothing-after : Holds empty []
 unfolding gate sheet_of run
-nothing-after = each-head (each_tail ((is-safe fails).ended-well refl))
+nothing-after = each-head (each_tail ((is-safe fails).ended_well refl))
 
 -- The second half of demand 3 --------------------------------------------------------------------------------------------------
 
@@ -108,8 +108,8 @@ pub call-premises : Premises large (all_empty with_primitive (ones 12))
 unfolding sheet_of rules certificates_needed
 call-premises =
     record {
-      well-formed = record { reading = _; read = refl; enough = refl };
-      true-rules =
+      well_formed = record { reading = _; read = refl; enough = refl };
+      true_rules =
           cons refl (cons refl (cons in_itself (cons refl (cons in_itself (cons in_itself
           (cons in_itself (cons joined_in (cons joined_in (cons in_itself (cons joined_in
           (cons joined_in (cons joined_in (cons in_itself (cons joined_in nil))))))))))))));
@@ -124,8 +124,8 @@ pub method-premises : Premises large (all_empty method16 (ones 5))
 unfolding sheet_of rules certificates_needed
 method-premises =
     record {
-      well-formed = record { reading = _; read = refl; enough = refl };
-      true-rules = cons refl (cons refl (cons in_itself (cons refl (cons in_itself (cons in_itself (cons in_itself (cons in_itself (cons refl nil))))))));
+      well_formed = record { reading = _; read = refl; enough = refl };
+      true_rules = cons refl (cons refl (cons in_itself (cons refl (cons in_itself (cons in_itself (cons in_itself (cons in_itself (cons refl nil))))))));
       exact =
           bare tt (bare tt (certified empty-is-exact (bare tt (certified empty-is-exact (certified empty-is-exact
           (certified empty-is-exact (certified empty-is-exact (bare tt done))))))));
@@ -134,20 +134,20 @@ method-premises =
 -- so whatever keeps the promise accepts them, with the count
 promised-call : {answer : Report} → Loads large (all_empty with_primitive (ones 12)) answer → answer ≡ accepted 15
 unfolding sheet_of count
-promised-call l = l.complete call-premises.well-formed call-premises.true-rules call-premises.exact
+promised-call l = l.complete call-premises.well_formed call-premises.true_rules call-premises.exact
 
 promised-method : {answer : Report} → Loads large (all_empty method16 (ones 5)) answer → answer ≡ accepted 9
 unfolding sheet_of count
-promised-method l = l.complete method-premises.well-formed method-premises.true-rules method-premises.exact
+promised-method l = l.complete method-premises.well_formed method-premises.true_rules method-premises.exact
 
 -- Loaders that do not test 22 or 24 ----------------------------------------------------------------------------------------------
 
 -- method 0 fails at once, and its failed trace lacks the empty word
 without-22 : (n : ℕ) → Loads large wrong_trace (accepted n) → ⊥
 unfolding sheet_of run accepts
-without-22 n l = (words (leaf 1) []).1 (each-head (l.sound n refl (return failed ∷ [])).raised-well)
+without-22 n l = (words (leaf 1) []).1 (each-head (l.sound n refl (return failed ∷ [])).raised_well)
 
 -- method 0 fails at once, which "ends the run", and its failed future lacks the empty word
 without-24 : (n : ℕ) → Loads large wrong_future (accepted n) → ⊥
 unfolding sheet_of run accepts
-without-24 n l = (words (leaf 1) []).1 (each-head ((l.sound n refl (return failed ∷ [])).ended-well refl))
+without-24 n l = (words (leaf 1) []).1 (each-head ((l.sound n refl (return failed ∷ [])).ended_well refl))

@@ -7,7 +7,7 @@ use Prim.Native.Nat.{ℕ}
 use lib.ListN.{take}
 use Rattle.sheet.specs.Model.{large, entry, with_kinds}
 use Rattle.verdict.specs.Verdict.{verdict_of}
-use Rattle.verdict.specs.WordTest.{held, not-held, untested, word_test}
+use Rattle.verdict.specs.WordTest.{held, not_held, untested, word_test}
 use Rattle.verdict.specs.Line.{line}
 use Rattle.verdict.specs.Cases.{point0, method0, M, W}
 use Rattle.verdict.proofs.Parts.{Printed, printed, AsPrinted, record_of, ones, all_empty, with_primitive}
@@ -141,7 +141,7 @@ refusals-on-entry = refl
 words-tested : (word_test large (new (new W)) 5 [] ≡ untested 19 (some 1))
     × (word_test large old_stop 5 [] ≡ untested 20 (some 20))
     × (word_test large (new W) 0 (2 ∷ []) ≡ held)
-    × (word_test large (new W) 0 (0 ∷ 2 ∷ []) ≡ not-held 0)
+    × (word_test large (new W) 0 (0 ∷ 2 ∷ []) ≡ not_held 0)
 unfolding word_test
 words-tested = (refl, refl, refl, refl)
 

@@ -12,11 +12,11 @@ use Rattle.condition.specs.Places.{accepts}
 use Rattle.condition.proofs.Words.{words}
 use Rattle.sheet.specs.Model.{large}
 use Rattle.sheet.specs.Each.{nil, cons}
-use Rattle.sheet.specs.Sheet.{normal, point_from, event-step, call_from, stop_step, Sheet}
+use Rattle.sheet.specs.Sheet.{normal, point_from, event_step, call_from, stop_step, Sheet}
 use Rattle.sheet.specs.Decode.{sheet_of}
 use Rattle.sheet.proofs.Each.{each-head, each_tail}
 use Rattle.runs.specs.Rules.{rules, count}
-use Rattle.runs.specs.Runs.{State, Move, return, by-step, run, Safe}
+use Rattle.runs.specs.Runs.{State, Move, return, by_step, run, Safe}
 use Rattle.runs.specs.Owing.{Owing}
 use Rattle.runs.proofs.Methods.{primitive, with_body}
 use Rattle.verdict.specs.Verdict.{Report, accepted, certificates_needed, verdict_of}
@@ -92,7 +92,7 @@ sheet due stop = record {
   conditions = empty ∷ leaf 1 ∷ either empty (leaf 1) ∷ [];
   points = point_from 0 0 1 ∷ point_from 1 1 0 ∷ point_from 0 0 due ∷ [];
   methods = with_body 0 1 0 0 1 ∷ primitive 0 0 1 ∷ primitive 0 0 2 ∷ with_body 0 1 0 2 1 ∷ [];
-  steps = call_from 0 0 1 ∷ call_from 0 1 3 ∷ call_from 2 2 2 ∷ event-step 2 1 0 ∷ stop_step stop ∷ [];
+  steps = call_from 0 0 1 ∷ call_from 0 1 3 ∷ call_from 2 2 2 ∷ event_step 2 1 0 ∷ stop_step stop ∷ [];
   certificates = (sheet_of large (gate due stop)).certificates;
   new = true;
 }
@@ -112,27 +112,27 @@ after ms = run (sheet 1 1) 0 ms
 
 -- a run that stops in method 3, and one that stops in method 0 after that has returned
 abbrev to_closed : List Move
-to_closed = by-step 0 normal [] ∷ by-step 1 normal [] ∷ by-step 2 normal [] ∷ by-step 3 normal [] ∷ []
+to_closed = by_step 0 normal [] ∷ by_step 1 normal [] ∷ by_step 2 normal [] ∷ by_step 3 normal [] ∷ []
 
 abbrev inside : List Move
-inside = to_closed ++ (by-step 4 normal [] ∷ [])
+inside = to_closed ++ (by_step 4 normal [] ∷ [])
 
 abbrev outside : List Move
-outside = to_closed ++ (return normal ∷ by-step 4 normal [] ∷ [])
+outside = to_closed ++ (return normal ∷ by_step 4 normal [] ∷ [])
 
 -- both end, at point 1; the methods of the calls that are open and of those that returned
 record Ends (ms : List Move) (still_Open returned : List ℕ) : Type 0 where
   ends : (after ms).ended ≡ true
   history : (after ms).history ≡ 0 ∷ []
   point : (after ms).point ≡ 1
-  open-methods : map (λ c. c.method) (after ms).open-calls ≡ still_Open
-  returned-methods : map (λ r. r.call.method) (after ms).returned-calls ≡ returned
+  open_methods : map (λ c. c.method) (after ms).open_calls ≡ still_Open
+  returned_methods : map (λ r. r.call.method) (after ms).returned_calls ≡ returned
 
 both_end : Ends inside (3 ∷ 0 ∷ []) (2 ∷ 1 ∷ []) × Ends outside (0 ∷ []) (3 ∷ 2 ∷ 1 ∷ [])
 unfolding run
 both_end = (
-  record { ends = refl; history = refl; point = refl; open-methods = refl; returned-methods = refl },
-  record { ends = refl; history = refl; point = refl; open-methods = refl; returned-methods = refl },
+  record { ends = refl; history = refl; point = refl; open_methods = refl; returned_methods = refl },
+  record { ends = refl; history = refl; point = refl; open_methods = refl; returned_methods = refl },
 )
 
 -- after it no move changes anything: a return, which could be made before the stop
@@ -154,7 +154,7 @@ is-owed ms = subst (λ (S : Sheet). Owing S (run S 0 ms)) all-stand-for.0 (promi
 -- At the stop in method 3, which is still open: what followed the call that its caller made is in that call's future,
 closed-at-stop : Holds (leaf 1) (0 ∷ [])
 unfolding run
-closed-at-stop = each-head (each_tail ((is-safe inside).ended-well refl))
+closed-at-stop = each-head (each_tail ((is-safe inside).ended_well refl))
 
 -- and of the call that it made itself request 12 says so with any word of the due there
 owed-at-stop : (v : Word) → Holds empty v → Holds (either empty (leaf 1)) (0 ∷ v)
@@ -185,9 +185,9 @@ unfolding early verdict_of
 early-accepted = refl
 
 -- it stops at once: the run has ended, with method 0 open, and what method 0 raised is no word of its trace
-stops-early : ((run (sheet_of large early) 0 (by-step 1 normal [] ∷ [])).ended ≡ true)
-    × (map (λ c. c.method) (run (sheet_of large early) 0 (by-step 1 normal [] ∷ [])).open-calls ≡ 0 ∷ [])
-    × (Holds (leaf 1) (run (sheet_of large early) 0 (by-step 1 normal [] ∷ [])).history → ⊥)
+stops-early : ((run (sheet_of large early) 0 (by_step 1 normal [] ∷ [])).ended ≡ true)
+    × (map (λ c. c.method) (run (sheet_of large early) 0 (by_step 1 normal [] ∷ [])).open_calls ≡ 0 ∷ [])
+    × (Holds (leaf 1) (run (sheet_of large early) 0 (by_step 1 normal [] ∷ [])).history → ⊥)
 unfolding early sheet_of run accepts
 stops-early = (refl, refl, λ h. (words (leaf 1) []).1 h)
 
@@ -198,8 +198,8 @@ pub stop-premises : Premises large (new (all_empty (method0 0 ++ (call 0 ++ stop
 unfolding sheet_of rules certificates_needed
 stop-premises =
     record {
-      well-formed = record { reading = _; read = refl; enough = refl };
-      true-rules =
+      well_formed = record { reading = _; read = refl; enough = refl };
+      true_rules =
           cons refl (cons refl (cons in_itself (cons refl (cons in_itself (cons in_itself
           (cons in_itself (cons joined_in (cons joined_in (cons in_itself (cons joined_in (cons in_itself
           (cons refl nil))))))))))));
@@ -212,17 +212,17 @@ stop-premises =
 -- so whatever keeps the promise accepts it, with the count
 promised-stop : {answer : Report} → Loads large (new (all_empty (method0 0 ++ (call 0 ++ stop_at 0)) (ones 9))) answer → answer ≡ accepted 13
 unfolding sheet_of count
-promised-stop l = l.complete stop-premises.well-formed stop-premises.true-rules stop-premises.exact
+promised-stop l = l.complete stop-premises.well_formed stop-premises.true_rules stop-premises.exact
 
 -- Loaders that do not test 25 or 26 ----------------------------------------------------------------------------------------------
 
 -- method 3 stops at its entry, and nothing followed the call that asks for 0: with the due 1 there 25 is false, with the due 2 there 26
 abbrev at_entry : List Move
-at_entry = by-step 0 normal [] ∷ by-step 1 normal [] ∷ by-step 4 normal [] ∷ []
+at_entry = by_step 0 normal [] ∷ by_step 1 normal [] ∷ by_step 4 normal [] ∷ []
 
 not-safe : (due : ℕ) → Safe (sheet due 2) (run (sheet due 2) 0 at_entry) → ⊥
 unfolding run accepts
-not-safe due h = (words (leaf 1) []).1 (each-head (h.ended-well refl))
+not-safe due h = (words (leaf 1) []).1 (each-head (h.ended_well refl))
 
 without-25 : (n : ℕ) → Loads large (gate 1 2) (accepted n) → ⊥
 without-25 n l = not-safe 1 (subst (λ (S : Sheet). Safe S (run S 0 at_entry)) all-stand-for.1 (l.sound n refl at_entry))

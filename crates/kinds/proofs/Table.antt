@@ -6,14 +6,14 @@ use Prim.Native.Nat.{ℕ, suc, ◌+◌, ◌≤◌, ◌<◌}
 use native.Mathlib.Omega.{arith}
 use lib.Dec.{T, eqb, ltb, lit≤}
 use borrow.Author.Tests.{le-ltb, eqb-true, eqb-false, ne_eqb}
-use Rattle.sheet.specs.Kind.{conditions, points, methods, steps, certificates, a-set, a-long-set, a-place, Role, symbol, a_pair, counts, edition, Kind, a-kind, kinds, kind_of, section_of, widths, body_length}
+use Rattle.sheet.specs.Kind.{conditions, points, methods, steps, certificates, a-set, a-long-set, a-place, Role, symbol, a_pair, counts, edition, Kind, a_kind, kinds, kind_of, section_of, widths, body_length}
 use Rattle.sheet.specs.Reading.{in_condition, all_exist}
 use Rattle.sheet.proofs.Kind.{◌and◌, Numbered, numbered}
 use Rattle.kinds.specs.Kinds.{last_kind, counts_one, takes_items, primitive_kind, body_kind}
 
 -- P k of the row of each kind k
-pub by_rows : (P : ℕ → Kind → Type 0) → Numbered P kinds (a-kind 0 counts []) → (k : ℕ) → P k (kind_of k)
-by_rows P rows = numbered P kinds (a-kind 0 counts []) rows
+pub by_rows : (P : ℕ → Kind → Type 0) → Numbered P kinds (a_kind 0 counts []) → (k : ℕ) → P k (kind_of k)
+by_rows P rows = numbered P kinds (a_kind 0 counts []) rows
 
 -- Body lengths and sections -------------------------------------------------------------------------------------------
 
@@ -163,7 +163,7 @@ not_body k = neither-method 9 16 k refl refl
 pub names-nothing : (events : ℕ) (counted : ℕ → ℕ) (k : ℕ) → (2 ≤ section_of k → section_of k ≤ 4 → ⊥) → (vs : List ℕ) → all_exist events counted (kind_of k).fields vs ≡ true
 names-nothing events counted =
     by_rows (λ k x. (2 ≤ x.section → x.section ≤ 4 → ⊥) → (vs : List ℕ) → all_exist events counted x.fields vs ≡ true)
-    (none and (λ h. a-leaf) and none and none and none and none and none
+    (none and (λ h. a_leaf) and none and none and none and none and none
     and (λ h. named (h (lit≤ tt) (lit≤ tt))) and (λ h. named (h (lit≤ tt) (lit≤ tt))) and (λ h. named (h (lit≤ tt) (lit≤ tt)))
     and (λ h. named (h (lit≤ tt) (lit≤ tt))) and (λ h. named (h (lit≤ tt) (lit≤ tt))) and (λ h. named (h (lit≤ tt) (lit≤ tt)))
     and (λ h. pair-fields) and none
@@ -177,9 +177,9 @@ names-nothing events counted =
     named : {A : Type 0} → ⊥ → A
     named h = absurd h
 
-    a-leaf : (vs : List ℕ) → all_exist events counted (a-set ∷ []) vs ≡ true
-    a-leaf [] = refl
-    a-leaf (v ∷ vs) = refl
+    a_leaf : (vs : List ℕ) → all_exist events counted (a-set ∷ []) vs ≡ true
+    a_leaf [] = refl
+    a_leaf (v ∷ vs) = refl
 
     a-long-leaf : (vs : List ℕ) → all_exist events counted (a-long-set ∷ []) vs ≡ true
     a-long-leaf [] = refl
@@ -187,4 +187,4 @@ names-nothing events counted =
 
     pair-fields : (vs : List ℕ) → all_exist events counted (a-place ∷ a-set ∷ []) vs ≡ true
     pair-fields [] = refl
-    pair-fields (v ∷ vs) = a-leaf vs
+    pair-fields (v ∷ vs) = a_leaf vs

@@ -5,7 +5,7 @@ use mathlib.Core.List.{List, ◌++◌, append_assoc, append-nil}
 use Prim.Native.Nat.{ℕ}
 use Rattle.certificate.specs.Certificate.{Fault}
 use Rattle.verdict.specs.Verdict.{accepted, refused, unproved}
-use Rattle.verdict.specs.WordTest.{held, not-held, untested}
+use Rattle.verdict.specs.WordTest.{held, not_held, untested}
 use Rattle.verdict.specs.Line.{ascii, decimal, subject_name, refused_line, line, answer_line}
 use Rattle.text.specs.Put.{Put}
 use Rattle.text.proofs.Put.{then}
@@ -22,7 +22,7 @@ pub yes-line : answer_line held ≡ ascii "yes"
 unfolding answer_line
 yes-line = refl
 
-pub no_line : (n : ℕ) → answer_line (not-held n) ≡ ascii "no " ++ decimal n
+pub no_line : (n : ℕ) → answer_line (not_held n) ≡ ascii "no " ++ decimal n
 unfolding answer_line
 no_line n = ap (λ (d : List ℕ). ascii "no " ++ d) (append-nil (decimal n))
 

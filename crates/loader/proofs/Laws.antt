@@ -30,7 +30,7 @@ use Rattle.reader.specs.Contract.{last_state, Refuses, ReadWhole, TablesFilled}
 use Rattle.index.specs.Trial.{try_rules, report_on}
 use Rattle.index.specs.Indexed.{Indexes}
 use Rattle.index.proofs.Verdict.{verdict-refused, verdict-miscounted, verdict-tried, chained-from}
-use Rattle.read_tables.proofs.Filled.{methods-are, steps-are, certificates-are, indexed}
+use Rattle.read_tables.proofs.Filled.{methods_are, steps_are, certificates_are, indexed}
 use Rattle.rules.specs.Order.{SheetIn}
 use Rattle.trial.specs.Tested.{Tries, trial_of}
 use Rattle.trial.specs.declared.Tested.{Tested}
@@ -41,11 +41,11 @@ module _ {M : Model} {s : List ℕ} {c : Contents} (t : ReadWhole M s c) where
   S = sheet_of M s
 
   pub sheet-in : {cs ps ms ts : List ℕ} → Indexes S s cs ps ms ts → SheetIn S s cs ps ms ts (record { methods = c.tally.methods; steps = c.tally.steps })
-  sheet-in x = record { indexes = x; methods-are = methods-are t; steps-are = steps-are t }
+  sheet-in x = record { indexes = x; methods_are = methods_are t; steps_are = steps_are t }
 
   -- 10
   pub miscounted : (c.tally.certificates ≡ certificates_needed (rules S) → ⊥) → refused 10 (some (length s)) ≡ verdict_of M s
-  miscounted n = sym (verdict-miscounted M s _ t.result (λ e. n (certificates-are t ∙ e)))
+  miscounted n = sym (verdict-miscounted M s _ t.result (λ e. n (certificates_are t ∙ e)))
 
   module _ (enough : c.tally.certificates ≡ certificates_needed (rules S)) {got : Tested} (tries : Tries M.events s (rules S) c.certificates got) where
     -- what the trial of the rules comes to
@@ -54,9 +54,9 @@ module _ {M : Model} {s : List ℕ} {c : Contents} (t : ReadWhole M s c) where
         let (from, end, chain) = certificates-chained M s _ t.result in
         let (end, chain) = chained-from chain (length s) in
         sym (ap (λ (x : Tested). report_on (accepted (count S)) (trial_of x)) is)
-        ∙ ap (report_on (accepted (count S))) tries.comes-to
+        ∙ ap (report_on (accepted (count S))) tries.comes_to
         ∙ ap (λ (q : ℕ). report_on (accepted (count S)) (try_rules M.events s (rules S) q)) t.certificates
-        ∙ sym (verdict-tried M s _ t.result end _ chain (sym (certificates-are t) ∙ enough))
+        ∙ sym (verdict-tried M s _ t.result end _ chain (sym (certificates_are t) ∙ enough))
 
     pub accepted-by : {at : ℕ} → got ≡ Passed at → (n : ℕ) → n ≡ length (rules S) → accepted n ≡ verdict_of M s
     accepted-by is n e = ap (λ (n : ℕ). accepted n) (e ∙ counted S) ∙ judged-by (Passed _) is
@@ -76,7 +76,7 @@ module _ (i : Instrument) {s : List ℕ} where
   -- the tables of an instrument's reading
   pub indexed-on : {c : Contents} → ReadWhole (model_of i) s c → {cs cs' ps ps' ms ms' ts ts' : List ℕ} → TablesFilled cs cs' ps ps' ms ms' ts ts' (last_state (model_of i) s).own
       → length cs ≡ 256 → (model_of i).points ≤ length ps → length ms ≡ 64 → length ts ≡ 512 → Indexes (sheet_of (model_of i) s) s cs' ps' ms' ts'
-  indexed-on t w a b d e = indexed t w a b d e (instrument-fits i).few-events
+  indexed-on t w a b d e = indexed t w a b d e (instrument-fits i).few_events
 
   -- the definition's answer keeps the promise
   pub keeps : Bytes s → {r : Report} → r ≡ verdict_of (model_of i) s → Loads (model_of i) s r

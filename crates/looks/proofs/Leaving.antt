@@ -52,8 +52,8 @@ module _ (m onward : ℕ) (sets : List ℕ) (place t missers : ℕ) (rows : List
     pub left-off : (has missers place && eqb (bit_and t onward) t) ≡ false → Left m onward sets (pair place t) missers rows missers rows
     left-off h = record {
       rows_long = long;
-      missers-small = small;
-      missers-among = λ q t. t;
+      missers_small = small;
+      missers_among = λ q t. t;
       left_is = λ q e. keep-test (misses missers rows q e) (eqb place q) (serving m onward sets t e)
           (λ z. off-test (has missers q) (eqb (bit_and t onward) t) (row_has rows q e) (all_hold m sets t e)
           (ap (λ (k : ℕ). has missers k && eqb (bit_and t onward) t) (sym (eqb→eq place q z)) ∙ h));
@@ -65,8 +65,8 @@ module _ (m onward : ℕ) (sets : List ℕ) (place t missers : ℕ) (rows : List
           → Left m onward sets (pair place t) missers rows (bit_xor missers gone) (set rows place left)
       left-row {one} {gone} here one-is gone-is = record {
         rows_long = length-set rows place left ∙ long;
-        missers-small = lt-has 64 (bit_xor missers gone) (λ k t. has-lt 64 missers k small (still k t));
-        missers-among = still;
+        missers_small = lt-has 64 (bit_xor missers gone) (λ k t. has-lt 64 missers k small (still k t));
+        missers_among = still;
         left_is = λ q e.
             ap₂ (λ (x y : Bool). x && y) (missers-are q) (row-set rows place left (let l = number_lt small here in omega arith) q e)
             ∙ by q e (eqb q place) refl;

@@ -17,9 +17,9 @@ serves m onward sets q e p = eqb p.place q && serving m onward sets p.set e
 
 -- what a search goes by: how many pairs c has, and the rows that are kept of c
 pub record Searched (c : Certificate) (x : Scope) (rsets rows : List ℕ) : Type 0 where
-  pub count-is : x.count ≡ length c
-  pub few-right : x.m ≤ 64
-  pub kept-is : Surveyed c x.m rsets rows
+  pub count_is : x.count ≡ length c
+  pub few_right : x.m ≤ 64
+  pub kept_is : Surveyed c x.m rsets rows
 
 -- place q misses the event e: it is one of the places `missers`, and its row has e. Rows of other places say nothing.
 abbrev pub misses : ℕ → List ℕ → ℕ → ℕ → Bool
@@ -38,6 +38,6 @@ pub record Takes (onward missers : ℕ) (p : Pair) : Type 0 where
 -- what the pair p leaves: the events that are missing still are those that it does not serve
 pub record Left (m onward : ℕ) (sets : List ℕ) (p : Pair) (missers : ℕ) (rows : List ℕ) (missers' : ℕ) (rows' : List ℕ) : Type 0 where
   pub rows_long : length rows' ≡ 64
-  pub missers-small : missers' < 2 ^ 64
-  pub missers-among : (q : ℕ) → T (has missers' q) → T (has missers q)
+  pub missers_small : missers' < 2 ^ 64
+  pub missers_among : (q : ℕ) → T (has missers' q) → T (has missers q)
   pub left_is : (q e : ℕ) → misses missers' rows' q e ≡ (misses missers rows q e && not (serves m onward sets q e p))

@@ -12,14 +12,14 @@ use Rattle.matching.specs.Holding.{HoldingFirst}
 
 module _ {S : List ℕ} {n : ℕ} {w : List ℕ} where
   pub holding-none : {H : List ℕ} → length H ≡ 64 → HoldingFirst S n w 0 H
-  holding-none l = record { rows_long = l; first-is = λ j q k. absurd (omega (arith, k)) }
+  holding-none l = record { rows_long = l; first_is = λ j q k. absurd (omega (arith, k)) }
 
   -- the leaves that hold the next event are put in its row
   pub holding-more : {H : List ℕ} {i e : ℕ} (x : ℕ) → HoldingFirst S n w i H → e ≡ get_or w i 0 → e < 64
       → ((q : ℕ) → 0 < q → q ≤ n → has x q ≡ row_has S q e) → HoldingFirst S n w (i + 1) (set H e x)
   holding-more {H} {i} {e} x h same small x-is = record {
     rows_long = length-set H e x ∙ h.rows_long;
-    first-is = λ j q k a b. go j q k a b (ℕ_discrete (get_or w j 0) e);
+    first_is = λ j q k a b. go j q k a b (ℕ_discrete (get_or w j 0) e);
   }
     where
       go : (j q : ℕ) → j < i + 1 → 0 < q → q ≤ n → Dec (get_or w j 0 ≡ e) → row_has (set H e x) (get_or w j 0) q ≡ row_has S q (get_or w j 0)
@@ -29,7 +29,7 @@ module _ {S : List ℕ} {n : ℕ} {w : List ℕ} where
           ∙ x-is q a b
           ∙ ap (λ (y : ℕ). row_has S q y) (sym it)
       go j q k a b (no other) =
-          ap (λ (y : ℕ). has y q) (get_or-set_other H e (get_or w j 0) x 0 other) ∙ h.first-is j q (earlier (dec_lt j i)) a b
+          ap (λ (y : ℕ). has y q) (get_or-set_other H e (get_or w j 0) x 0 other) ∙ h.first_is j q (earlier (dec_lt j i)) a b
         where
           earlier : Dec (j < i) → j < i
           earlier (yes l) = l
@@ -37,4 +37,4 @@ module _ {S : List ℕ} {n : ℕ} {w : List ℕ} where
 
   -- the rows of all events below m have those of the word
   pub holding-all : {H : List ℕ} {m : ℕ} → ((i : ℕ) → i < length w → get_or w i 0 < m) → Holding S n m H → HoldingFirst S n w (length w) H
-  holding-all below h = record { rows_long = h.holding-rows; first-is = λ j q k. h.holding-is (get_or w j 0) q (below j k) }
+  holding-all below h = record { rows_long = h.holding_rows; first_is = λ j q k. h.holding_is (get_or w j 0) q (below j k) }

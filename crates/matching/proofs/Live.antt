@@ -36,7 +36,7 @@ module _ {r : Condition} {side : Side} {F S : List ℕ} (t : Tables r side F S) 
   pub none_found : Found r S (side.leaves + 1) side.ends 0
   unfolding places
   none_found =
-      let n = t.leaves-is in
+      let n = t.leaves_is in
       let none-live : (k : ℕ) → side.leaves + 1 ≤ k → live r k ≡ false =
       λ k l. T_false (live r k) (λ h. let i = live-place r k h in omega arith) in
       record {
@@ -70,10 +70,10 @@ module _ {r : Condition} {side : Side} {F S : List ℕ} (t : Tables r side F S) 
         here-or p
         ∙ ap₂ (λ (a b : Bool). a || (onward && b)) (f.not_yet p (omega arith)) (eq-eqb p p refl)
         ∙ ap (λ (b : Bool). ends r p || b) (and-true onward)
-        ∙ live-by-right r p (get_or F p 0) y (omega (arith, f.at_most)) (λ q. t.follow-is p q (omega (arith, f.at_most)))
+        ∙ live-by-right r p (get_or F p 0) y (omega (arith, f.at_most)) (λ q. t.follow_is p q (omega (arith, f.at_most)))
         (λ q less l.
         f.entered q
-        ∙ ap₂ (λ (a : Bool) (s : ℕ). a && (not (eqb s 0) && live r q)) (le-leb (suc p) q less) (t.sets-is q (omega arith) l))
+        ∙ ap₂ (λ (a : Bool) (s : ℕ). a && (not (eqb s 0) && live r q)) (le-leb (suc p) q less) (t.sets_is q (omega arith) l))
         (λ q h. leb→le (suc p) q (and-out (leb (suc p) q) (enters r S q) (rw (f.entered q) at h)).0)
 
     elsewhere : (k : ℕ) → (k ≡ p → ⊥) → has with_here k ≡ has x k

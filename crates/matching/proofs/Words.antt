@@ -31,15 +31,15 @@ module _ {r : Condition} {side : Side} {F S H w : List ℕ} (t : Tables r side F
       → bit_and u (get_or H x 0) ≡ (step r s (get_or w i 0)).set
   unfolding places leaf_holds
   stepped s u i x same l f =
-      let n = t.leaves-is in
+      let n = t.leaves_is in
       let k : side.leaves + 1 ≡ suc (leaves r) = omega arith in
       ap (λ (k : ℕ). bit_and u (get_or H k 0)) same
       ∙ step-mask r s (get_or w i 0) u (get_or H (get_or w i 0) 0)
       (λ q.
       f q
       ∙ ap (λ (x : ℕ). any_below x (λ p. has s p && has (get_or F p 0) q)) k
-      ∙ any-cong (suc (leaves r)) _ _ (λ p i. ap (λ (x : Bool). has s p && x) (t.follow-is p q (le_of_suc-le-suc i))))
-      (λ q a b. h.first-is i q l a (omega arith) ∙ ap (λ (x : ℕ). has x (get_or w i 0)) (t.sets-is q a b))
+      ∙ any-cong (suc (leaves r)) _ _ (λ p i. ap (λ (x : Bool). has s p && x) (t.follow_is p q (le_of_suc-le-suc i))))
+      (λ q a b. h.first_is i q l a (omega arith) ∙ ap (λ (x : ℕ). has x (get_or w i 0)) (t.sets_is q a b))
 
 -- the answer, by yes or no and the longest beginning
 matched-no : (r : Condition) (w : List ℕ) (n : ℕ) → accepts r w ≡ false → longest r w ≡ n → No n ≡ matched r w

@@ -71,7 +71,7 @@ pub fn body_claim(
     k: usize,
 ) -> Asked
     ensures { (s : List ℕ) (S : Sheet) (starts : List ℕ) (b : sheet.Body) → first ≡ is_among starts m → StandsAt s pre (sheet.pre S m) →
-        PointIs s S b.entry entry → WayIs s S m sheet.normal b.exit exit → FailingIs s S m b.failed-exit failed →
+        PointIs s S b.entry entry → WayIs s S m sheet.normal b.exit exit → FailingIs s S m b.failed_exit failed →
         Kth s (method_rules S starts m (some b)) k result }
 {
     if k == 0 {

@@ -7,7 +7,7 @@ use native.Mathlib.Omega.{arith}
 use lib.ListN.{get_or}
 use lib.Dec.{ltb, eqb}
 use borrow.Author.Tests.{ne_eqb}
-use Rattle.sheet.specs.Kind.{conditions, points, methods, steps, Field, a-name, an-event, an-owner, a-channel, kind_of, section_of}
+use Rattle.sheet.specs.Kind.{conditions, points, methods, steps, Field, a_name, an-event, an-owner, a-channel, kind_of, section_of}
 use Rattle.sheet.specs.Record.{byte_at, number_at, values_at, record_at}
 use Rattle.sheet_laws.specs.AtOffset.{short_at}
 use Rattle.sheet.specs.Reading.{all_exist}
@@ -45,16 +45,16 @@ module _ (s : List ℕ) (events : ℕ) (counted : ℕ → ℕ) where
   unfolding number_at
   byte-is i = omega arith
 
-  name-then : (k : ℕ) (fs : List Field) (i : ℕ) → All (a-name k ∷ fs) i ≡ (ltb (short_at s i) (counted k) && All fs (i + 2))
+  name-then : (k : ℕ) (fs : List Field) (i : ℕ) → All (a_name k ∷ fs) i ≡ (ltb (short_at s i) (counted k) && All fs (i + 2))
   unfolding values_at
   name-then k fs i = ap (λ (v : ℕ). ltb v (counted k) && All fs (i + 2)) (short-is i)
 
   -- one name, two names and an event at the end of a body
-  name-last : (k i : ℕ) → All (a-name k ∷ []) i ≡ ltb (short_at s i) (counted k)
+  name-last : (k i : ℕ) → All (a_name k ∷ []) i ≡ ltb (short_at s i) (counted k)
   name-last k i = name-then k [] i ∙ and-true (ltb (short_at s i) (counted k))
 
   -- .. and one name in front of a channel, which is not judged
-  name-then-channel : (k i : ℕ) → All (a-name k ∷ a-channel ∷ []) i ≡ ltb (short_at s i) (counted k)
+  name-then-channel : (k i : ℕ) → All (a_name k ∷ a-channel ∷ []) i ≡ ltb (short_at s i) (counted k)
   unfolding values_at
   name-then-channel k i = name-then k (a-channel ∷ []) i ∙ and-true (ltb (short_at s i) (counted k))
 
@@ -68,20 +68,20 @@ module _ (s : List ℕ) (events : ℕ) (counted : ℕ → ℕ) where
   owner-last true i = refl
   owner-last false i = refl
 
-  two_then : (k : ℕ) (fs : List Field) (i j : ℕ) → i + 4 ≡ j → All (a-name k ∷ a-name k ∷ fs) i ≡ (two_below s i (counted k) && All fs j)
+  two_then : (k : ℕ) (fs : List Field) (i j : ℕ) → i + 4 ≡ j → All (a_name k ∷ a_name k ∷ fs) i ≡ (two_below s i (counted k) && All fs j)
   two_then k fs i j e =
       let four : i + 2 + 2 ≡ j = omega arith in
-      name-then k (a-name k ∷ fs) i
+      name-then k (a_name k ∷ fs) i
       ∙ ap (λ (b : Bool). ltb (short_at s i) (counted k) && b) (name-then k fs (i + 2) ∙ ap (λ (j : ℕ). ltb (short_at s (i + 2)) (counted k) && All fs j) four)
       ∙ and_assoc (ltb (short_at s i) (counted k)) (ltb (short_at s (i + 2)) (counted k)) (All fs j)
 
-  three-then : (k : ℕ) (fs : List Field) (i j : ℕ) → i + 6 ≡ j → All (a-name k ∷ a-name k ∷ a-name k ∷ fs) i ≡ (three_below s i (counted k) && All fs j)
+  three-then : (k : ℕ) (fs : List Field) (i j : ℕ) → i + 6 ≡ j → All (a_name k ∷ a_name k ∷ a_name k ∷ fs) i ≡ (three_below s i (counted k) && All fs j)
   three-then k fs i j e =
-      name-then k (a-name k ∷ a-name k ∷ fs) i
+      name-then k (a_name k ∷ a_name k ∷ fs) i
       ∙ ap (λ (b : Bool). ltb (short_at s i) (counted k) && b) (two_then k fs (i + 2) j (omega arith))
       ∙ and_assoc (ltb (short_at s i) (counted k)) (two_below s (i + 2) (counted k)) (All fs j)
 
-  two-last : (k i : ℕ) → All (a-name k ∷ a-name k ∷ []) i ≡ two_below s i (counted k)
+  two-last : (k i : ℕ) → All (a_name k ∷ a_name k ∷ []) i ≡ two_below s i (counted k)
   two-last k i = two_then k [] i (i + 4) refl ∙ and-true (two_below s i (counted k))
 
 -- The fields of points, methods and steps, by the tests of the code ---------------------------------------------------
@@ -121,9 +121,9 @@ module _ {s : List ℕ} {at kind : ℕ} (w : Named s at kind) where
       pub exist-16 : kind ≡ 16 → {b c d ab cd r : Bool} → b ≡ two_below s (at + 7) t.points → ab ≡ (a && b)
           → c ≡ two_below s (at + 11) t.conditions → d ≡ ltb (short_at s (at + 15)) t.points → cd ≡ (c && d) → r ≡ (ab && cd) → r ≡ Exist events t
       exist-16 e {b} {cd} body first-five failed exit last-three all =
-          let rest = two_then s events (count_of t) 1 (a-name points ∷ []) (at + 11) (at + 15) (omega arith) in
+          let rest = two_then s events (count_of t) 1 (a_name points ∷ []) (at + 11) (at + 15) (omega arith) in
           let failing = both-are last-three failed (exit ∙ sym (name-last s events (count_of t) 2 (at + 15))) rest in
-          let behind = two_then s events (count_of t) 2 (a-name conditions ∷ a-name conditions ∷ a-name points ∷ []) (at + 7) (at + 11) (omega arith) in
+          let behind = two_then s events (count_of t) 2 (a_name conditions ∷ a_name conditions ∷ a_name points ∷ []) (at + 7) (at + 11) (omega arith) in
           declared-exist 16 e (both-are refl body failing behind) (all ∙ ap (λ (ab : Bool). ab && cd) first-five ∙ sym (and_assoc a b cd))
 
       pub exist-three : (kind ≡ 9 → ⊥) → (kind ≡ 15 → ⊥) → (kind ≡ 16 → ⊥) → a ≡ Exist events t
@@ -140,7 +140,7 @@ module _ {s : List ℕ} {at kind : ℕ} (w : Named s at kind) where
   module _ (late : steps ≤ section_of kind) where
     -- a stop
     pub exist-19 : kind ≡ 19 → (events : ℕ) (t : Tally) {r : Bool} → r ≡ ltb (short_at s (at + 1)) t.points → r ≡ Exist events t
-    exist-19 stops events t first = first ∙ sym (of_fields events t (a-name points ∷ []) (stop-fields w late stops) ∙ name-last s events (count_of t) 2 (at + 1))
+    exist-19 stops events t first = first ∙ sym (of_fields events t (a_name points ∷ []) (stop-fields w late stops) ∙ name-last s events (count_of t) 2 (at + 1))
 
     -- another step
     module _ (goes_on : kind ≡ 19 → ⊥) where
@@ -163,8 +163,8 @@ module _ {s : List ℕ} {at kind : ℕ} (w : Named s at kind) where
         exist-17 e {b} {c} target first_three method all =
             let seven : at + 5 + 2 ≡ at + 7 = omega arith in
             let last = name-last s events (count_of t) 3 (at + 7) in
-            let behind = name-then s events (count_of t) 2 (a-name methods ∷ []) (at + 5)
-            ∙ ap (λ (i : ℕ). ltb (short_at s (at + 5)) t.points && All s events (count_of t) (a-name methods ∷ []) i) seven in
+            let behind = name-then s events (count_of t) 2 (a_name methods ∷ []) (at + 5)
+            ∙ ap (λ (i : ℕ). ltb (short_at s (at + 5)) t.points && All s events (count_of t) (a_name methods ∷ []) i) seven in
             step-exist 17 e (both-are refl target (method ∙ sym last) behind) (all ∙ ap (λ (ab : Bool). ab && c) first_three ∙ sym (and_assoc a b c))
 
         pub exist-two : (kind ≡ 10 → ⊥) → (kind ≡ 11 → ⊥) → (kind ≡ 22 → ⊥) → (kind ≡ 17 → ⊥) → a ≡ Exist events t

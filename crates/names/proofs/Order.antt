@@ -43,8 +43,8 @@ module _ (events : ℕ) (s : List ℕ) (at kind : ℕ) (first : Bool) (t : Tally
         eighteen e18 = rw (sym named, not-false n e7, no-first e9, wrong e18)
 
         module _ (e18 : not f ≡ false) {o : Bool} (owned : o ≡ owners_fit s at kind t.methods points) where
-          pub twenty-four : not o ≡ true → Refused (WrongOwner at) ≡ judged
-          twenty-four e24 = rw (sym named, not-false n e7, no-first e9, wrong e18, sym owned, not-true o e24)
+          pub twenty_four : not o ≡ true → Refused (WrongOwner at) ≡ judged
+          twenty_four e24 = rw (sym named, not-false n e7, no-first e9, wrong e18, sym owned, not-true o e24)
 
           module _ (e24 : not o ≡ false) {c : Bool} (channel : c ≡ not (wrong_channel_at s at kind methods)) where
             stray : {d : Bool} → not c ≡ d → wrong_channel_at s at kind methods ≡ d

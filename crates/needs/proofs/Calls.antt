@@ -6,7 +6,7 @@ use Prim.Native.Nat.{ℕ, ◌+◌, ◌<◌}
 use native.Mathlib.Omega.{arith}
 use lib.ListN.{length, length-append, get_or}
 use Rattle.sheet.specs.Sheet as sheet
-use Rattle.sheet.specs.Sheet.{normal, failed, CallStep, event-step, call_step, pass_step, stop_step, Sheet, past, pre, on_channel}
+use Rattle.sheet.specs.Sheet.{normal, failed, CallStep, event_step, call_step, pass_step, stop_step, Sheet, past, pre, on_channel}
 use Rattle.sheet_laws.specs.AtOffset.{step_at}
 use Rattle.sheet_laws.specs.Names.{StepNamed}
 use Rattle.runs.specs.Rules.{Rule, ◌of◌says◌, ◌is_in◌, if_any, return_rules, entry_asked, entry_rules, step_rules, how_many, total}
@@ -28,8 +28,8 @@ module _ (S : Sheet) (i : ℕ) (t : CallStep) where
   -- 26, where it is asked
   entry-needed : (v : Entry) → Needed (if_any (entry_value v) (entry_rules S i t)) (one_each (how_many (entry_value v)))
   unfolding certificates_needed total
-  entry-needed Unasked = record { rules-are = refl; certificates-are = refl }
-  entry-needed (At e) = record { rules-are = refl; certificates-are = refl }
+  entry-needed Unasked = record { rules_are = refl; certificates_are = refl }
+  entry-needed (At e) = record { rules_are = refl; certificates_are = refl }
 
   -- the rules xs, n with a certificate each, and then 26
   pub with-entry : {xs : List Rule} {n k : ℕ} {v w : Entry} → v ≡ w → Needed xs (one_each n) → k ≡ n + how_many (entry_value w)
@@ -39,15 +39,15 @@ module _ (S : Sheet) (i : ℕ) (t : CallStep) where
       let last : List Rule = if_any (entry_value w) (entry_rules S i t) in
       needed-as (ap (λ (v : Entry). xs ++ if_any (entry_value v) (entry_rules S i t)) is)
       (record {
-        rules-are = omega (arith, h.rules-are, more.rules-are, length-append xs last);
-        certificates-are = omega (arith, h.certificates-are, more.certificates-are, append-needed xs last);
+        rules_are = omega (arith, h.rules_are, more.rules_are, length-append xs last);
+        certificates_are = omega (arith, h.certificates_are, more.certificates_are, append-needed xs last);
       })
 
   -- 10 to 14, and 18 to 21 if there is a failed target
   abbrev pub others : List Rule
   others =
       (10 of i says past S t.from is_in on_channel t.channel (pre S t.method))
-      ∷ (return_rules S 11 i t normal t.to ++ if_any t.failed-to (return_rules S 18 i t failed))
+      ∷ (return_rules S 11 i t normal t.to ++ if_any t.failed_to (return_rules S 18 i t failed))
 
   -- all rules of the call
   pub call-needed : {e : Option ℕ} {n : Needs} → e ≡ entry_asked S t.method → Needed (others ++ if_any e (entry_rules S i t)) n
@@ -64,7 +64,7 @@ call-told S s methods is h = subst (λ (v : Step). CallIn S s methods (step_valu
 -- a step of an indexed sheet, as it was read
 module _ {S : Sheet} {s conditions points methods steps : List ℕ} {n : Counts} (x : SheetIn S s conditions points methods steps n) where
   call-in : (t : sheet.Step) → StepNamed (length S.points) (length S.methods) t → CallIn S s methods t
-  call-in (event-step p q a) named = tt
+  call-in (event_step p q a) named = tt
   call-in (call_step t) named = called-in x.indexes t.method named.3
   call-in (pass_step p q) named = tt
   call-in (stop_step p) named = tt

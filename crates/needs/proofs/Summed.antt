@@ -47,8 +47,8 @@ module _ (S : Sheet) (starts : List ℕ) (m : ℕ) (b : Body) (p : ℕ) where
 
   with-failed : (first : Bool) → Needed (with_failed first) (record { rules = cond first 7 6; certificates = 5 })
   unfolding certificates_needed total
-  with-failed true = record { rules-are = refl; certificates-are = refl }
-  with-failed false = record { rules-are = refl; certificates-are = refl }
+  with-failed true = record { rules_are = refl; certificates_are = refl }
+  with-failed false = record { rules_are = refl; certificates_are = refl }
 
   pub two-outcomes : (first : Bool) → is_among starts m ≡ first
       → Needed (method_rules S starts m (some (body_value b (some p)))) (record { rules = cond first 7 6; certificates = 5 })
@@ -56,11 +56,11 @@ module _ (S : Sheet) (starts : List ℕ) (m : ℕ) (b : Body) (p : ℕ) where
 
 -- the needs of the first n of the lists xss
 pub record Summed (xss : List (List Rule)) (n rules certificates : ℕ) : Type 0 where
-  pub rules-left : rules + length (together (drop n xss)) ≡ length (together xss)
-  pub certificates-left : certificates + certificates_needed (together (drop n xss)) ≡ certificates_needed (together xss)
+  pub rules_left : rules + length (together (drop n xss)) ≡ length (together xss)
+  pub certificates_left : certificates + certificates_needed (together (drop n xss)) ≡ certificates_needed (together xss)
 
 pub none-summed : (xss : List (List Rule)) → Summed xss 0 0 0
-none-summed xss = record { rules-left = omega arith; certificates-left = omega arith }
+none-summed xss = record { rules_left = omega arith; certificates_left = omega arith }
 
 module _ {xss : List (List Rule)} {n rules certificates : ℕ} (h : Summed xss n rules certificates) where
   pub one-summed : (xs : List Rule) → NthIs xss n xs → {needs : Needs} → Needed xs needs
@@ -70,24 +70,24 @@ module _ {xss : List (List Rule)} {n rules certificates : ℕ} (h : Summed xss n
       let rest : List Rule = together (drop (suc n) xss) in
       subst (λ (n : ℕ). Summed xss n (rules + needs.rules) (certificates + needs.certificates)) (sym (add-one n))
       (record {
-        rules-left = omega (arith, h.rules-left, ap (λ (ys : List Rule). length ys) next, length-append xs rest, all.rules-are);
-        certificates-left = omega (arith, h.certificates-left, ap certificates_needed next, append-needed xs rest, all.certificates-are);
+        rules_left = omega (arith, h.rules_left, ap (λ (ys : List Rule). length ys) next, length-append xs rest, all.rules_are);
+        certificates_left = omega (arith, h.certificates_left, ap certificates_needed next, append-needed xs rest, all.certificates_are);
       })
 
   -- no more than all lists have rules
   pub few-rules : rules ≤ length (together xss)
-  few-rules = omega (arith, h.rules-left)
+  few-rules = omega (arith, h.rules_left)
 
   pub few-certificates : certificates ≤ length (together xss)
-  few-certificates = omega (arith, h.certificates-left, few-needed (together xss))
+  few-certificates = omega (arith, h.certificates_left, few-needed (together xss))
 
   pub all-summed : length xss ≤ n → Needed (together xss) (record { rules = rules; certificates = certificates })
   unfolding together certificates_needed total
   all-summed done =
       let none = ap together (drop_of_length-le xss done) in
       record {
-        rules-are = omega (arith, h.rules-left, ap (λ (ys : List Rule). length ys) none);
-        certificates-are = omega (arith, h.certificates-left, ap certificates_needed none);
+        rules_are = omega (arith, h.rules_left, ap (λ (ys : List Rule). length ys) none);
+        certificates_are = omega (arith, h.certificates_left, ap certificates_needed none);
       }
 
 module _ {S : Sheet} {s conditions points methods steps : List ℕ} {n : Counts} (x : SheetIn S s conditions points methods steps n) where

@@ -1,7 +1,7 @@
 -- How many rules there are, and how many certificates they need: "Rules 3, 5, 6 and 7 to 17 have a certificate each", and 18 to 23
 -- and 26.
 use Rattle.std.specs.Prelude.{◌≡◌, List, ℕ, length}
-use Rattle.sheet.specs.Sheet.{Step, event-step, call_step, pass_step, stop_step, Sheet}
+use Rattle.sheet.specs.Sheet.{Step, event_step, call_step, pass_step, stop_step, Sheet}
 use Rattle.runs.specs.Rules.{Rule}
 use Rattle.index.specs.Indexed.{CalledIn}
 use Rattle.verdict.specs.Verdict.{certificates_needed}
@@ -9,8 +9,8 @@ use Rattle.needs.specs.declared.Needs.{Needs}
 
 -- the needs are those of the rules xs
 pub record Needed (xs : List Rule) (n : Needs) : Type 0 where
-  pub rules-are : n.rules ≡ length xs
-  pub certificates-are : n.certificates ≡ certificates_needed xs
+  pub rules_are : n.rules ≡ length xs
+  pub certificates_are : n.certificates ≡ certificates_needed xs
 
 -- so many rules, each with a certificate
 abbrev pub one_each : ℕ → Needs
@@ -18,7 +18,7 @@ one_each n = record { rules = n; certificates = n }
 
 -- the method of a step that is a call is the one where the table says
 abbrev pub CallIn : Sheet → (s methods : List ℕ) → Step → Type 0
-CallIn S s methods (event-step p q a) = Unit {0}
+CallIn S s methods (event_step p q a) = Unit {0}
 CallIn S s methods (call_step t) = CalledIn S s methods t.method
 CallIn S s methods (pass_step p q) = Unit {0}
 CallIn S s methods (stop_step p) = Unit {0}

@@ -4,7 +4,7 @@ use Rattle.std.proofs.Math.Option.{Option, none, some}
 use Rattle.sheet.specs.Kind.{conditions, points, methods, steps, certificates}
 use Rattle.sheet.specs.Reading.{tally, ReadResult, whole, refusal}
 use Rattle.verdict.specs.Verdict.{Report, accepted, refused, unproved}
-use Rattle.verdict.specs.WordTest.{Answer, held, not-held, untested}
+use Rattle.verdict.specs.WordTest.{Answer, held, not_held, untested}
 use Rattle.verdict.specs.Reply.{Reply, reply_of, answer_reply}
 
 -- Status ----------------------------------------------------------------------------------------------------------------
@@ -26,7 +26,7 @@ report_status (unproved r k f) = 3
 -- 1 yes, 2 refused, 3 no
 abbrev pub answer_status : Answer → ℕ
 answer_status held = 1
-answer_status (not-held n) = 3
+answer_status (not_held n) = 3
 answer_status (untested n at) = 2
 
 -- 1 read whole, 2 refused

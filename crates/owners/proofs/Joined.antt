@@ -121,8 +121,8 @@ none-joined s i number owner =
 
 module _ {s : List ℕ} {at kind : ℕ} (w : Named s at kind) (number : ℕ) (points : List ℕ) where
   -- the owner of the point that is named so many bytes behind the offset
-  abbrev pub named-owner : ℕ → Option ℕ
-  named-owner i = owner_listed s points (short_at s (at + i))
+  abbrev pub named_owner : ℕ → Option ℕ
+  named_owner i = owner_listed s points (short_at s (at + i))
 
   -- not 24, of a record of this kind and these values
   abbrev Fit : Kind → List ℕ → Bool
@@ -139,36 +139,36 @@ module _ {s : List ℕ} {at kind : ℕ} (w : Named s at kind) (number : ℕ) (po
 
   module _ (has_body : body_kind kind ≡ true) where
     -- the number is compared with the owners of the entry and of the exit, and with that of the failed exit
-    module _ {o p : Option ℕ} (entry-is : o ≡ named-owner 7) (exit-is : p ≡ named-owner 9) {a b ab : Bool}
+    module _ {o p : Option ℕ} (entry_is : o ≡ named_owner 7) (exit_is : p ≡ named_owner 9) {a b ab : Bool}
         (entry : a ≡ agree (some number) o) (exit : b ≡ agree (some number) p) (both : ab ≡ (a && b)) where
-      entry-and-exit : ab ≡ (agree (some number) (named-owner 7) && agree (some number) (named-owner 9))
-      entry-and-exit = both ∙ ap₂ ◌&&◌ (entry ∙ ap (agree (some number)) entry-is) (exit ∙ ap (agree (some number)) exit-is)
+      entry-and-exit : ab ≡ (agree (some number) (named_owner 7) && agree (some number) (named_owner 9))
+      entry-and-exit = both ∙ ap₂ ◌&&◌ (entry ∙ ap (agree (some number)) entry_is) (exit ∙ ap (agree (some number)) exit_is)
 
       pub owned : (kind ≡ 16 → ⊥) → ab ≡ owners_fit s at kind number points
       owned one =
           entry-and-exit
           ∙ sym
           (of-kind 9 (body-9 kind has_body one) ∙ ap (Fit (kind_of 9)) (names-alone s at (1 ∷ 1 ∷ 1 ∷ 2 ∷ 2 ∷ []))
-          ∙ number-agrees number (named-owner 7 ∷ named-owner 9 ∷ [])
-          ∙ and_last (agree (some number) (named-owner 7)) (agree (some number) (named-owner 9)))
+          ∙ number-agrees number (named_owner 7 ∷ named_owner 9 ∷ [])
+          ∙ and_last (agree (some number) (named_owner 7)) (agree (some number) (named_owner 9)))
 
-      pub owned-16 : kind ≡ 16 → {q : Option ℕ} → q ≡ named-owner 15 → {c r : Bool} → c ≡ agree (some number) q → r ≡ (ab && c)
+      pub owned-16 : kind ≡ 16 → {q : Option ℕ} → q ≡ named_owner 15 → {c r : Bool} → c ≡ agree (some number) q → r ≡ (ab && c)
           → r ≡ owners_fit s at kind number points
       owned-16 two failed-is failed all =
           all ∙ ap₂ ◌&&◌ entry-and-exit (failed ∙ ap (agree (some number)) failed-is)
           ∙ sym
           (of-kind 16 two ∙ ap (Fit (kind_of 16)) (names-alone s at (1 ∷ 1 ∷ 1 ∷ 2 ∷ 2 ∷ 1 ∷ 1 ∷ 2 ∷ []))
-          ∙ number-agrees number (named-owner 7 ∷ named-owner 9 ∷ named-owner 15 ∷ [])
-          ∙ ands (agree (some number) (named-owner 7)) (agree (some number) (named-owner 9)) (agree (some number) (named-owner 15)))
+          ∙ number-agrees number (named_owner 7 ∷ named_owner 9 ∷ named_owner 15 ∷ [])
+          ∙ ands (agree (some number) (named_owner 7)) (agree (some number) (named_owner 9)) (agree (some number) (named_owner 15)))
 
   -- Steps -------------------------------------------------------------------------------------------------------------
 
   -- another step than a call with a failed target and a stop
   two-joined : (k : ℕ) → eqb (section_of k) steps ≡ true → (k ≡ 17 → ⊥) → (k ≡ 19 → ⊥)
-      → Fit (kind_of k) (values_at s (at + 1) (kind_of k).fields) ≡ agree (named-owner 1) (named-owner 3)
+      → Fit (kind_of k) (values_at s (at + 1) (kind_of k).fields) ≡ agree (named_owner 1) (named_owner 3)
   two-joined =
       by_rows
-      (λ k x. eqb x.section steps ≡ true → (k ≡ 17 → ⊥) → (k ≡ 19 → ⊥) → Fit x (values_at s (at + 1) x.fields) ≡ agree (named-owner 1) (named-owner 3))
+      (λ k x. eqb x.section steps ≡ true → (k ≡ 17 → ⊥) → (k ≡ 19 → ⊥) → Fit x (values_at s (at + 1) x.fields) ≡ agree (named_owner 1) (named_owner 3))
       (out and out and out and out and out and out and out and out and out and out
       and (λ h a b. joins (kind_of 10) (names-then s at 1 (2 ∷ 2 ∷ []) (an-event ∷ []) (event-value s (at + 5))) refl)
       and (λ h a b. joins (kind_of 11) (names-alone s at (2 ∷ 2 ∷ 3 ∷ [])) refl)
@@ -180,25 +180,25 @@ module _ {s : List ℕ} {at kind : ℕ} (w : Named s at kind) (number : ℕ) (po
       out : {A B C : Type 0} → false ≡ true → A → B → C
       out e a b = no (sym e)
 
-      joins : (x : Kind) {vs : List ℕ} → values_at s (at + 1) x.fields ≡ vs → Fit x vs ≡ all_agree (named-owner 1 ∷ named-owner 3 ∷ [])
-          → Fit x (values_at s (at + 1) x.fields) ≡ agree (named-owner 1) (named-owner 3)
-      joins x e h = ap (Fit x) e ∙ h ∙ two-agree (named-owner 1) (named-owner 3)
+      joins : (x : Kind) {vs : List ℕ} → values_at s (at + 1) x.fields ≡ vs → Fit x vs ≡ all_agree (named_owner 1 ∷ named_owner 3 ∷ [])
+          → Fit x (values_at s (at + 1) x.fields) ≡ agree (named_owner 1) (named_owner 3)
+      joins x e h = ap (Fit x) e ∙ h ∙ two-agree (named_owner 1) (named_owner 3)
 
   -- the owners of the two points are compared, and those of the three points of a call with a failed target
-  module _ {o p : Option ℕ} (from_is : o ≡ named-owner 1) (to_is : p ≡ named-owner 3) {a : Bool} (joined : a ≡ agree o p) where
-    from-and-to : a ≡ agree (named-owner 1) (named-owner 3)
+  module _ {o p : Option ℕ} (from_is : o ≡ named_owner 1) (to_is : p ≡ named_owner 3) {a : Bool} (joined : a ≡ agree o p) where
+    from-and-to : a ≡ agree (named_owner 1) (named_owner 3)
     from-and-to = joined ∙ ap₂ agree from_is to_is
 
     pub joins-two : section_of kind ≡ steps → (kind ≡ 17 → ⊥) → (kind ≡ 19 → ⊥) → a ≡ owners_fit s at kind number points
     joins-two late no_call no_stop = from-and-to ∙ sym (of_row ∙ two-joined kind (eq-eqb (section_of kind) steps late) no_call no_stop)
 
-    pub joins-17 : kind ≡ 17 → {q : Option ℕ} → q ≡ named-owner 5 → {b c bc r : Bool} → b ≡ agree o q → c ≡ agree p q → bc ≡ (b && c) → r ≡ (a && bc)
+    pub joins-17 : kind ≡ 17 → {q : Option ℕ} → q ≡ named_owner 5 → {b c bc r : Bool} → b ≡ agree o q → c ≡ agree p q → bc ≡ (b && c) → r ≡ (a && bc)
         → r ≡ owners_fit s at kind number points
     joins-17 e failed-is from-failed to-failed both all =
         all ∙ ap₂ ◌&&◌ from-and-to (both ∙ ap₂ ◌&&◌ (from-failed ∙ ap₂ agree from_is failed-is) (to-failed ∙ ap₂ agree to_is failed-is))
         ∙ sym
         (of-kind 17 e ∙ ap (Fit (kind_of 17)) (names-alone s at (2 ∷ 2 ∷ 2 ∷ 3 ∷ []))
-        ∙ three-agree (named-owner 1) (named-owner 3) (named-owner 5))
+        ∙ three-agree (named_owner 1) (named_owner 3) (named_owner 5))
 
   -- Other records -----------------------------------------------------------------------------------------------------
 

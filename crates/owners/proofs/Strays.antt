@@ -38,9 +38,9 @@ module _ (s points : List ℕ) (count methods : ℕ) where
   module _ (i : ℕ) (onward : Onward i) where
     -- the point i is there
     module _ (there : (i < count) × (i < length points)) where
-      first-is : stray_in s methods (drop i (take count points))
+      first_is : stray_in s methods (drop i (take count points))
           ≡ cond (no_method methods (owner_at s (get_or points i 0))) (some (get_or points i 0)) (stray_in s methods (drop (i + 1) (take count points)))
-      first-is =
+      first_is =
           let within : i < length (take count points) = simp length-take (omega arith) in
           ap (stray_in s methods)
           (drop-cons (take count points) i 0 within
@@ -48,11 +48,11 @@ module _ (s points : List ℕ) (count methods : ℕ) where
 
       pub found : no_method methods (owner_at s (get_or points i 0)) ≡ true → some (get_or points i 0) ≡ stray_in s methods (take count points)
       found e =
-          sym (first-is ∙ ap (λ (b : Bool). cond b (some (get_or points i 0)) (stray_in s methods (drop (i + 1) (take count points)))) e) ∙ onward
+          sym (first_is ∙ ap (λ (b : Bool). cond b (some (get_or points i 0)) (stray_in s methods (drop (i + 1) (take count points)))) e) ∙ onward
 
       pub passed : no_method methods (owner_at s (get_or points i 0)) ≡ false → Onward (i + 1)
       passed e =
-          sym (first-is ∙ ap (λ (b : Bool). cond b (some (get_or points i 0)) (stray_in s methods (drop (i + 1) (take count points)))) e) ∙ onward
+          sym (first_is ∙ ap (λ (b : Bool). cond b (some (get_or points i 0)) (stray_in s methods (drop (i + 1) (take count points)))) e) ∙ onward
 
     pub ended : {b : Bool} → b ≡ (ltb i count && ltb i (length points)) → b ≡ false → none ≡ stray_in s methods (take count points)
     ended is e =

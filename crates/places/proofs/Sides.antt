@@ -35,11 +35,11 @@ module _ {r : Condition} {nulls : Bool} {firsts lasts : ℕ} (i : ItemIs r 0 nul
   unfolding ends
   ends-are zero =
       has-or lasts (cond nulls 1 0) 0
-      ∙ ap₂ (λ (u v : Bool). u || v) (i.last-is 0 ∙ behind-zero (λ k. last r k) (last-zero r) 0 ∙ last-zero r)
+      ∙ ap₂ (λ (u v : Bool). u || v) (i.last_is 0 ∙ behind-zero (λ k. last r k) (last-zero r) 0 ∙ last-zero r)
       (has-cond nulls 1 0 ∙ ap₂ (λ (u v : Bool). u && v) i.null_is (T_true (has 1 0) start_has) ∙ and-true (nullable r))
   ends-are (suc p) =
       has-or lasts (cond nulls 1 0) (suc p)
-      ∙ ap₂ (λ (u v : Bool). u || v) (i.last-is (suc p) ∙ behind-zero (λ k. last r k) (last-zero r) (suc p))
+      ∙ ap₂ (λ (u v : Bool). u || v) (i.last_is (suc p) ∙ behind-zero (λ k. last r k) (last-zero r) (suc p))
       (has-cond nulls 1 (suc p)
       ∙ ap (λ (v : Bool). nulls && v) (fails (has 1 (suc p)) (λ h. let z = has-start (suc p) h in absurd (omega arith)))
       ∙ and-false nulls)
@@ -48,17 +48,17 @@ module _ {r : Condition} {nulls : Bool} {firsts lasts : ℕ} (i : ItemIs r 0 nul
   follows-are : {F S : List ℕ} → RowsAre r 0 F S → length F ≡ 64 → (p q : ℕ) → p ≤ leaves r → has (get_or (set F 0 firsts) p 0) q ≡ follows r p q
   unfolding follows
   follows-are {F} {S} w l zero q h =
-      ap (λ (x : ℕ). has x q) (get_or-set_same F 0 firsts 0 (omega arith)) ∙ i.first-is q ∙ behind-zero (λ k. first r k) (first-zero r) q
+      ap (λ (x : ℕ). has x q) (get_or-set_same F 0 firsts 0 (omega arith)) ∙ i.first_is q ∙ behind-zero (λ k. first r k) (first-zero r) q
   follows-are {F} {S} w l (suc j) q h =
       let z : suc j ≡ suc (0 + j) = omega arith in
       ap (λ (x : ℕ). has x q) (get_or-set_other F 0 (suc j) firsts 0 (λ (e : suc j ≡ 0). omega arith))
       ∙ ap (λ (x : ℕ). has (get_or F x 0) q) z
-      ∙ w.follow-is j q h
+      ∙ w.follow_is j q h
       ∙ behind-zero (λ k. follow r (suc j) k) (follow-zero r (suc j)) q
 
-sets-are : {r : Condition} {F S : List ℕ} → RowsAre r 0 F S → (q : ℕ) → 0 < q → q ≤ leaves r → get_or S q 0 ≡ leaf_set r q
-sets-are w zero a b = absurd (omega arith)
-sets-are {r} {F} {S} w (suc j) a b = let z : suc j ≡ suc (0 + j) = omega arith in ap (λ (x : ℕ). get_or S x 0) z ∙ w.sets-is j b
+sets_are : {r : Condition} {F S : List ℕ} → RowsAre r 0 F S → (q : ℕ) → 0 < q → q ≤ leaves r → get_or S q 0 ≡ leaf_set r q
+sets_are w zero a b = absurd (omega arith)
+sets_are {r} {F} {S} w (suc j) a b = let z : suc j ≡ suc (0 + j) = omega arith in ap (λ (x : ℕ). get_or S x 0) z ∙ w.sets_is j b
 
 -- the only item of the stack
 record Alone (N : List Bool) (A L F S : List ℕ) (m : ℕ) (r : Condition) : Type 0 where
@@ -88,14 +88,14 @@ tables {r} {N} {A} {L} {F} {F'} {S} {m} {side} e l few t =
     let n = g.count in
     record {
       few = omega arith;
-      leaves-is = e.side-leaves ∙ n;
-      ends_is = λ p. ap (λ (x : ℕ). has x p) e.side-ends ∙ ends-are g.item p;
-      follow-is = λ p q h. ap (λ (x : List ℕ). has (get_or x p 0) q) e.row-start ∙ follows-are g.item g.rows l p q h;
-      sets-is = sets-are g.rows;
+      leaves_is = e.side_leaves ∙ n;
+      ends_is = λ p. ap (λ (x : ℕ). has x p) e.side_ends ∙ ends-are g.item p;
+      follow_is = λ p q h. ap (λ (x : List ℕ). has (get_or x p 0) q) e.row_start ∙ follows-are g.item g.rows l p q h;
+      sets_is = sets_are g.rows;
     }
 
 pub settled-rows : {n : ℕ} {nulls : Bool} {firsts lasts : ℕ} {side : Side} {F F' S : List ℕ} → Settled n nulls firsts lasts side F F' → Rows F S → Rows F' S
 settled-rows {firsts = firsts} {F = F} e w = record {
-  rows-follow = ap length e.row-start ∙ length-set F 0 firsts ∙ w.rows-follow;
-  rows-sets = w.rows-sets;
+  rows_follow = ap length e.row_start ∙ length-set F 0 firsts ∙ w.rows_follow;
+  rows_sets = w.rows_sets;
 }

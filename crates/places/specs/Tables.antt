@@ -9,13 +9,13 @@ use Rattle.places.specs.declared.Side.{Side}
 
 pub record Tables (r : Condition) (side : Side) (follow sets : List ℕ) : Type 0 where
   pub few : leaves r ≤ 62
-  pub leaves-is : side.leaves ≡ leaves r
+  pub leaves_is : side.leaves ≡ leaves r
   pub ends_is : (p : ℕ) → has side.ends p ≡ ends r p
-  pub follow-is : (p q : ℕ) → p ≤ leaves r → has (get_or follow p 0) q ≡ follows r p q
-  pub sets-is : (q : ℕ) → 0 < q → q ≤ leaves r → get_or sets q 0 ≡ leaf_set r q
+  pub follow_is : (p q : ℕ) → p ≤ leaves r → has (get_or follow p 0) q ≡ follows r p q
+  pub sets_is : (q : ℕ) → 0 < q → q ≤ leaves r → get_or sets q 0 ≡ leaf_set r q
 
 -- the item of a whole side becomes its tables: row 0 of follow and bit 0 of ends are place 0's
 pub record Settled (n : ℕ) (nulls : Bool) (firsts lasts : ℕ) (side : Side) (F F' : List ℕ) : Type 0 where
-  pub side-leaves : side.leaves ≡ n
-  pub side-ends : side.ends ≡ bit_or lasts (cond nulls 1 0)
-  pub row-start : F' ≡ set F 0 firsts
+  pub side_leaves : side.leaves ≡ n
+  pub side_ends : side.ends ≡ bit_or lasts (cond nulls 1 0)
+  pub row_start : F' ≡ set F 0 firsts

@@ -12,13 +12,13 @@ use borrow.Author.Tests.{le-leb, lt-leb, leb-true, ltb-true, ltb-false}
 use Rattle.bits.proofs.Tests.{and-out, T_true}
 use Rattle.condition.specs.Condition.{Condition}
 use Rattle.sheet.specs.Record.{next_at}
-use Rattle.sheet_laws.specs.AtOffset.{Symbol, leaf-symbol, empty-symbol, join-symbol, either-symbol, star-symbol}
+use Rattle.sheet_laws.specs.AtOffset.{Symbol, leaf_symbol, empty-symbol, join-symbol, either-symbol, star-symbol}
 use Rattle.sheet_laws.specs.AtOffset.{symbol_at}
 use Rattle.sheet_laws.specs.AtOffset.{symbols_on, symbols_at, postfix}
 use Rattle.format.specs.declared.symbols.Symbol as value
 use Rattle.format.specs.declared.symbols.Symbol.TheVariants.{None, Leaf, Empty}
 use Rattle.format.specs.Symbols.{value_of, is_symbol, items_taken, leaves_in, IsSymbolAt, IsBehind}
-use Rattle.items.specs.Stack.{Stacked, Roomy, Rows, Makes, a-leaf, an-empty, a-join, an-either, a-star, Turned}
+use Rattle.items.specs.Stack.{Stacked, Roomy, Rows, Makes, a_leaf, an_empty, a_join, an_either, a_star, Turned}
 use Rattle.postfix.specs.Parts.{StandsAt, Pushed}
 use Rattle.postfix.proofs.Reducing.{total, made, Reduces, reduces-postfix, reduces-leaves, reduces-items, first_taken, done-taken, symbol-first, no-symbols}
 
@@ -37,7 +37,7 @@ record First (s : List ℕ) (r : Condition) (items : List Condition) (y : value.
   others : ToCome s r past (next_at s at) (n + 1)
 
 symbol-is-one : (y : Symbol) → is_symbol (value_of (some y)) ≡ true
-symbol-is-one (leaf-symbol t) = refl
+symbol-is-one (leaf_symbol t) = refl
 symbol-is-one empty-symbol = refl
 symbol-is-one join-symbol = refl
 symbol-is-one either-symbol = refl
@@ -52,16 +52,16 @@ look {s} {r} {items} {at} {n} {y} here g = go (symbol_at s at) refl
         → ((is_symbol y ≡ false) × (items ≡ r ∷ [])) ⊎ ((is_symbol y ≡ true) × First s r items y at n)
     go none e =
         inl (
-          ap (λ (y : value.Symbol). is_symbol y) here.symbol-is ∙ ap (λ (o : Option Symbol). is_symbol (value_of o)) e,
+          ap (λ (y : value.Symbol). is_symbol y) here.symbol_is ∙ ap (λ (o : Option Symbol). is_symbol (value_of o)) e,
           done-taken (subst (λ (ys : List Symbol). Reduces ys items r) (no-symbols s at g.fuel e) g.reduces),
         )
     go (some z) e =
-        let is : y ≡ value_of (some z) = here.symbol-is ∙ ap (λ (o : Option Symbol). value_of o) e in
+        let is : y ≡ value_of (some z) = here.symbol_is ∙ ap (λ (o : Option Symbol). value_of o) e in
         let one : is_symbol y ≡ true = ap (λ (y : value.Symbol). is_symbol y) is ∙ symbol-is-one z in
         let on = symbol-first s at g.fuel e (here.inside one) g.enough in
-        let long = ap length on.symbols-are in
+        let long = ap length on.symbols_are in
         let few = g.steps in
-        let taken = first_taken (subst (λ (ys : List Symbol). Reduces ys items r) on.symbols-are g.reduces) in
+        let taken = first_taken (subst (λ (ys : List Symbol). Reduces ys items r) on.symbols_are g.reduces) in
         inr (
           one,
           record {
@@ -73,19 +73,19 @@ look {s} {r} {items} {at} {n} {y} here g = go (symbol_at s at) refl
 
 -- items that lie below stay
 makes-above : {y : value.Symbol} {rs rs' : List Condition} (below : List Condition) → Makes y rs rs' → Makes y (rs ++ below) (rs' ++ below)
-makes-above below a-leaf = a-leaf
-makes-above below an-empty = an-empty
-makes-above below a-join = a-join
-makes-above below an-either = an-either
-makes-above below a-star = a-star
+makes-above below a_leaf = a_leaf
+makes-above below an_empty = an_empty
+makes-above below a_join = a_join
+makes-above below an_either = an_either
+makes-above below a_star = a_star
 
 -- The loop's invariant: d items with m leaves, of which the items of r stand on what stood there at entry ---------------------
 
 pub record Midway (s : List ℕ) (r : Condition) (Entry : List Condition → Type 0) (N : List Bool) (A L F S : List ℕ) (floor base d m at n : ℕ) : Type 0 where
   pub items : List Condition
-  pub to-come : ToCome s r items at n
-  pub items-are : d ≡ floor + length items
-  pub leaves-are : m ≡ base + total items
+  pub to_come : ToCome s r items at n
+  pub items_are : d ≡ floor + length items
+  pub leaves_are : m ≡ base + total items
   pub stacked : (rs : List Condition) → Entry rs → Stacked N A L F S d m (items ++ rs)
 
 pub record Going (s : List ℕ) (from : ℕ) (Entry : List Condition → Type 0) (N : List Bool) (A L F S : List ℕ) (floor base d m at n : ℕ) : Type 0 where
@@ -108,18 +108,18 @@ going_start s from floor base room rows = record {
   room = room;
   rows = rows;
   midway = λ r h.
-      let all : symbols_on s (length s) from ≡ postfix r = h.in-postfix in
-      let few = h.few-symbols in
+      let all : symbols_on s (length s) from ≡ postfix r = h.in_postfix in
+      let few = h.few_symbols in
       record {
         items = [];
-        to-come = record {
+        to_come = record {
           fuel = length s;
           reduces = subst (λ (ys : List Symbol). Reduces ys [] r) (sym all) (reduces-postfix r);
           enough = omega arith;
           steps = let long = ap length all in omega arith;
         };
-        items-are = omega arith;
-        leaves-are = omega arith;
+        items_are = omega arith;
+        leaves_are = omega arith;
         stacked = λ rs t. t;
       };
 }
@@ -187,7 +187,7 @@ module _ {s : List ℕ} {from : ℕ} {Entry : List Condition → Type 0} {N : Li
         few = f.few;
         room = t.room;
         rows = t.rows;
-        midway = λ r h. go r (g.midway r h) (look here (g.midway r h).to-come);
+        midway = λ r h. go r (g.midway r h) (look here (g.midway r h).to_come);
       }
     where
       go : (r : Condition) (v : Midway s r Entry N A L F S floor base d m at n)
@@ -198,13 +198,13 @@ module _ {s : List ℕ} {from : ℕ} {Entry : List Condition → Type 0} {N : Li
           let first = x.1 in
           let m = made first.makes in
           let taken = m.taken in
-          let h = v.items-are in
-          let k = v.leaves-are in
+          let h = v.items_are in
+          let k = v.leaves_are in
           record {
             items = first.past;
-            to-come = first.others;
-            items-are = omega (arith, m.height);
-            leaves-are = omega (arith, m.count);
+            to_come = first.others;
+            items_are = omega (arith, m.height);
+            leaves_are = omega (arith, m.count);
             stacked = λ rs x. t.turned (v.items ++ rs) (first.past ++ rs) (makes-above rs first.makes) (v.stacked rs x);
           }
 
@@ -212,7 +212,7 @@ module _ {s : List ℕ} {from : ℕ} {Entry : List Condition → Type 0} {N : Li
       → Turned y N A L F S N' A' L' F' S' d m → Going s from Entry N' A' L' F' S' floor base d' m' (at + b) (n + 1)
   going_on {N'} {A'} {L'} {F'} {S'} {d'} {m'} height more behind t =
       subst (λ (next : ℕ). Going s from Entry N' A' L' F' S' floor base d' m' next (n + 1))
-      (behind.next-is (sym (ap (λ (y : value.Symbol). is_symbol y) here.symbol-is) ∙ f.one))
+      (behind.next_is (sym (ap (λ (y : value.Symbol). is_symbol y) here.symbol_is) ∙ f.one))
       (rw (height, more) (on t))
 
 -- Ways out: at the end of the records, and where no condition can stand -------------------------------------------------
@@ -230,13 +230,13 @@ module _ {s : List ℕ} {from : ℕ} {N₀ : List Bool} {A₀ L₀ F₀ S₀ : L
     rows = g.rows;
     pushed = λ r h rs x.
         let v = g.midway r h in
-        let e : d ≡ floor + 1 = omega (arith, v.items-are, ap length (alone r h)) in
+        let e : d ≡ floor + 1 = omega (arith, v.items_are, ap length (alone r h)) in
         subst (λ (k : ℕ). Stacked N A L F S k m (r ∷ rs)) e
         (subst (λ (items : List Condition). Stacked N A L F S d m (items ++ rs)) (alone r h) (v.stacked rs x));
   }
 
   pub out-full : 96 ≤ n → Done
-  out-full full = out (λ r h. let c = (g.midway r h).to-come in last (symbols_on s c.fuel at) c.reduces (omega (arith, c.steps)))
+  out-full full = out (λ r h. let c = (g.midway r h).to_come in last (symbols_on s c.fuel at) c.reduces (omega (arith, c.steps)))
     where
       last : (ys : List Symbol) {items : List Condition} {r : Condition} → Reduces ys items r → length ys ≤ 0 → items ≡ r ∷ []
       last [] h l = done-taken h
@@ -244,7 +244,7 @@ module _ {s : List ℕ} {from : ℕ} {N₀ : List Bool} {A₀ L₀ F₀ S₀ : L
 
   -- no symbol, its items are not there, or it is one leaf or one item too many
   pub out-unfit : {y : value.Symbol} → IsSymbolAt s at y → fitting y floor d m (base + 31) ≡ false → Done
-  out-unfit {y} here unfit = out (λ r h. go r h (g.midway r h) (look here (g.midway r h).to-come))
+  out-unfit {y} here unfit = out (λ r h. go r h (g.midway r h) (look here (g.midway r h).to_come))
     where
       go : (r : Condition) → StandsAt s from r → (v : Midway s r (λ rs. Stacked N₀ A₀ L₀ F₀ S₀ floor base rs) N A L F S floor base d m at n)
           → ((is_symbol y ≡ false) × (v.items ≡ r ∷ [])) ⊎ ((is_symbol y ≡ true) × First s r v.items y at n) → v.items ≡ r ∷ []
@@ -252,11 +252,11 @@ module _ {s : List ℕ} {from : ℕ} {N₀ : List Bool} {A₀ L₀ F₀ S₀ : L
       go r h v (inr x) =
           let first = x.1 in
           let made = made first.makes in
-          let k = v.items-are in
-          let i = v.leaves-are in
+          let k = v.items_are in
+          let i = v.leaves_are in
           let most = reduces-leaves first.others.reduces in
           let taken : floor + items_taken y ≤ d = omega (arith, made.taken) in
-          let few : m + leaves_in y ≤ base + 31 = omega (arith, made.count, h.few-leaves) in
+          let few : m + leaves_in y ≤ base + 31 = omega (arith, made.count, h.few_leaves) in
           let high : d + 1 ≤ floor + 48 + items_taken y =
           omega (arith, made.height, made.taken, reduces-items first.others.reduces, first.others.steps, g.deep) in
           absurd (true≢false (sym (simp (x.0, le-leb (floor + items_taken y) d taken, le-leb (m + leaves_in y) (base + 31) few, le-leb (d + 1) (floor + 48 + items_taken y) high)) ∙ unfit))

@@ -8,7 +8,7 @@ use Rattle.condition.specs.Condition.{Condition, leaf}
 use Rattle.format.specs.declared.symbols.Symbol.TheVariants.{Leaf}
 use Rattle.postfix.specs.declared.Part.{Part}
 use Rattle.postfix.specs.declared.Part.TheVariants.{Condition as ConditionAt, Event, Exchanged}
-use Rattle.items.specs.Stack.{Stacked, Roomy, Rows, a-leaf, Turned}
+use Rattle.items.specs.Stack.{Stacked, Roomy, Rows, a_leaf, Turned}
 use Rattle.items.specs.Channels.{SetsExchanged}
 use Rattle.items.proofs.Channels.{stacked-exchanged}
 use Rattle.postfix.specs.Parts.{StandsAt, ExchangedAt, PartIs, Pushed}
@@ -30,7 +30,7 @@ module _ {N : List Bool} {A L F S : List ℕ} {N' : List Bool} {A' L' F' S' : Li
     rows = t.rows;
     pushed = λ r e rs h.
         let one : d + 1 - 0 ≡ d + 1 = omega arith in
-        rw e (subst (λ (k : ℕ). Stacked N' A' L' F' S' k (m + 1) (leaf x ∷ rs)) one (t.turned rs (leaf x ∷ rs) a-leaf h));
+        rw e (subst (λ (k : ℕ). Stacked N' A' L' F' S' k (m + 1) (leaf x ∷ rs)) one (t.turned rs (leaf x ∷ rs) a_leaf h));
   }
 
   -- the condition at an offset, and then the sets of its leaves exchanged
@@ -39,8 +39,8 @@ module _ {N : List Bool} {A L F S : List ℕ} {N' : List Bool} {A' L' F' S' : Li
   exchanged-pushed p x = record {
     few = p.few;
     room = p.room;
-    rows = record { rows-follow = p.rows.rows-follow; rows-sets = x.rows ∙ p.rows.rows-sets };
-    pushed = λ r h rs t. rw h.exchanged-is (stacked-exchanged x t (p.pushed h.plain h.stands rs t));
+    rows = record { rows_follow = p.rows.rows_follow; rows_sets = x.rows ∙ p.rows.rows_sets };
+    pushed = λ r h rs t. rw h.exchanged_is (stacked-exchanged x t (p.pushed h.plain h.stands rs t));
   }
 
 pub condition-part : (s : List ℕ) {part : Part} {at : ℕ} → part ≡ ConditionAt at → (r : Condition) → PartIs s part r → StandsAt s at r

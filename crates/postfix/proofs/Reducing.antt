@@ -7,13 +7,13 @@ use native.Mathlib.Omega.{arith}
 use lib.ListN.{length}
 use Rattle.condition.specs.Condition.{Condition, leaf, empty, join, either, star}
 use Rattle.condition.specs.Places.{leaves}
-use Rattle.sheet_laws.specs.AtOffset.{Symbol, leaf-symbol, empty-symbol, join-symbol, either-symbol, star-symbol}
+use Rattle.sheet_laws.specs.AtOffset.{Symbol, leaf_symbol, empty-symbol, join-symbol, either-symbol, star-symbol}
 use Rattle.sheet.specs.Record.{next_at}
 use Rattle.sheet_laws.specs.AtOffset.{symbol_at}
 use Rattle.sheet_laws.specs.AtOffset.{symbols_on, postfix}
 use Rattle.format.specs.declared.symbols.Symbol as value
 use Rattle.format.specs.Symbols.{value_of, items_taken, leaves_in}
-use Rattle.items.specs.Stack.{Makes, a-leaf, an-empty, a-join, an-either, a-star}
+use Rattle.items.specs.Stack.{Makes, a_leaf, an_empty, a_join, an_either, a_star}
 
 -- What a symbol makes ----------------------------------------------------------------------------------------------------
 
@@ -31,11 +31,11 @@ pub record Made (y : value.Symbol) (rs rs' : List Condition) : Type 0 where
 
 pub made : {y : value.Symbol} {rs rs' : List Condition} → Makes y rs rs' → Made y rs rs'
 unfolding leaves
-made a-leaf = record { taken = omega arith; few = omega arith; height = omega arith; count = omega arith }
-made an-empty = record { taken = omega arith; few = omega arith; height = omega arith; count = omega arith }
-made a-join = record { taken = omega arith; few = omega arith; height = omega arith; count = omega arith }
-made an-either = record { taken = omega arith; few = omega arith; height = omega arith; count = omega arith }
-made a-star = record { taken = omega arith; few = omega arith; height = omega arith; count = omega arith }
+made a_leaf = record { taken = omega arith; few = omega arith; height = omega arith; count = omega arith }
+made an_empty = record { taken = omega arith; few = omega arith; height = omega arith; count = omega arith }
+made a_join = record { taken = omega arith; few = omega arith; height = omega arith; count = omega arith }
+made an_either = record { taken = omega arith; few = omega arith; height = omega arith; count = omega arith }
+made a_star = record { taken = omega arith; few = omega arith; height = omega arith; count = omega arith }
 
 -- Reducing a postfix form -----------------------------------------------------------------------------------------------
 
@@ -48,11 +48,11 @@ pub data Reduces : List Symbol → List Condition → Condition → Type 0 where
 -- the postfix form of q adds the item q
 reduces-form : (q : Condition) {ys : List Symbol} {rs : List Condition} {r : Condition} → Reduces ys (q ∷ rs) r → Reduces (postfix q ++ ys) rs r
 unfolding postfix
-reduces-form (leaf x) h = next {y = leaf-symbol x} a-leaf h
-reduces-form empty h = next {y = empty-symbol} an-empty h
-reduces-form (join a b) h = simp append_assoc (reduces-form a (reduces-form b (next {y = join-symbol} a-join h)))
-reduces-form (either a b) h = simp append_assoc (reduces-form a (reduces-form b (next {y = either-symbol} an-either h)))
-reduces-form (star a) h = simp append_assoc (reduces-form a (next {y = star-symbol} a-star h))
+reduces-form (leaf x) h = next {y = leaf_symbol x} a_leaf h
+reduces-form empty h = next {y = empty-symbol} an_empty h
+reduces-form (join a b) h = simp append_assoc (reduces-form a (reduces-form b (next {y = join-symbol} a_join h)))
+reduces-form (either a b) h = simp append_assoc (reduces-form a (reduces-form b (next {y = either-symbol} an_either h)))
+reduces-form (star a) h = simp append_assoc (reduces-form a (next {y = star-symbol} a_star h))
 
 pub reduces-postfix : (r : Condition) → Reduces (postfix r) [] r
 reduces-postfix r = subst (λ (ys : List Symbol). Reduces ys [] r) (append-nil (postfix r)) (reduces-form r done)
@@ -83,7 +83,7 @@ done-taken done = refl
 -- they go on behind the record at the offset
 pub record Onward (s : List ℕ) (at : ℕ) (y : Symbol) (ys : List Symbol) : Type 0 where
   pub fuel : ℕ
-  pub symbols-are : ys ≡ y ∷ symbols_on s fuel (next_at s at)
+  pub symbols_are : ys ≡ y ∷ symbols_on s fuel (next_at s at)
   pub enough : length s ≤ next_at s at + fuel
 
 module _ (s : List ℕ) (at : ℕ) where
@@ -95,7 +95,7 @@ module _ (s : List ℕ) (at : ℕ) where
       → Onward s at y (symbols_on s fuel at)
   unfolding symbols_on
   symbol-first zero e i l = absurd (omega arith)
-  symbol-first (suc fuel) e i l = record { fuel = fuel; symbols-are = rw e; enough = omega (arith, next-above) }
+  symbol-first (suc fuel) e i l = record { fuel = fuel; symbols_are = rw e; enough = omega (arith, next-above) }
 
   pub no-symbols : (fuel : ℕ) → symbol_at s at ≡ none → symbols_on s fuel at ≡ []
   unfolding symbols_on

@@ -12,15 +12,15 @@ use Rattle.postfix.specs.declared.Part.TheVariants.{Condition as ConditionAt, Ev
 
 -- the records at the offset are the postfix form of the condition r, within the limits of document 01
 pub record StandsAt (s : List ℕ) (at : ℕ) (r : Condition) : Type 0 where
-  pub in-postfix : symbols_at s at ≡ postfix r
-  pub few-symbols : length (postfix r) ≤ symbol_limit
-  pub few-leaves : leaves r ≤ leaf_limit
+  pub in_postfix : symbols_at s at ≡ postfix r
+  pub few_symbols : length (postfix r) ≤ symbol_limit
+  pub few_leaves : leaves r ≤ leaf_limit
 
 -- r is the condition at the offset with the events of channel 0 and of channel c exchanged
 pub record ExchangedAt (s : List ℕ) (at c : ℕ) (r : Condition) : Type 0 where
   pub plain : Condition
   pub stands : StandsAt s at plain
-  pub exchanged-is : r ≡ exchange c plain
+  pub exchanged_is : r ≡ exchange c plain
   pub fits : c ≤ last_channel
 
 -- a part of a side is the condition r

@@ -42,22 +42,22 @@ module _ {M : Model} {s : List ℕ} {c : Contents} (t : ReadWhole M s c) where
       ∙ sym (length-map ((last_state M s).own k) (λ (x : Counted). start_of x.opened x.last.at))
 
   pub conditions-are : c.tally.conditions ≡ length S.conditions
-  conditions-are = as-counted conditions ∙ sym there.conditions-counted
+  conditions-are = as-counted conditions ∙ sym there.conditions_counted
 
-  pub methods-are : c.tally.methods ≡ length S.methods
-  methods-are = as-counted methods ∙ sym there.methods-counted
+  pub methods_are : c.tally.methods ≡ length S.methods
+  methods_are = as-counted methods ∙ sym there.methods_counted
 
-  pub steps-are : c.tally.steps ≡ length S.steps
-  steps-are = as-counted steps ∙ sym there.steps-counted
+  pub steps_are : c.tally.steps ≡ length S.steps
+  steps_are = as-counted steps ∙ sym there.steps_counted
 
-  pub certificates-are : c.tally.certificates ≡ length (offsets certificates)
-  certificates-are = as-counted certificates
+  pub certificates_are : c.tally.certificates ≡ length (offsets certificates)
+  certificates_are = as-counted certificates
 
   -- The tables, which have room for what the limits allow -------------------------------------------------------------------
 
   module _ {cs cs' ps ps' ms ms' ts ts' : List ℕ} (w : TablesFilled cs cs' ps ps' ms ms' ts ts' (last_state M s).own) (l : length cs ≡ 256) where
     conditions-held : HoldsOffsets (offsets conditions) cs'
-    conditions-held = held (offsets conditions) cs _ (omega (arith, there.conditions-counted, there.few-conditions)) w.conditions
+    conditions-held = held (offsets conditions) cs _ (omega (arith, there.conditions_counted, there.few_conditions)) w.conditions
 
     pub conditions-in : ConditionsIn S s cs'
     conditions-in = read-conditions M s _ t.result conditions-held
@@ -65,6 +65,6 @@ module _ {M : Model} {s : List ℕ} {c : Contents} (t : ReadWhole M s c) where
     pub indexed : M.points ≤ length ps → length ms ≡ 64 → length ts ≡ 512 → M.events ≤ 64 → Indexes S s cs' ps' ms' ts'
     indexed a b d events =
         read-indexes M s _ t.result (omega (arith, ap length w.points, overwritten-length (offsets points) ps)) events conditions-held
-        (held (offsets points) ps _ (omega (arith, there.points-counted, there.few-points)) w.points)
-        (held (offsets methods) ms _ (omega (arith, there.methods-counted, there.few-methods)) w.methods)
-        (held (offsets steps) ts _ (omega (arith, there.steps-counted, there.few-steps)) w.steps)
+        (held (offsets points) ps _ (omega (arith, there.points_counted, there.few_points)) w.points)
+        (held (offsets methods) ms _ (omega (arith, there.methods_counted, there.few_methods)) w.methods)
+        (held (offsets steps) ts _ (omega (arith, there.steps_counted, there.few_steps)) w.steps)

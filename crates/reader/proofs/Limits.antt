@@ -13,7 +13,7 @@ use Rattle.reader.specs.Contract.{Reads}
 module _ (i : Instrument) {l : Limits} (is : l ≡ limits_of i) where
   pub readable : {n : ℕ} → (model_of i).points ≤ n → (l.bytes ≤ 4294967296) × (l.points ≤ n) × (l.kinds ≤ last_kind)
   readable {n} room =
-      let f = limits-fit i is in (f.few_bytes, subst (λ (l : Limits). l.points ≤ n) (sym is) room, f.few-kinds)
+      let f = limits-fit i is in (f.few_bytes, subst (λ (l : Limits). l.points ≤ n) (sym is) room, f.few_kinds)
 
   pub reads_as : {s : List ℕ} {r : Read} {cs cs' ps ps' ms ms' ts ts' : List ℕ}
       → Reads (model_with l) s r cs cs' ps ps' ms ms' ts ts' → Reads (model_of i) s r cs cs' ps ps' ms ms' ts ts'

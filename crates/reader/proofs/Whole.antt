@@ -91,29 +91,29 @@ module _ {M : Model} {s : List ℕ} {t₀ : Tally} {a₁ a₂ a₃ a₄ : Sectio
   f₂ : Filled M s o 3 a₂ 2 f₁.state p₀ p
   f₂ =
       r₂ o f₁.state f₁.told no-points
-      (record { points-listed = λ low. absurd (omega arith); methods-listed = λ is. absurd (omega arith) })
+      (record { points_listed = λ low. absurd (omega arith); methods_listed = λ is. absurd (omega arith) })
 
   -- the points, when they are read
-  points-listed : Listed s p 2 f₂.state
-  points-listed = f₂.listed (omega arith) (none-listed s p₀ 2 f₁.state f₁.grown.same no-points)
+  points_listed : Listed s p 2 f₂.state
+  points_listed = f₂.listed (omega arith) (none-listed s p₀ 2 f₁.state f₁.grown.same no-points)
 
   no-methods : f₂.state.own 3 ≡ []
   no-methods = f₂.grown.others 3 (λ e. omega arith) ∙ f₁.grown.others 3 (λ e. omega arith)
 
   f₃ : Filled M s o 4 a₃ 3 f₂.state m₀ m
-  f₃ = r₃ o f₂.state f₂.told no-methods (record { points-listed = λ low. points-listed; methods-listed = λ is. absurd (omega arith) })
+  f₃ = r₃ o f₂.state f₂.told no-methods (record { points_listed = λ low. points_listed; methods_listed = λ is. absurd (omega arith) })
 
   -- .. and the methods
   still-points : Listed s p 2 f₃.state
-  still-points = still-listed s p 2 f₃.grown (λ e. omega arith) points-listed
+  still-points = still-listed s p 2 f₃.grown (λ e. omega arith) points_listed
 
-  methods-listed : Listed s m 3 f₃.state
-  methods-listed = f₃.listed (omega arith) (none-listed s m₀ 3 f₂.state (f₂.grown.same ∙ f₁.grown.same) no-methods)
+  methods_listed : Listed s m 3 f₃.state
+  methods_listed = f₃.listed (omega arith) (none-listed s m₀ 3 f₂.state (f₂.grown.same ∙ f₁.grown.same) no-methods)
 
   f₄ : Filled M s o 5 a₄ 4 f₃.state e₀ e
   f₄ =
       r₄ o f₃.state f₃.told (f₃.grown.others 4 (λ e. omega arith) ∙ f₂.grown.others 4 (λ e. omega arith) ∙ f₁.grown.others 4 (λ e. omega arith))
-      (record { points-listed = λ low. still-points; methods-listed = λ is. methods-listed })
+      (record { points_listed = λ low. still-points; methods_listed = λ is. methods_listed })
 
   -- the state past the steps
   abbrev u : Reading
@@ -164,7 +164,7 @@ module _ {M : Model} {s : List ℕ} {t₀ : Tally} {a₁ a₂ a₃ a₄ : Sectio
     certificates-le = omega (arith, counted 5, ap (λ (xs : List Counted). length xs) no-certificates)
 
     first-sheet : FirstSheet s p u
-    first-sheet = record { none_before = nothing-before; points-listed = still-listed s p 2 f₄.grown (λ e. omega arith) still-points }
+    first-sheet = record { none_before = nothing-before; points_listed = still-listed s p 2 f₄.grown (λ e. omega arith) still-points }
 
     -- .. in the certificates, or with them
     pub concludes : {r : Read} → ((o : ReadResult) (u : Reading) → Told M s o 5 (Done at t) u → u.own 5 ≡ [] → FirstSheet s p u → Concluded s o u r)

@@ -13,7 +13,7 @@ use Rattle.values.specs.declared.Method.{Method}
 use Rattle.values.specs.declared.Step.{Step}
 use Rattle.values.specs.Values.{method_value, step_value}
 use Rattle.index.specs.Indexed.{Indexes, FailedIn}
-use Rattle.index.proofs.Indexed.{failed-in, body_is, body-named, step-named, target_fits, channel-fits, event-fits}
+use Rattle.index.proofs.Indexed.{failed-in, body_is, body_named, step-named, target_fits, channel-fits, event-fits}
 
 module _ {S : Sheet} {s conditions points methods steps : List ℕ} (x : Indexes S s conditions points methods steps) where
   module _ {m : ℕ} (l : m < length S.methods) {v w : Method} (is : v ≡ w) (read : method_value v ≡ method_at s (get_or methods m 0)) where
@@ -24,7 +24,7 @@ module _ {S : Sheet} {s conditions points methods steps : List ℕ} (x : Indexes
     body-rules starts = ap (method_rules S starts m) (body_is x m l ∙ body-read)
 
     pub body-names : BodyNamed (length S.points) (method_value w).body
-    body-names = body-named x m l _ body-read
+    body-names = body_named x m l _ body-read
 
     -- it has two outcomes
     pub fails : (d : sheet.Declared) → (method_value w).failing ≡ some d → FailedIn S s conditions methods m

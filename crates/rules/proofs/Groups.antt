@@ -10,7 +10,7 @@ use lib.Dec.{eqb}
 use lib.ListN.{length, length-append, drop, get_elem?}
 use lib.Seq.{drop-append_seam}
 use Rattle.sheet.specs.Each.{Each, nil, cons}
-use Rattle.sheet.specs.Sheet.{failed, Body, Method, Step, event-step, call_step, pass_step, stop_step, Sheet, body_in, body}
+use Rattle.sheet.specs.Sheet.{failed, Body, Method, Step, event_step, call_step, pass_step, stop_step, Sheet, body_in, body}
 use Rattle.sheet.proofs.Each.{each_append}
 use Rattle.runs.specs.Rules.{Rule, if_any, is_among, first_rules, failed_exit_rules, method_rules, return_rules, entry_asked, entry_rules, step_rules, firsts_rules, methods_rules, steps_rules, rules_from, rules}
 use Rattle.claims.specs.Claims.{NthIs}
@@ -152,16 +152,16 @@ module _ (S : Sheet) where
 
   method-few : (starts : List ℕ) (m : ℕ) (b : Option Body) → Few (method_rules S starts m b)
   method-few starts m none = omega arith
-  method-few starts m (some b) = omega (arith, few-if-any 3 (failed_exit_rules S starts m) (failed-few m (is_among starts m)) b.failed-exit)
+  method-few starts m (some b) = omega (arith, few-if-any 3 (failed_exit_rules S starts m) (failed-few m (is_among starts m)) b.failed_exit)
 
   step-few : (i : ℕ) (t : Step) → Few (step_rules S i t)
-  step-few i (event-step p q a) = omega arith
+  step-few i (event_step p q a) = omega arith
   step-few i (call_step t) =
       omega (
         arith,
-        few-if-any 4 (return_rules S 18 i t failed) (λ p. omega arith) t.failed-to,
+        few-if-any 4 (return_rules S 18 i t failed) (λ p. omega arith) t.failed_to,
         few-if-any 1 (entry_rules S i t) (λ e. omega arith) (entry_asked S t.method),
-        length-append (if_any t.failed-to (return_rules S 18 i t failed)) (if_any (entry_asked S t.method) (entry_rules S i t)),
+        length-append (if_any t.failed_to (return_rules S 18 i t failed)) (if_any (entry_asked S t.method) (entry_rules S i t)),
       )
   step-few i (pass_step p q) = omega arith
   step-few i (stop_step p) = omega arith

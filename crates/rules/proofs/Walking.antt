@@ -25,9 +25,9 @@ cursor_at number subject k = record { number = number; subject = subject; k = k 
 -- What is asked ---------------------------------------------------------------------------------------------------------
 
 pub record Claimed (s : List ℕ) (xs : List Rule) (k : ℕ) (claim : Claim) : Type 0 where
-  pub rule-k : Rule
-  pub says : Says s claim rule-k
-  pub is : NthIs xs k rule-k
+  pub rule_k : Rule
+  pub says : Says s claim rule_k
+  pub is : NthIs xs k rule_k
   pub inside : k < length xs
 
 nth_inside : {A : Type 0} (xs : List A) (k : ℕ) {x : A} {ys : List A} → drop k xs ≡ x ∷ ys → k < length xs
@@ -38,7 +38,7 @@ nth_inside (y ∷ xs) (suc k) e = omega (arith, nth_inside xs k e)
 
 module _ {s : List ℕ} {xs : List Rule} {k : ℕ} {a : Asked} where
   pub claimed : {claim : Claim} → Kth s xs k a → a ≡ AClaim claim → Claimed s xs k claim
-  claimed (rule x asks is) e = record { rule-k = x; says = subst (λ (a : Asked). Asks s a x) e asks; is = is; inside = nth_inside xs k is }
+  claimed (rule x asks is) e = record { rule_k = x; says = subst (λ (a : Asked). Asks s a x) e asks; is = is; inside = nth_inside xs k is }
   claimed (none_left f is) e = let z : ◌≡◌ {A = ℕ} 0 1 = cc in absurd (omega arith)
 
   pub all-claimed : Kth s xs k a → a ≡ NoMore → drop k xs ≡ []
@@ -49,10 +49,10 @@ module _ {s : List ℕ} {xs : List Rule} {k : ℕ} {a : Asked} where
 
 module _ {S : Sheet} {s conditions points methods steps : List ℕ} {n : Counts} (x : SheetIn S s conditions points methods steps n) where
   pub few-subjects : n.methods + n.steps ≤ 576
-  few-subjects = omega (arith, x.methods-are, x.steps-are, x.indexes.methods-tabled.few, x.indexes.steps-tabled.few)
+  few-subjects = omega (arith, x.methods_are, x.steps_are, x.indexes.methods_tabled.few, x.indexes.steps_tabled.few)
 
   pub subjects-many : length (groups S) ≡ suc (n.methods + n.steps)
-  subjects-many = groups-many S ∙ omega (arith, x.methods-are, x.steps-are)
+  subjects-many = groups-many S ∙ omega (arith, x.methods_are, x.steps_are)
 
   pub a-subject : (k : ℕ) → k ≤ n.methods + n.steps → (xs : List Rule) × NthIs (groups S) k xs
   a-subject k l = nth-exists (groups S) k (omega (arith, subjects-many))
@@ -62,7 +62,7 @@ module _ {S : Sheet} {s : List ℕ} where
   pub before-subject : {number : ℕ} {subject : Subject} (own : List Rule) → SubjectIs s S subject own → NthIs (groups S) number own
       → (xs : List Rule) → xs ≡ together (drop number (groups S)) → LeftAt s S (cursor_at number subject 0) xs
   before-subject {number} own is nth xs e =
-      record { own = own; subject-is = is; own_is = nth; within = omega arith; left-are = e ∙ next-together (groups S) number own nth }
+      record { own = own; subject_is = is; own_is = nth; within = omega arith; left_are = e ∙ next-together (groups S) number own nth }
 
   module _ {number : ℕ} {subject : Subject} {k : ℕ} {xs : List Rule} (h : LeftAt s S (cursor_at number subject k) xs) where
     abbrev behind : List Rule
@@ -81,17 +81,17 @@ module _ {S : Sheet} {s : List ℕ} where
       pub goes_on : GoesOn s S xs claim (cursor_at number subject (k + 1))
       goes_on =
           record {
-            first = a.rule-k;
+            first = a.rule_k;
             others = drop (k + 1) h.own ++ behind;
             says = a.says;
-            rules-are = h.left-are ∙ ap (λ (ys : List Rule). ys ++ behind) a.is ∙ ap (λ (j : ℕ). a.rule-k ∷ (drop j h.own ++ behind)) (sym (add-one k));
-            others-left =
-                record { own = h.own; subject-is = h.subject-is; own_is = h.own_is; within = omega (arith, a.inside); left-are = refl };
+            rules_are = h.left_are ∙ ap (λ (ys : List Rule). ys ++ behind) a.is ∙ ap (λ (j : ℕ). a.rule_k ∷ (drop j h.own ++ behind)) (sym (add-one k));
+            others_left =
+                record { own = h.own; subject_is = h.subject_is; own_is = h.own_is; within = omega (arith, a.inside); left_are = refl };
           }
 
     module _ (none : drop k h.own ≡ []) where
       left_behind : xs ≡ behind
-      left_behind = h.left-are ∙ ap (λ (ys : List Rule). ys ++ behind) none
+      left_behind = h.left_are ∙ ap (λ (ys : List Rule). ys ++ behind) none
 
       pub goes_to : {subject' : Subject} (own : List Rule) → SubjectIs s S subject' own → NthIs (groups S) (number + 1) own
           → LeftAt s S (cursor_at (number + 1) subject' 0) xs

@@ -14,18 +14,18 @@ use Rattle.rules.specs.Order.{groups, most_rules, together}
 -- xs are the rules whose claims come next: those that are left of the cursor's subject, and those of the subjects behind it
 pub record LeftAt (s : List ℕ) (S : Sheet) (c : Cursor) (xs : List Rule) : Type 0 where
   pub own : List Rule
-  pub subject-is : SubjectIs s S c.subject own
+  pub subject_is : SubjectIs s S c.subject own
   pub own_is : NthIs (groups S) c.number own
   pub within : c.k ≤ length own
-  pub left-are : xs ≡ drop c.k own ++ together (drop (suc c.number) (groups S))
+  pub left_are : xs ≡ drop c.k own ++ together (drop (suc c.number) (groups S))
 
 -- the claim is that of the first of the rules xs, and the others come next
 pub record GoesOn (s : List ℕ) (S : Sheet) (xs : List Rule) (claim : Claim) (after : Cursor) : Type 0 where
   pub first : Rule
   pub others : List Rule
   pub says : Says s claim first
-  pub rules-are : xs ≡ first ∷ others
-  pub others-left : LeftAt s S after others
+  pub rules_are : xs ≡ first ∷ others
+  pub others_left : LeftAt s S after others
 
 -- what comes next of the rules xs: the first one's claim, or the end where there is none
 abbrev pub NextIs : List ℕ → Sheet → List Rule → Next → Type 0

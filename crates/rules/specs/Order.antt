@@ -39,5 +39,5 @@ together (xs ∷ xss) = xs ++ together xss
 -- the tables lead to the sheet S, which has so many methods and steps
 pub record SheetIn (S : Sheet) (s conditions points methods steps : List ℕ) (n : Counts) : Type 0 where
   pub indexes : Indexes S s conditions points methods steps
-  pub methods-are : n.methods ≡ length S.methods
-  pub steps-are : n.steps ≡ length S.steps
+  pub methods_are : n.methods ≡ length S.methods
+  pub steps_are : n.steps ≡ length S.steps

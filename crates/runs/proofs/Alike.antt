@@ -11,8 +11,8 @@ use native.Mathlib.Omega.{arith}
 use lib.ListN.{get_elem?}
 use Rattle.condition.specs.Condition.{empty, star, event, any, globally}
 use Rattle.condition.proofs.Words.{words}
-use Rattle.sheet.specs.Sheet.{normal, point_from, event-step, call_from, pass_step, Sheet, condition}
-use Rattle.runs.specs.Runs.{Call, Returned, Move, return, by-step, run}
+use Rattle.sheet.specs.Sheet.{normal, point_from, event_step, call_from, pass_step, Sheet, condition}
+use Rattle.runs.specs.Runs.{Call, Returned, Move, return, by_step, run}
 use Rattle.runs.specs.Owing.{InCaller, LiesInFuture}
 use Rattle.runs.proofs.Methods.{primitive, with_body}
 
@@ -23,26 +23,26 @@ visits = record {
   conditions = empty ∷ star (any 32) ∷ star (event 2) ∷ globally (2 ^ 32 - 1 - 1) ∷ [];
   points = point_from 2 0 1 ∷ point_from 2 2 2 ∷ point_from 2 2 2 ∷ [];
   methods = with_body 2 2 2 0 2 ∷ primitive 1 0 3 ∷ [];
-  steps = call_from 0 1 1 ∷ call_from 1 1 0 ∷ pass_step 1 2 ∷ event-step 1 2 2 ∷ [];
+  steps = call_from 0 1 1 ∷ call_from 1 1 0 ∷ pass_step 1 2 ∷ event_step 1 2 2 ∷ [];
   certificates = [];
   new = false;
 }
 
 -- the primitive, method 0, the primitive again: now in the first of the two
-abbrev pub to-first : List Move
-to-first = by-step 0 normal [] ∷ by-step 1 normal [] ∷ by-step 0 normal [] ∷ []
+abbrev pub to_first : List Move
+to_first = by_step 0 normal [] ∷ by_step 1 normal [] ∷ by_step 0 normal [] ∷ []
 
 -- it returns, to the outermost
-abbrev to-outermost : List Move
-to-outermost = to-first ++ (by-step 2 normal [] ∷ return normal ∷ [])
+abbrev to_outermost : List Move
+to_outermost = to_first ++ (by_step 2 normal [] ∷ return normal ∷ [])
 
 -- the same step again: in the second
-abbrev to-second : List Move
-to-second = to-outermost ++ (by-step 1 normal [] ∷ [])
+abbrev to_second : List Move
+to_second = to_outermost ++ (by_step 1 normal [] ∷ [])
 
 -- in the run of the moves, the last call to return (n = 0), the last but one (n = 1) and so on, if there is one
 abbrev returned_in : List Move → ℕ → Option Returned
-returned_in ms n = get_elem? (run visits 0 ms).returned-calls n
+returned_in ms n = get_elem? (run visits 0 ms).returned_calls n
 
 abbrev OwedTo : List Call → Option Returned → Type 0
 OwedTo cs none = ⊥
@@ -50,18 +50,18 @@ OwedTo cs (some r) = InCaller cs r.call
 
 -- its future is owed in the state that the moves lead to
 abbrev OwedAfter : List Move → ℕ → Type 0
-OwedAfter ms n = OwedTo (run visits 0 ms).open-calls (returned_in ms n)
+OwedAfter ms n = OwedTo (run visits 0 ms).open_calls (returned_in ms n)
 
 -- The call of the primitive that the first made is the last to return; once the first has returned too, it is the last but one.
-pub owed-in-first : OwedAfter to-first 0
+pub owed-in-first : OwedAfter to_first 0
 unfolding run
 owed-in-first = Memᴰ.head refl
 
-pub owed-in-outermost : OwedAfter to-outermost 1
+pub owed-in-outermost : OwedAfter to_outermost 1
 unfolding run
 owed-in-outermost = Memᴰ.tail (Memᴰ.head refl)
 
-pub not-owed-in-second : OwedAfter to-second 1 → ⊥
+pub not-owed-in-second : OwedAfter to_second 1 → ⊥
 unfolding run
 not-owed-in-second m = ⊎_elim (λ e. omega arith) (λ k. ⊎_elim (λ e. omega arith) Memᴰ.not-nil (Memᴰ.cases_cons k)) (Memᴰ.cases_cons m)
 
@@ -75,9 +75,9 @@ abbrev visit : ℕ → Call
 visit n = record { method = 0; channel = none; step = some 1; began = []; activation = record { number = n; callers = 0 ∷ [] } }
 
 pub open-calls-are :
-    ((run visits 0 to-first).open-calls ≡ visit 2 ∷ outermost ∷ [])
-    × ((run visits 0 to-outermost).open-calls ≡ outermost ∷ [])
-    × ((run visits 0 to-second).open-calls ≡ visit 4 ∷ outermost ∷ [])
+    ((run visits 0 to_first).open_calls ≡ visit 2 ∷ outermost ∷ [])
+    × ((run visits 0 to_outermost).open_calls ≡ outermost ∷ [])
+    × ((run visits 0 to_second).open_calls ≡ visit 4 ∷ outermost ∷ [])
 unfolding run
 open-calls-are = (refl, refl, refl)
 
@@ -90,11 +90,11 @@ probed =
       at = [];
     }
 
-pub is-probed : (returned_in to-first 0 ≡ some probed) × (returned_in to-outermost 1 ≡ some probed) × (returned_in to-second 1 ≡ some probed)
+pub is-probed : (returned_in to_first 0 ≡ some probed) × (returned_in to_outermost 1 ≡ some probed) × (returned_in to_second 1 ≡ some probed)
 unfolding run
 is-probed = (refl, refl, refl)
 
 -- in the second it would not be met: 0 is due there
-pub not-met-in-second : LiesInFuture visits (run visits 0 to-second) probed → ⊥
+pub not-met-in-second : LiesInFuture visits (run visits 0 to_second) probed → ⊥
 unfolding run
 not-met-in-second f = (words (condition visits 3) (0 ∷ [])).1 (f (0 ∷ []) ((words (condition visits 1) (0 ∷ [])).0 tt))

@@ -9,8 +9,8 @@ use Rattle.condition.specs.Places.{accepts}
 use Rattle.condition.proofs.Words.{words}
 use Rattle.sheet.specs.Each.{nil, cons}
 use Rattle.sheet.proofs.Each.{each-head, each_tail}
-use Rattle.sheet.specs.Sheet.{normal, failed, point_from, event-step, call_from, failing_call_from, stop_step, Sheet}
-use Rattle.runs.specs.Runs.{Move, return, by-step, run}
+use Rattle.sheet.specs.Sheet.{normal, failed, point_from, event_step, call_from, failing_call_from, stop_step, Sheet}
+use Rattle.runs.specs.Runs.{Move, return, by_step, run}
 use Rattle.runs.specs.Owing.{Owing}
 use Rattle.runs.proofs.Methods.{primitive, with_body, failing_primitive, failing_with_body}
 
@@ -28,32 +28,32 @@ opening = record {
   conditions = empty ∷ star (any 32) ∷ event 0 ∷ event 1 ∷ asked ∷ [];
   points = point_from 1 1 1 ∷ point_from 1 1 2 ∷ point_from 1 1 0 ∷ point_from 1 1 1 ∷ point_from 1 1 0 ∷ [];
   methods = with_body 1 1 0 0 2 ∷ with_body 1 1 4 3 4 ∷ primitive 1 3 4 ∷ [];
-  steps = call_from 0 1 1 ∷ event-step 1 2 0 ∷ call_from 3 4 2 ∷ call_from 0 1 2 ∷ [];
+  steps = call_from 0 1 1 ∷ event_step 1 2 0 ∷ call_from 3 4 2 ∷ call_from 0 1 2 ∷ [];
   certificates = [];
   new = false;
 }
 
 -- control is in the activation that made the call, and open is due
-pub unmet-in-maker : Owing opening (run opening 0 (by-step 3 normal (1 ∷ []) ∷ [])) → ⊥
+pub unmet-in-maker : Owing opening (run opening 0 (by_step 3 normal (1 ∷ []) ∷ [])) → ⊥
 unfolding run
 unmet-in-maker o = lacks asked (0 ∷ []) refl (each-head o (Memᴰ.head refl) (0 ∷ []) (0, tt, refl))
 
 -- the moves to where method 1, which made the call, returns
-abbrev to-return : List Move
-to-return = by-step 0 normal [] ∷ by-step 2 normal (1 ∷ []) ∷ return normal ∷ []
+abbrev to_return : List Move
+to_return = by_step 0 normal [] ∷ by_step 2 normal (1 ∷ []) ∷ return normal ∷ []
 
 -- control is in that activation's caller, and open is due
-pub unmet-in-caller : Owing opening (run opening 0 to-return) → ⊥
+pub unmet-in-caller : Owing opening (run opening 0 to_return) → ⊥
 unfolding run
 unmet-in-caller o = lacks asked (0 ∷ []) refl (each-head (each_tail o) (Memᴰ.tail (Memᴰ.head refl)) (0 ∷ []) (0, tt, refl))
 
 -- the call of method 1, which has a body, asks the same: control is in the activation that made it
-pub unmet-of-body : Owing opening (run opening 0 to-return) → ⊥
+pub unmet-of-body : Owing opening (run opening 0 to_return) → ⊥
 unfolding run
 unmet-of-body o = lacks asked (0 ∷ []) refl (each-head o (Memᴰ.head refl) (0 ∷ []) (0, tt, refl))
 
 -- open has been raised, and nothing more is due
-pub unmet-since : Owing opening (run opening 0 (to-return ++ (by-step 1 normal [] ∷ []))) → ⊥
+pub unmet-since : Owing opening (run opening 0 (to_return ++ (by_step 1 normal [] ∷ []))) → ⊥
 unfolding run
 unmet-since o = lacks asked (0 ∷ []) refl (each-head (each_tail o) (Memᴰ.tail (Memᴰ.head refl)) [] refl)
 
@@ -63,30 +63,30 @@ failing = record {
   conditions = opening.conditions;
   points = opening.points;
   methods = with_body 1 1 0 0 2 ∷ failing_with_body 1 1 2 3 4 1 4 4 ∷ failing_primitive 1 3 2 3 4 ∷ [];
-  steps = failing_call_from 0 1 1 1 ∷ event-step 1 2 0 ∷ failing_call_from 3 4 4 2 ∷ failing_call_from 0 1 1 2 ∷ [];
+  steps = failing_call_from 0 1 1 1 ∷ event_step 1 2 0 ∷ failing_call_from 3 4 4 2 ∷ failing_call_from 0 1 1 2 ∷ [];
   certificates = [];
   new = false;
 }
 
 -- of the primitive, in the activation that made the call
-pub unmet-of-failed : Owing failing (run failing 0 (by-step 3 failed (1 ∷ []) ∷ [])) → ⊥
+pub unmet-of-failed : Owing failing (run failing 0 (by_step 3 failed (1 ∷ []) ∷ [])) → ⊥
 unfolding run
 unmet-of-failed o = lacks asked (0 ∷ []) refl (each-head o (Memᴰ.head refl) (0 ∷ []) (0, tt, refl))
 
-abbrev to-failure : List Move
-to-failure = by-step 0 normal [] ∷ by-step 2 failed (1 ∷ []) ∷ return failed ∷ []
+abbrev to_failure : List Move
+to_failure = by_step 0 normal [] ∷ by_step 2 failed (1 ∷ []) ∷ return failed ∷ []
 
 -- of the primitive, in that activation's caller, and of method 1, in the activation that made it
-pub unmet-of-failed-in-caller : Owing failing (run failing 0 to-failure) → ⊥
+pub unmet-of-failed-in-caller : Owing failing (run failing 0 to_failure) → ⊥
 unfolding run
 unmet-of-failed-in-caller o = lacks asked (0 ∷ []) refl (each-head (each_tail o) (Memᴰ.tail (Memᴰ.head refl)) (0 ∷ []) (0, tt, refl))
 
-pub unmet-of-failed-body : Owing failing (run failing 0 to-failure) → ⊥
+pub unmet-of-failed-body : Owing failing (run failing 0 to_failure) → ⊥
 unfolding run
 unmet-of-failed-body o = lacks asked (0 ∷ []) refl (each-head o (Memᴰ.head refl) (0 ∷ []) (0, tt, refl))
 
 -- of the same call, where it does not fail, what is owed holds
-pub met-of-normal : Owing failing (run failing 0 (by-step 3 normal (1 ∷ []) ∷ []))
+pub met-of-normal : Owing failing (run failing 0 (by_step 3 normal (1 ∷ []) ∷ []))
 unfolding run
 met-of-normal = cons (λ i v h. h) nil
 
@@ -101,6 +101,6 @@ stopping = record {
   new = true;
 }
 
-pub unmet-at-stop : Owing stopping (run stopping 0 (by-step 0 normal (1 ∷ []) ∷ by-step 1 normal [] ∷ [])) → ⊥
+pub unmet-at-stop : Owing stopping (run stopping 0 (by_step 0 normal (1 ∷ []) ∷ by_step 1 normal [] ∷ [])) → ⊥
 unfolding run
 unmet-at-stop o = lacks asked (0 ∷ []) refl (each-head o (Memᴰ.head refl) (0 ∷ []) (0, tt, refl))

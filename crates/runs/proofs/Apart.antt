@@ -15,8 +15,8 @@ use Rattle.sheet.specs.Each.{Each, nil, cons}
 use Rattle.sheet.proofs.Each.{each_map, each-zip, each-head, each_tail, each_append, each_left, each_right, each-is-member, each-mapped, each_member}
 use Rattle.sheet.specs.Sheet.{normal, CallStep, Sheet}
 use Rattle.runs.specs.Runs.{Call, Returned, State, calls, start, Move, return, callers_now, new_call, run_on, run}
-use Rattle.runs.specs.Owing.{call_number, IsCaller, state_after, HowBegan, at-start, by_move, ToldApart}
-use Rattle.runs.proofs.Moves.{Makes, event-made, pass-made, primitive-made, open_made, stop-made, return-made, move-case, run-append, run-on-keeps, run-keeps}
+use Rattle.runs.specs.Owing.{call_number, IsCaller, state_after, HowBegan, at_start, by_move, ToldApart}
+use Rattle.runs.proofs.Moves.{Makes, event_made, pass_made, primitive_made, open_made, stop_made, return_made, move-case, run-append, run-on-keeps, run-keeps}
 use Rattle.runs.proofs.Numbers.{NumbersAt, not-below, numbers-below, made-numbers, start-numbers}
 
 -- Lists of calls --------------------------------------------------------------------------------------------------------
@@ -25,7 +25,7 @@ abbrev call_numbers : List Call → List ℕ
 call_numbers = map call_number
 
 abbrev returned : State → List Call
-returned s = map (λ r. r.call) s.returned-calls
+returned s = map (λ r. r.call) s.returned_calls
 
 -- a call is moved behind those that stay open
 module _ (c : Call) (cs ds : List Call) where
@@ -68,21 +68,21 @@ record Told (cs : List Call) (rs : List Returned) : Type 0 where
   stacked : Stacked cs
 
 abbrev ToldAt : State → Type 0
-ToldAt s = Told s.open-calls s.returned-calls
+ToldAt s = Told s.open_calls s.returned_calls
 
 new-nodup : (s : State) (i : ℕ) (t : CallStep) → NumbersAt s → ToldAt s → Nodup (call_numbers (new_call s i t ∷ calls s))
 new-nodup s i t n g = Nodup-cons.1 (λ k. ∥∥₁_elim k ⊥_prop (not-below (each-mapped (λ j. j < _) call_number (numbers-below s n))), g.numbers)
 
 module _ (S : Sheet) where
   made_told : (s t : State) → Makes S s t → NumbersAt s → ToldAt s → ToldAt t
-  made_told s t (event-made i found) n g = g
-  made_told s t (pass-made i found) n g = g
-  made_told s t (primitive-made {t = x} i o w found at is to h) n g =
-      record { numbers = nodup-moved (new_call s i x) s.open-calls _ (new-nodup s i x n g); stacked = g.stacked }
+  made_told s t (event_made i found) n g = g
+  made_told s t (pass_made i found) n g = g
+  made_told s t (primitive_made {t = x} i o w found at is to h) n g =
+      record { numbers = nodup-moved (new_call s i x) s.open_calls _ (new-nodup s i x n g); stacked = g.stacked }
   made_told s t (open_made {t = x} i found at is) n g = record { numbers = new-nodup s i x n g; stacked = upon (callers-are g.stacked) g.stacked }
-  made_told s t (stop-made i found marked) n g = g
-  made_told s t (return-made {c = c} {cs = cs} o opened is at to) n g =
-      let k : Told (c ∷ cs) s.returned-calls = subst (λ x. Told x s.returned-calls) opened g in
+  made_told s t (stop_made i found marked) n g = g
+  made_told s t (return_made {c = c} {cs = cs} o opened is at to) n g =
+      let k : Told (c ∷ cs) s.returned_calls = subst (λ x. Told x s.returned_calls) opened g in
       record { numbers = nodup-moved c cs (returned s) k.numbers; stacked = stacked-below k.stacked }
 
   start-told : (m : ℕ) → ToldAt (start S m)
@@ -99,7 +99,7 @@ module _ (S : Sheet) where
 -- after a move from s: a call of s, or the call that the move began
 data OldOrNew (s : State) (c : Call) : Type 0 where
   old : Memᴰ c (calls s) → OldOrNew s c
-  new : call_number c ≡ length s.open-calls + length s.returned-calls → c.began ≡ s.history → c.activation.callers ≡ callers_now s.open-calls
+  new : call_number c ≡ length s.open_calls + length s.returned_calls → c.began ≡ s.history → c.activation.callers ≡ callers_now s.open_calls
       → OldOrNew s c
 
 all_old : (s : State) → Each (OldOrNew s) (calls s)
@@ -107,24 +107,24 @@ all_old s = each_map (λ c. old) (each-is-member (calls s))
 
 module _ (S : Sheet) where
   made-calls : (s t : State) → Makes S s t → Each (OldOrNew s) (calls t)
-  made-calls s t (event-made i found) = all_old s
-  made-calls s t (pass-made i found) = all_old s
-  made-calls s t (primitive-made {t = x} i o w found at is to h) =
-      (each-moved (new_call s i x) s.open-calls (returned s)).0 (cons (new refl refl refl) (all_old s))
+  made-calls s t (event_made i found) = all_old s
+  made-calls s t (pass_made i found) = all_old s
+  made-calls s t (primitive_made {t = x} i o w found at is to h) =
+      (each-moved (new_call s i x) s.open_calls (returned s)).0 (cons (new refl refl refl) (all_old s))
   made-calls s t (open_made i found at is) = cons (new refl refl refl) (all_old s)
-  made-calls s t (stop-made i found marked) = all_old s
-  made-calls s t (return-made {c = c} {cs = cs} o opened is at to) =
+  made-calls s t (stop_made i found marked) = all_old s
+  made-calls s t (return_made {c = c} {cs = cs} o opened is at to) =
       (each-moved c cs (returned s)).0
       (subst (λ (xs : List Call). Each (OldOrNew s) (xs ++ returned s)) opened (all_old s))
 
   made-stay : (s t : State) → Makes S s t → Each (λ c. Memᴰ c (calls t)) (calls s)
-  made-stay s t (event-made i found) = each-is-member (calls s)
-  made-stay s t (pass-made i found) = each-is-member (calls s)
-  made-stay s t (primitive-made {t = x} i o w found at is to h) =
-      each_tail ((each-moved (new_call s i x) s.open-calls (returned s)).1 (each-is-member _))
+  made-stay s t (event_made i found) = each-is-member (calls s)
+  made-stay s t (pass_made i found) = each-is-member (calls s)
+  made-stay s t (primitive_made {t = x} i o w found at is to h) =
+      each_tail ((each-moved (new_call s i x) s.open_calls (returned s)).1 (each-is-member _))
   made-stay s t (open_made i found at is) = each_tail (each-is-member _)
-  made-stay s t (stop-made i found marked) = each-is-member (calls s)
-  made-stay s t (return-made {c = c} {cs = cs} o opened is at to) =
+  made-stay s t (stop_made i found marked) = each-is-member (calls s)
+  made-stay s t (return_made {c = c} {cs = cs} o opened is at to) =
       subst (λ (xs : List Call). Each (λ d. Memᴰ d (calls t)) (xs ++ returned s)) (sym opened)
       ((each-moved c cs (returned s)).1 (each-is-member _))
 
@@ -158,16 +158,16 @@ module _ (S : Sheet) where
 
     -- How each call began ---------------------------------------------------------------------------------------------------
 
-    callers : (k : ℕ) (c : Call) → c.activation.callers ≡ callers_now (at k).open-calls → (d : Call) → Memᴰ d (calls (run S m ms))
-        → IsCaller d c ↔ Memᴰ d (at k).open-calls
+    callers : (k : ℕ) (c : Call) → c.activation.callers ≡ callers_now (at k).open_calls → (d : Call) → Memᴰ d (calls (run S m ms))
+        → IsCaller d c ↔ Memᴰ d (at k).open_calls
     callers k c is d there = (
       λ i.
-          let (e, j, n) = Memᴰ.of_map call_number (at k).open-calls (subst (λ (ns : List ℕ). Memᴰ (call_number d) ns) open-are i) in
-          subst (λ (x : Call). Memᴰ x (at k).open-calls) (same-call (runs-told S m ms).1.numbers (stays k e (Memᴰ.append_left _ j)) there n) j,
+          let (e, j, n) = Memᴰ.of_map call_number (at k).open_calls (subst (λ (ns : List ℕ). Memᴰ (call_number d) ns) open-are i) in
+          subst (λ (x : Call). Memᴰ x (at k).open_calls) (same-call (runs-told S m ms).1.numbers (stays k e (Memᴰ.append_left _ j)) there n) j,
       λ j. subst (λ (ns : List ℕ). Memᴰ (call_number d) ns) (sym open-are) (Memᴰ.map call_number j),
     )
       where
-        open-are : c.activation.callers ≡ call_numbers (at k).open-calls
+        open-are : c.activation.callers ≡ call_numbers (at k).open_calls
         open-are = is ∙ callers-are (runs-told S m (take k ms)).1.stacked
 
     began : (k : ℕ) → Each (HowBegan S m ms) (calls (at k)) → (c : Call) → Memᴰ c (calls (at (suc k))) → OldOrNew (at k) c → HowBegan S m ms c
@@ -177,8 +177,8 @@ module _ (S : Sheet) where
         record {
           begins =
               record {
-                not-before = λ i. let l = each_member (λ d. call_number d < _) (numbers-below (at k) (runs-told S m (take k ms)).0) i in omega arith;
-                there-after = there;
+                not_before = λ i. let l = each_member (λ d. call_number d < _) (numbers-below (at k) (runs-told S m (take k ms)).0) i in omega arith;
+                there_after = there;
               };
           history = h;
           callers = callers k c o;
@@ -186,12 +186,12 @@ module _ (S : Sheet) where
 
     all-began : (k : ℕ) → Each (HowBegan S m ms) (calls (at k))
     unfolding run start
-    all-began zero = cons (at-start (Memᴰ.head refl) (λ d. Memᴰ.not-nil)) nil
+    all-began zero = cons (at_start (Memᴰ.head refl) (λ d. Memᴰ.not-nil)) nil
     all-began (suc k) = each-zip (began k (all-began k)) (each-is-member (calls (at (suc k)))) (one_more k)
 
   -- of every list of moves
-  pub told-apart : (m : ℕ) (ms : List Move) → ToldApart S m ms
-  told-apart m ms =
+  pub told_apart : (m : ℕ) (ms : List Move) → ToldApart S m ms
+  told_apart m ms =
       record {
         numbers = (runs-told S m ms).1.numbers;
         began = subst (λ (xs : List Move). Each (HowBegan S m ms) (calls (run S m xs))) (take-length ms) (all-began m ms (length ms));

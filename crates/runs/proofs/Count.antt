@@ -6,7 +6,7 @@ use mathlib.Core.Bool.{Bool, true, false, cond}
 use mathlib.Core.Option.{Option, none, some}
 use mathlib.Core.List.{List, [], ◌∷◌, ◌++◌}
 use lib.ListN.{length, length-append}
-use Rattle.sheet.specs.Sheet.{failed, Body, Method, CallStep, Step, event-step, call_step, pass_step, stop_step, Sheet, future}
+use Rattle.sheet.specs.Sheet.{failed, Body, Method, CallStep, Step, event_step, call_step, pass_step, stop_step, Sheet, future}
 use Rattle.runs.specs.Rules.{holds_empty, Rule, ◌of◌says◌, is_among, if_any, failed_exit_rules, method_rules, return_rules, entry_asked, entry_rules, step_rules, firsts_rules, methods_rules, steps_rules, rules_from, rules, how_many, body_count, event_count, call_count, pass_count, failed_exits, failed_exit_count, failed_call_count, stop_count, entry_count, total, failing_starts, count_from, count}
 
 -- one rule, or none
@@ -34,7 +34,7 @@ module _ (S : Sheet) where
     of-method : (m : ℕ) (b : Option Body)
         → length (method_rules S starts m b) ≡ 4 * how_many b + 2 * failed_exits b + cond (is_among starts m) (failed_exits b) 0
     of-method m none = omega (arith, nothing (is_among starts m))
-    of-method m (some b) = omega (arith, of-failed-exit m b.failed-exit)
+    of-method m (some b) = omega (arith, of-failed-exit m b.failed_exit)
 
     of-methods : (k : ℕ) (ms : List Method)
         → length (methods_rules S starts k ms) ≡ 4 * total body_count ms + 2 * total failed_exit_count ms + failing_starts starts k ms
@@ -56,12 +56,12 @@ module _ (S : Sheet) where
 
   of-step : (k : ℕ) (t : Step)
       → length (step_rules S k t) ≡ 3 * event_count t + 5 * call_count t + 3 * pass_count t + 4 * failed_call_count t + stop_count t + entry_count S t
-  of-step k (event-step p q a) = refl
+  of-step k (event_step p q a) = refl
   of-step k (call_step t) =
       omega (
         arith,
-        length-append (if_any t.failed-to (return_rules S 18 k t failed)) (if_any (entry_asked S t.method) (entry_rules S k t)),
-        of-failed-target k t t.failed-to,
+        length-append (if_any t.failed_to (return_rules S 18 k t failed)) (if_any (entry_asked S t.method) (entry_rules S k t)),
+        of-failed-target k t t.failed_to,
         of_entry k t (entry_asked S t.method),
       )
   of-step k (pass_step p q) = refl

@@ -12,7 +12,7 @@ use lib.Dec.{leb}
 use borrow.Author.Tests.{leb-true}
 use Rattle.sheet.specs.Each.{Each, nil, cons}
 use Rattle.sheet.proofs.Each.{each_map, each_all, each_append, each-head, each_tail}
-use Rattle.sheet.specs.Sheet.{failed, Body, Method, CallStep, Step, event-step, call_step, pass_step, stop_step, Sheet, future, body, entry_in}
+use Rattle.sheet.specs.Sheet.{failed, Body, Method, CallStep, Step, event_step, call_step, pass_step, stop_step, Sheet, future, body, entry_in}
 use Rattle.runs.specs.Rules.{holds_empty, Rule, ◌of◌says◌, is_among, if_any, failed_exit_rules, method_rules, return_rules, entry_asked, entry_rules, step_rules, firsts_rules, methods_rules, steps_rules, rules, how_many, body_count, event_count, call_count, pass_count, failed_exits, failed_exit_count, failed_call_count, stop_count, entry_count, total, failing_starts, count}
 
 -- no element of a list has what f counts
@@ -76,7 +76,7 @@ module _ (S : Sheet) (unmarked : S.new ≡ false) where
       of-method m none h = nil
       of-method m (some b) h =
           within least refl (within least refl (within least refl (within least refl
-          (of-any (failed_exit_rules S starts m) b.failed-exit h (of-failed-exit m)))))
+          (of-any (failed_exit_rules S starts m) b.failed_exit h (of-failed-exit m)))))
 
       of-methods : (k : ℕ) {ms : List Method} → Each (λ x. Allowed (failed_exit_count x)) ms → AtMost (methods_rules S starts k ms)
       unfolding methods_rules
@@ -87,11 +87,11 @@ module _ (S : Sheet) (unmarked : S.new ≡ false) where
     of-failed-target i t l q = within l refl (within l refl (within l refl (within l refl nil)))
 
     of-step : (i : ℕ) (t : Step) → stop_count t ≡ 0 → Allowed (failed_call_count t) → AtMost (step_rules S i t)
-    of-step i (event-step p q a) e h = within least refl (within least refl (within least refl nil))
+    of-step i (event_step p q a) e h = within least refl (within least refl (within least refl nil))
     of-step i (call_step t) e h =
         within least refl (within least refl (within least refl (within least refl (within least refl
         (each_append
-        (of-any (return_rules S 18 i t failed) t.failed-to h (of-failed-target i t))
+        (of-any (return_rules S 18 i t failed) t.failed_to h (of-failed-target i t))
         (subst (λ (x : Option ℕ). AtMost (if_any x (entry_rules S i t))) (sym (none-asked t.method)) nil))))))
     of-step i (pass_step p q) e h = within least refl (within least refl (within least refl nil))
     of-step i (stop_step p) e h = absurd (omega (arith, e))
@@ -104,21 +104,21 @@ module _ (S : Sheet) (unmarked : S.new ≡ false) where
     at_most : NoneHas stop_count S.steps → Each (λ x. Allowed (failed_exit_count x)) S.methods → Each (λ t. Allowed (failed_call_count t)) S.steps
         → AtMost (rules S)
     unfolding rules
-    at_most no-stops exits targets =
-        each_append (of-firsts (0 ∷ [])) (each_append (of-methods (0 ∷ []) 0 exits) (of_steps 0 no-stops targets))
+    at_most no_stops exits targets =
+        each_append (of-firsts (0 ∷ [])) (each_append (of-methods (0 ∷ []) 0 exits) (of_steps 0 no_stops targets))
 
-  module _ (no-stops : Each (λ (t : Step). stop_count t ≡ 0) S.steps) where
-    pub twenty-four : Each (λ (x : Rule). x.number ≤ 24) (rules S)
-    twenty-four = at_most 24 (omega arith) no-stops (each_all (λ x. inr (omega arith))) (each_all (λ t. inr (omega arith)))
+  module _ (no_stops : Each (λ (t : Step). stop_count t ≡ 0) S.steps) where
+    pub twenty_four : Each (λ (x : Rule). x.number ≤ 24) (rules S)
+    twenty_four = at_most 24 (omega arith) no_stops (each_all (λ x. inr (omega arith))) (each_all (λ t. inr (omega arith)))
 
     module _ (exits : Each (λ (x : Method). failed_exit_count x ≡ 0) S.methods) (targets : Each (λ (t : Step). failed_call_count t ≡ 0) S.steps) where
       pub seventeen : Each (λ (x : Rule). x.number ≤ 17) (rules S)
-      seventeen = at_most 17 (omega arith) no-stops (each_map (λ x. inl) exits) (each_map (λ t. inl) targets)
+      seventeen = at_most 17 (omega arith) no_stops (each_map (λ x. inl) exits) (each_map (λ t. inl) targets)
 
       -- The count ---------------------------------------------------------------------------------------------------------------
 
       no-entry : (t : Step) → entry_count S t ≡ 0
-      no-entry (event-step p q a) = refl
+      no-entry (event_step p q a) = refl
       no-entry (call_step t) = ap how_many (none-asked t.method)
       no-entry (pass_step p q) = refl
       no-entry (stop_step p) = refl
@@ -133,6 +133,6 @@ module _ (S : Sheet) (unmarked : S.new ≡ false) where
             no-total failed_exit_count exits,
             nothing-at-starts (0 ∷ []) 0 exits,
             no-total failed_call_count targets,
-            no-total stop_count no-stops,
+            no-total stop_count no_stops,
             no-total (entry_count S) {xs = S.steps} (each_all no-entry),
           )

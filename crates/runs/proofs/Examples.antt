@@ -7,9 +7,9 @@ use mathlib.Core.Option.{none, some}
 use mathlib.Core.List.{List, [], ◌∷◌, ◌++◌, map}
 use Rattle.condition.specs.Condition.{Word, empty, join, star, event, any, ◌⊆◌}
 use Rattle.sheet.specs.Each.{nil, cons}
-use Rattle.sheet.specs.Sheet.{normal, failed, Point, point_from, Method, event-step, call_from, pass_step, Sheet}
+use Rattle.sheet.specs.Sheet.{normal, failed, Point, point_from, Method, event_step, call_from, pass_step, Sheet}
 use Rattle.runs.specs.Rules.{◌is_in◌, holds_empty, ◌of◌says◌, exit_rules, return_rules, firsts_rules, rules, AllMet}
-use Rattle.runs.specs.Runs.{Call, Returned, State, Move, return, by-step, run}
+use Rattle.runs.specs.Runs.{Call, Returned, State, Move, return, by_step, run}
 use Rattle.runs.proofs.Methods.{primitive, with_body}
 
 abbrev pub anywhere : Point
@@ -25,20 +25,20 @@ sheet = record {
   conditions = star (any 32) ∷ event 7 ∷ [];
   points = anywhere ∷ anywhere ∷ anywhere ∷ anywhere ∷ anywhere ∷ anywhere ∷ [];
   methods = with-body 0 3 ∷ with-body 4 5 ∷ primitive 0 1 0 ∷ [];
-  steps = event-step 0 1 2 ∷ call_from 1 2 1 ∷ pass_step 2 3 ∷ call_from 4 5 2 ∷ event-step 3 3 5 ∷ [];
+  steps = event_step 0 1 2 ∷ call_from 1 2 1 ∷ pass_step 2 3 ∷ call_from 4 5 2 ∷ event_step 3 3 5 ∷ [];
   certificates = [];
   new = false;
 }
 
 -- its calls
-abbrev pub of-0 : Call
-of-0 = record { method = 0; channel = none; step = none; began = []; activation = record { number = 0; callers = [] } }
+abbrev pub of_0 : Call
+of_0 = record { method = 0; channel = none; step = none; began = []; activation = record { number = 0; callers = [] } }
 
-abbrev of-1 : Call
-of-1 = record { method = 1; channel = none; step = some 1; began = 2 ∷ []; activation = record { number = 1; callers = 0 ∷ [] } }
+abbrev of_1 : Call
+of_1 = record { method = 1; channel = none; step = some 1; began = 2 ∷ []; activation = record { number = 1; callers = 0 ∷ [] } }
 
-abbrev of-2 : Call
-of-2 = record { method = 2; channel = none; step = some 3; began = 2 ∷ []; activation = record { number = 2; callers = 1 ∷ 0 ∷ [] } }
+abbrev of_2 : Call
+of_2 = record { method = 2; channel = none; step = some 3; began = 2 ∷ []; activation = record { number = 2; callers = 1 ∷ 0 ∷ [] } }
 
 infix 30 ◌returned-at◌
 abbrev pub ◌returned-at◌ : Call → Word → Returned
@@ -46,13 +46,13 @@ c returned-at h = record { call = c; outcome = normal; at = h }
 
 -- a state before the end: the history, the point, the open and the returned calls
 abbrev pub midway : Word → ℕ → List Call → List Returned → State
-midway h p cs rs = record { history = h; open-calls = cs; returned-calls = rs; point = p; ended = false }
+midway h p cs rs = record { history = h; open_calls = cs; returned_calls = rs; point = p; ended = false }
 
 abbrev at-end : State
 at-end = record {
   history = 2 ∷ 7 ∷ [];
-  open-calls = [];
-  returned-calls = (of-0 returned-at (2 ∷ 7 ∷ [])) ∷ (of-1 returned-at (2 ∷ 7 ∷ [])) ∷ (of-2 returned-at (2 ∷ 7 ∷ [])) ∷ [];
+  open_calls = [];
+  returned_calls = (of_0 returned-at (2 ∷ 7 ∷ [])) ∷ (of_1 returned-at (2 ∷ 7 ∷ [])) ∷ (of_2 returned-at (2 ∷ 7 ∷ [])) ∷ [];
   point = 3;
   ended = true;
 }
@@ -69,27 +69,27 @@ m leaves s = record { made = m; leaves = s }
 abbrev rows : List Row
 rows =
     -- control is not at the exit of method 0
-    (return normal leaves midway [] 0 (of-0 ∷ []) [])
+    (return normal leaves midway [] 0 (of_0 ∷ []) [])
     -- the event step
-    ∷ (by-step 0 normal [] leaves midway (2 ∷ []) 1 (of-0 ∷ []) [])
+    ∷ (by_step 0 normal [] leaves midway (2 ∷ []) 1 (of_0 ∷ []) [])
     -- control is no longer at that step's from, and there is no step 9
-    ∷ (by-step 0 normal [] leaves midway (2 ∷ []) 1 (of-0 ∷ []) [])
-    ∷ (by-step 9 normal [] leaves midway (2 ∷ []) 1 (of-0 ∷ []) [])
+    ∷ (by_step 0 normal [] leaves midway (2 ∷ []) 1 (of_0 ∷ []) [])
+    ∷ (by_step 9 normal [] leaves midway (2 ∷ []) 1 (of_0 ∷ []) [])
     -- the call of method 1
-    ∷ (by-step 1 normal [] leaves midway (2 ∷ []) 4 (of-1 ∷ of-0 ∷ []) [])
+    ∷ (by_step 1 normal [] leaves midway (2 ∷ []) 4 (of_1 ∷ of_0 ∷ []) [])
     -- the call of the primitive, with a word that is not of its trace and with one that is
-    ∷ (by-step 3 normal (8 ∷ []) leaves midway (2 ∷ []) 4 (of-1 ∷ of-0 ∷ []) [])
-    ∷ (by-step 3 normal (7 ∷ []) leaves midway (2 ∷ 7 ∷ []) 5 (of-1 ∷ of-0 ∷ []) ((of-2 returned-at (2 ∷ 7 ∷ [])) ∷ []))
+    ∷ (by_step 3 normal (8 ∷ []) leaves midway (2 ∷ []) 4 (of_1 ∷ of_0 ∷ []) [])
+    ∷ (by_step 3 normal (7 ∷ []) leaves midway (2 ∷ 7 ∷ []) 5 (of_1 ∷ of_0 ∷ []) ((of_2 returned-at (2 ∷ 7 ∷ [])) ∷ []))
     -- method 1 returns to the target of step 1
-    ∷ (return normal leaves midway (2 ∷ 7 ∷ []) 2 (of-0 ∷ []) ((of-1 returned-at (2 ∷ 7 ∷ [])) ∷ (of-2 returned-at (2 ∷ 7 ∷ [])) ∷ []))
+    ∷ (return normal leaves midway (2 ∷ 7 ∷ []) 2 (of_0 ∷ []) ((of_1 returned-at (2 ∷ 7 ∷ [])) ∷ (of_2 returned-at (2 ∷ 7 ∷ [])) ∷ []))
     -- the pass
-    ∷ (by-step 2 normal [] leaves midway (2 ∷ 7 ∷ []) 3 (of-0 ∷ []) ((of-1 returned-at (2 ∷ 7 ∷ [])) ∷ (of-2 returned-at (2 ∷ 7 ∷ [])) ∷ []))
+    ∷ (by_step 2 normal [] leaves midway (2 ∷ 7 ∷ []) 3 (of_0 ∷ []) ((of_1 returned-at (2 ∷ 7 ∷ [])) ∷ (of_2 returned-at (2 ∷ 7 ∷ [])) ∷ []))
     -- method 0 returns, and the run ends
     ∷ (return normal leaves at-end)
     -- moves after the end, also by a step whose from is the point where control is
     ∷ (return normal leaves at-end)
-    ∷ (by-step 2 normal [] leaves at-end)
-    ∷ (by-step 4 normal [] leaves at-end)
+    ∷ (by_step 2 normal [] leaves at-end)
+    ∷ (by_step 4 normal [] leaves at-end)
     ∷ []
 
 -- the states of a run of the moves before, then each row's
@@ -121,7 +121,7 @@ told = record {
       event 0 ∷ event 1 ∷ event 2 ∷ event 3 ∷ event 4 ∷ event 5 ∷ event 6 ∷ event 7 ∷ event 8 ∷ event 9 ∷ event 10 ∷ event 11 ∷ [];
   points = point_from 0 1 2 ∷ point_from 3 4 5 ∷ [];
   methods = with_body 6 7 8 0 1 ∷ primitive 9 10 11 ∷ [];
-  steps = event-step 0 1 31 ∷ call_from 0 1 1 ∷ pass_step 0 1 ∷ [];
+  steps = event_step 0 1 31 ∷ call_from 0 1 1 ∷ pass_step 0 1 ∷ [];
   certificates = [];
   new = false;
 }
@@ -154,7 +154,7 @@ M-rules = cons refl (cons refl (cons in_itself (cons refl (cons in_itself (cons 
 
 -- a word or an outcome that is given with an event step, with the call of a method with body, or with a pass is not read
 words-unread : run sheet 0
-    (by-step 0 failed (9 ∷ []) ∷ by-step 1 failed (9 ∷ []) ∷ by-step 3 normal (7 ∷ []) ∷ return normal ∷ by-step 2 failed (9 ∷ []) ∷ return normal ∷ [])
+    (by_step 0 failed (9 ∷ []) ∷ by_step 1 failed (9 ∷ []) ∷ by_step 3 normal (7 ∷ []) ∷ return normal ∷ by_step 2 failed (9 ∷ []) ∷ return normal ∷ [])
     ≡ at-end
 unfolding run
 words-unread = refl
@@ -176,7 +176,7 @@ rules-of-starts = refl
 rules-of-exit : exit_rules told 20 0 normal 1 ≡ (20 of 0 says event 4 is_in event 7) ∷ (21 of 0 says event 8 is_in event 5) ∷ []
 rules-of-exit = refl
 
-rules-of-return : return_rules told 20 3 (record { from = 0; to = 0; failed-to = none; method = 1; channel = none }) normal 1
+rules-of-return : return_rules told 20 3 (record { from = 0; to = 0; failed_to = none; method = 1; channel = none }) normal 1
     ≡ (20 of 3 says join (event 0) (event 10) is_in event 3)
     ∷ (21 of 3 says join (event 1) (event 10) is_in event 4)
     ∷ (22 of 3 says event 5 is_in event 11)

@@ -15,13 +15,13 @@ use Rattle.condition.proofs.Words.{words}
 use Rattle.condition.proofs.Exchange.{swap_word, exchange-holds}
 use Rattle.sheet.specs.Each.{Each, nil, cons}
 use Rattle.sheet.proofs.Each.{each-head, each_tail}
-use Rattle.sheet.specs.Sheet.{Outcome, normal, failed, point_from, Declared, event-step, call_from, failing_call_from, pass_step, Sheet, condition_named, declared_in, trace, on_channel, body, exit_in}
+use Rattle.sheet.specs.Sheet.{Outcome, normal, failed, point_from, Declared, event_step, call_from, failing_call_from, pass_step, Sheet, condition_named, declared_in, trace, on_channel, body, exit_in}
 use Rattle.runs.specs.Rules.{◌is_in◌, holds_empty, ◌of◌says◌, rules_from, rules, AllMet, count}
-use Rattle.runs.specs.Runs.{Call, Returned, State, start, Move, return, by-step, run, Safe}
+use Rattle.runs.specs.Runs.{Call, Returned, State, start, Move, return, by_step, run, Safe}
 use Rattle.runs.proofs.Methods.{primitive, with_body, failing_primitive, failing_with_body}
-use Rattle.runs.proofs.Examples.{anywhere, of-0, ◌returned-at◌, midway, Row, ◌leaves◌, states}
+use Rattle.runs.proofs.Examples.{anywhere, of_0, ◌returned-at◌, midway, Row, ◌leaves◌, states}
 use Rattle.runs.proofs.Safe.{runs-are-safe}
-use Rattle.runs.proofs.Moves.{Makes, event-made, pass-made, primitive-made, open_made, stop-made, return-made, run-keeps}
+use Rattle.runs.proofs.Moves.{Makes, event_made, pass_made, primitive_made, open_made, stop_made, return_made, run-keeps}
 
 -- Moves that fail ---------------------------------------------------------------------------------------------------------
 
@@ -30,15 +30,15 @@ abbrev ◌failed-at◌ : Call → Word → Returned
 c failed-at h = record { call = c; outcome = failed; at = h }
 
 -- the end of a run: the history, the point and the returned calls
-abbrev ended-with : Word → ℕ → List Returned → State
-ended-with h p rs = record { history = h; open-calls = []; returned-calls = rs; point = p; ended = true }
+abbrev ended_with : Word → ℕ → List Returned → State
+ended_with h p rs = record { history = h; open_calls = []; returned_calls = rs; point = p; ended = true }
 
 -- the call of method 1 by step i, and the call of a primitive in it, at the start of a run
-abbrev of-1 : ℕ → Call
-of-1 i = record { method = 1; channel = none; step = some i; began = []; activation = record { number = 1; callers = 0 ∷ [] } }
+abbrev of_1 : ℕ → Call
+of_1 i = record { method = 1; channel = none; step = some i; began = []; activation = record { number = 1; callers = 0 ∷ [] } }
 
-abbrev of-2 : Call
-of-2 = record { method = 2; channel = none; step = some 1; began = []; activation = record { number = 2; callers = 1 ∷ 0 ∷ [] } }
+abbrev of_2 : Call
+of_2 = record { method = 2; channel = none; step = some 1; began = []; activation = record { number = 2; callers = 1 ∷ 0 ∷ [] } }
 
 -- Method 0 goes from point 0 to 1, and fails at 2: it calls method 1, which leads to 1, or to 2 where it fails. Method 1 goes from point 3 to 4, and
 -- fails at 5: it calls the primitive 2, which raises 7, or 9 where it fails. Step 2 leads out of the failed exit of method 0.
@@ -47,58 +47,58 @@ failing = record {
   conditions = star (any 32) ∷ event 7 ∷ event 9 ∷ [];
   points = anywhere ∷ anywhere ∷ anywhere ∷ anywhere ∷ anywhere ∷ anywhere ∷ [];
   methods = failing_with_body 0 0 0 0 1 0 0 2 ∷ failing_with_body 0 0 0 3 4 0 0 5 ∷ failing_primitive 0 1 0 2 0 ∷ [];
-  steps = failing_call_from 0 1 2 1 ∷ failing_call_from 3 4 5 2 ∷ event-step 2 2 6 ∷ [];
+  steps = failing_call_from 0 1 2 1 ∷ failing_call_from 3 4 5 2 ∷ event_step 2 2 6 ∷ [];
   certificates = [];
   new = false;
 }
 
-abbrev failed-calls : List Returned
-failed-calls = (of-1 0 failed-at (9 ∷ [])) ∷ (of-2 failed-at (9 ∷ [])) ∷ []
+abbrev failed_calls : List Returned
+failed_calls = (of_1 0 failed-at (9 ∷ [])) ∷ (of_2 failed-at (9 ∷ [])) ∷ []
 
-abbrev failed-end : State
-failed-end = ended-with (9 ∷ []) 2 ((of-0 failed-at (9 ∷ [])) ∷ failed-calls)
+abbrev failed_end : State
+failed_end = ended_with (9 ∷ []) 2 ((of_0 failed-at (9 ∷ [])) ∷ failed_calls)
 
-abbrev to-failure : List Row
-to-failure =
+abbrev to_failure : List Row
+to_failure =
     -- control is at no failed exit
-    (return failed leaves midway [] 0 (of-0 ∷ []) [])
+    (return failed leaves midway [] 0 (of_0 ∷ []) [])
     -- the call of a method with body: the outcome is not read
-    ∷ (by-step 0 failed [] leaves midway [] 3 (of-1 0 ∷ of-0 ∷ []) [])
+    ∷ (by_step 0 failed [] leaves midway [] 3 (of_1 0 ∷ of_0 ∷ []) [])
     -- the primitive, with a word of the other outcome's trace
-    ∷ (by-step 1 failed (7 ∷ []) leaves midway [] 3 (of-1 0 ∷ of-0 ∷ []) [])
-    ∷ (by-step 1 normal (9 ∷ []) leaves midway [] 3 (of-1 0 ∷ of-0 ∷ []) [])
+    ∷ (by_step 1 failed (7 ∷ []) leaves midway [] 3 (of_1 0 ∷ of_0 ∷ []) [])
+    ∷ (by_step 1 normal (9 ∷ []) leaves midway [] 3 (of_1 0 ∷ of_0 ∷ []) [])
     -- it fails by a word of its failed trace, and leads to the failed target of step 1
-    ∷ (by-step 1 failed (9 ∷ []) leaves midway (9 ∷ []) 5 (of-1 0 ∷ of-0 ∷ []) ((of-2 failed-at (9 ∷ [])) ∷ []))
+    ∷ (by_step 1 failed (9 ∷ []) leaves midway (9 ∷ []) 5 (of_1 0 ∷ of_0 ∷ []) ((of_2 failed-at (9 ∷ [])) ∷ []))
     -- control is at the failed exit of method 1, not at its exit: it fails, and leads to the failed target of step 0
-    ∷ (return normal leaves midway (9 ∷ []) 5 (of-1 0 ∷ of-0 ∷ []) ((of-2 failed-at (9 ∷ [])) ∷ []))
-    ∷ (return failed leaves midway (9 ∷ []) 2 (of-0 ∷ []) failed-calls)
+    ∷ (return normal leaves midway (9 ∷ []) 5 (of_1 0 ∷ of_0 ∷ []) ((of_2 failed-at (9 ∷ [])) ∷ []))
+    ∷ (return failed leaves midway (9 ∷ []) 2 (of_0 ∷ []) failed_calls)
     -- method 0 fails, and the run ends
-    ∷ (return normal leaves midway (9 ∷ []) 2 (of-0 ∷ []) failed-calls)
-    ∷ (return failed leaves failed-end)
+    ∷ (return normal leaves midway (9 ∷ []) 2 (of_0 ∷ []) failed_calls)
+    ∷ (return failed leaves failed_end)
     -- moves after the end, also by a step whose from is the point where control is
-    ∷ (return failed leaves failed-end)
-    ∷ (by-step 2 normal [] leaves failed-end)
+    ∷ (return failed leaves failed_end)
+    ∷ (by_step 2 normal [] leaves failed_end)
     ∷ []
 
-pub failing-moves : states failing [] to-failure ≡ map (λ x. x.leaves) to-failure
+pub failing-moves : states failing [] to_failure ≡ map (λ x. x.leaves) to_failure
 unfolding run
 failing-moves = refl
 
 -- the same without a failure: at an exit no method fails
-abbrev returned-calls : List Returned
-returned-calls = (of-1 0 returned-at (7 ∷ [])) ∷ (of-2 returned-at (7 ∷ [])) ∷ []
+abbrev returned_calls : List Returned
+returned_calls = (of_1 0 returned-at (7 ∷ [])) ∷ (of_2 returned-at (7 ∷ [])) ∷ []
 
-abbrev to-return : List Row
-to-return =
-    (by-step 0 normal [] leaves midway [] 3 (of-1 0 ∷ of-0 ∷ []) [])
-    ∷ (by-step 1 normal (7 ∷ []) leaves midway (7 ∷ []) 4 (of-1 0 ∷ of-0 ∷ []) ((of-2 returned-at (7 ∷ [])) ∷ []))
-    ∷ (return failed leaves midway (7 ∷ []) 4 (of-1 0 ∷ of-0 ∷ []) ((of-2 returned-at (7 ∷ [])) ∷ []))
-    ∷ (return normal leaves midway (7 ∷ []) 1 (of-0 ∷ []) returned-calls)
-    ∷ (return failed leaves midway (7 ∷ []) 1 (of-0 ∷ []) returned-calls)
-    ∷ (return normal leaves ended-with (7 ∷ []) 1 ((of-0 returned-at (7 ∷ [])) ∷ returned-calls))
+abbrev to_return : List Row
+to_return =
+    (by_step 0 normal [] leaves midway [] 3 (of_1 0 ∷ of_0 ∷ []) [])
+    ∷ (by_step 1 normal (7 ∷ []) leaves midway (7 ∷ []) 4 (of_1 0 ∷ of_0 ∷ []) ((of_2 returned-at (7 ∷ [])) ∷ []))
+    ∷ (return failed leaves midway (7 ∷ []) 4 (of_1 0 ∷ of_0 ∷ []) ((of_2 returned-at (7 ∷ [])) ∷ []))
+    ∷ (return normal leaves midway (7 ∷ []) 1 (of_0 ∷ []) returned_calls)
+    ∷ (return failed leaves midway (7 ∷ []) 1 (of_0 ∷ []) returned_calls)
+    ∷ (return normal leaves ended_with (7 ∷ []) 1 ((of_0 returned-at (7 ∷ [])) ∷ returned_calls))
     ∷ []
 
-pub returning-moves : states failing [] to-return ≡ map (λ x. x.leaves) to-return
+pub returning-moves : states failing [] to_return ≡ map (λ x. x.leaves) to_return
 unfolding run
 returning-moves = refl
 
@@ -115,16 +115,16 @@ undecided = record {
 
 -- the state after the move, or the two moves, with an outcome
 abbrev decided : Outcome → Word → ℕ → Call → State
-decided o h p c = midway h p (of-0 ∷ []) (record { call = c; outcome = o; at = h } ∷ [])
+decided o h p c = midway h p (of_0 ∷ []) (record { call = c; outcome = o; at = h } ∷ [])
 
-pub move-decides : (o : Outcome) → run undecided 0 (return o ∷ []) ≡ ended-with [] 0 (record { call = of-0; outcome = o; at = [] } ∷ [])
+pub move-decides : (o : Outcome) → run undecided 0 (return o ∷ []) ≡ ended_with [] 0 (record { call = of_0; outcome = o; at = [] } ∷ [])
 unfolding run
 move-decides normal = refl
 move-decides failed = refl
 
 pub move-decides-of-body :
-    (run undecided 0 (by-step 0 normal [] ∷ return normal ∷ []) ≡ decided normal [] 1 (of-1 0))
-    × (run undecided 0 (by-step 0 normal [] ∷ return failed ∷ []) ≡ decided failed [] 2 (of-1 0))
+    (run undecided 0 (by_step 0 normal [] ∷ return normal ∷ []) ≡ decided normal [] 1 (of_1 0))
+    × (run undecided 0 (by_step 0 normal [] ∷ return failed ∷ []) ≡ decided failed [] 2 (of_1 0))
 unfolding run
 move-decides-of-body = (refl, refl)
 
@@ -132,8 +132,8 @@ abbrev called : Call
 called = record { method = 2; channel = none; step = some 1; began = []; activation = record { number = 1; callers = 0 ∷ [] } }
 
 pub move-decides-of-primitive :
-    (run undecided 0 (by-step 1 normal (7 ∷ []) ∷ []) ≡ decided normal (7 ∷ []) 1 called)
-    × (run undecided 0 (by-step 1 failed (7 ∷ []) ∷ []) ≡ decided failed (7 ∷ []) 2 called)
+    (run undecided 0 (by_step 1 normal (7 ∷ []) ∷ []) ≡ decided normal (7 ∷ []) 1 called)
+    × (run undecided 0 (by_step 1 failed (7 ∷ []) ∷ []) ≡ decided failed (7 ∷ []) 2 called)
 unfolding run
 move-decides-of-primitive = (refl, refl)
 
@@ -154,34 +154,34 @@ unfit = record {
 abbrev without_target : List Row
 without_target =
     -- the primitive 3 by a step without a failed target, the primitive 4 by one with it
-    (by-step 2 failed (9 ∷ []) leaves midway [] 0 (of-0 ∷ []) [])
-    ∷ (by-step 3 failed (7 ∷ []) leaves midway [] 0 (of-0 ∷ []) [])
-    ∷ (by-step 3 failed [] leaves midway [] 0 (of-0 ∷ []) [])
+    (by_step 2 failed (9 ∷ []) leaves midway [] 0 (of_0 ∷ []) [])
+    ∷ (by_step 3 failed (7 ∷ []) leaves midway [] 0 (of_0 ∷ []) [])
+    ∷ (by_step 3 failed [] leaves midway [] 0 (of_0 ∷ []) [])
     -- method 1, at its failed exit, by a step without a failed target
-    ∷ (by-step 0 normal [] leaves midway [] 2 (of-1 0 ∷ of-0 ∷ []) [])
-    ∷ (by-step 4 normal [] leaves midway [] 3 (of-1 0 ∷ of-0 ∷ []) [])
-    ∷ (return failed leaves midway [] 3 (of-1 0 ∷ of-0 ∷ []) [])
-    ∷ (return normal leaves midway [] 1 (of-0 ∷ []) ((of-1 0 returned-at []) ∷ []))
+    ∷ (by_step 0 normal [] leaves midway [] 2 (of_1 0 ∷ of_0 ∷ []) [])
+    ∷ (by_step 4 normal [] leaves midway [] 3 (of_1 0 ∷ of_0 ∷ []) [])
+    ∷ (return failed leaves midway [] 3 (of_1 0 ∷ of_0 ∷ []) [])
+    ∷ (return normal leaves midway [] 1 (of_0 ∷ []) ((of_1 0 returned-at []) ∷ []))
     -- method 0, at its exit
-    ∷ (return failed leaves midway [] 1 (of-0 ∷ []) ((of-1 0 returned-at []) ∷ []))
+    ∷ (return failed leaves midway [] 1 (of_0 ∷ []) ((of_1 0 returned-at []) ∷ []))
     ∷ []
 
 pub without-target-stays : states unfit [] without_target ≡ map (λ x. x.leaves) without_target
 unfolding run
 without-target-stays = refl
 
-abbrev one-outcome : Call
-one-outcome = record { method = 2; channel = none; step = some 1; began = []; activation = record { number = 1; callers = 0 ∷ [] } }
+abbrev one_outcome : Call
+one_outcome = record { method = 2; channel = none; step = some 1; began = []; activation = record { number = 1; callers = 0 ∷ [] } }
 
-abbrev without-exit : List Row
-without-exit =
+abbrev without_exit : List Row
+without_exit =
     -- method 2, at its exit, by a step with a failed target
-    (by-step 1 normal [] leaves midway [] 2 (one-outcome ∷ of-0 ∷ []) [])
-    ∷ (by-step 4 normal [] leaves midway [] 3 (one-outcome ∷ of-0 ∷ []) [])
-    ∷ (return failed leaves midway [] 3 (one-outcome ∷ of-0 ∷ []) [])
+    (by_step 1 normal [] leaves midway [] 2 (one_outcome ∷ of_0 ∷ []) [])
+    ∷ (by_step 4 normal [] leaves midway [] 3 (one_outcome ∷ of_0 ∷ []) [])
+    ∷ (return failed leaves midway [] 3 (one_outcome ∷ of_0 ∷ []) [])
     ∷ []
 
-pub without-exit-stays : states unfit [] without-exit ≡ map (λ x. x.leaves) without-exit
+pub without-exit-stays : states unfit [] without_exit ≡ map (λ x. x.leaves) without_exit
 unfolding run
 without-exit-stays = refl
 
@@ -208,17 +208,17 @@ module _ (S : Sheet) (m : ℕ) (undeclared : declared_in failed (get_elem? S.met
   by-exit k normal at e = refl
   by-exit k failed at e = absurd (none-ne-some _ (sym no-exit ∙ (ap (λ n. exit_in failed (body S n)) (sym e) ∙ at)))
 
-  made-normal : (s t : State) → s.ended ≡ false → Makes S s t → Each Normal s.returned-calls → Each Normal t.returned-calls
-  made-normal s t z (event-made i found) g = g
-  made-normal s t z (pass-made i found) g = g
-  made-normal s t z (primitive-made {t = x} i o w found at is to h) g = cons (by_word x.method x.channel o w h) g
+  made-normal : (s t : State) → s.ended ≡ false → Makes S s t → Each Normal s.returned_calls → Each Normal t.returned_calls
+  made-normal s t z (event_made i found) g = g
+  made-normal s t z (pass_made i found) g = g
+  made-normal s t z (primitive_made {t = x} i o w found at is to h) g = cons (by_word x.method x.channel o w h) g
   made-normal s t z (open_made i found at is) g = g
-  made-normal s t z (stop-made i found marked) g = g
-  made-normal s t z (return-made {c = c} o opened is at to) g = cons (by-exit c.method o (ap (exit_in o) is ∙ at)) g
+  made-normal s t z (stop_made i found marked) g = g
+  made-normal s t z (return_made {c = c} o opened is at to) g = cons (by-exit c.method o (ap (exit_in o) is ∙ at)) g
 
-  pub never-fails : (k : ℕ) (ms : List Move) → Each (λ r. r.call.method ≡ m → r.outcome ≡ normal) (run S k ms).returned-calls
+  pub never-fails : (k : ℕ) (ms : List Move) → Each (λ r. r.call.method ≡ m → r.outcome ≡ normal) (run S k ms).returned_calls
   unfolding start
-  never-fails k ms = run-keeps S (λ s. Each Normal s.returned-calls) made-normal k nil ms
+  never-fails k ms = run-keeps S (λ s. Each Normal s.returned_calls) made-normal k nil ms
 
 -- The rules ----------------------------------------------------------------------------------------------------------------
 
@@ -299,11 +299,11 @@ opened = join empty (event 0)
 abbrev closed : Condition
 closed = join opened (event 1)
 
-abbrev to-close : Condition
-to-close = join (event 1) empty
+abbrev to_close : Condition
+to_close = join (event 1) empty
 
-abbrev to-open : Condition
-to-open = join (event 0) to-close
+abbrev to_open : Condition
+to_open = join (event 0) to_close
 
 abbrev nothing : Condition
 nothing = join empty empty
@@ -311,10 +311,10 @@ nothing = join empty empty
 -- point 0 is the entry, point 1 is where the gate is open, point 2 is the exit; the failed future of the primitive is given
 abbrev gate_with : ℕ → Sheet
 gate_with failed-future = record {
-  conditions = empty ∷ event 0 ∷ to-close ∷ opened ∷ either closed nothing ∷ either to-open nothing ∷ [];
+  conditions = empty ∷ event 0 ∷ to_close ∷ opened ∷ either closed nothing ∷ either to_open nothing ∷ [];
   points = point_from 0 0 5 ∷ point_from 3 3 2 ∷ point_from 4 4 0 ∷ [];
   methods = with_body 0 4 0 0 2 ∷ failing_primitive 0 1 2 0 failed-future ∷ [];
-  steps = failing_call_from 0 1 2 1 ∷ event-step 1 2 1 ∷ [];
+  steps = failing_call_from 0 1 2 1 ∷ event_step 1 2 1 ∷ [];
   certificates = [];
   new = false;
 }
@@ -337,22 +337,22 @@ unfolding rules_from
 gate-rules =
     cons refl (cons refl (cons (same empty) (cons refl (cons (same (either closed nothing)) (cons (same empty)
     (cons (same empty)
-    (cons (same opened) (cons (same opened) (cons (same to-close) (cons (first to-open nothing)
-    (cons (second closed nothing) (cons (second closed nothing) (cons (same empty) (cons (second to-open nothing)
-    (cons (first closed nothing) (cons (first closed nothing) (cons (same to-close) nil)))))))))))))))))
+    (cons (same opened) (cons (same opened) (cons (same to_close) (cons (first to_open nothing)
+    (cons (second closed nothing) (cons (second closed nothing) (cons (same empty) (cons (second to_open nothing)
+    (cons (first closed nothing) (cons (first closed nothing) (cons (same to_close) nil)))))))))))))))))
 
 -- so every run of it is safe, and one that fails to open the gate ends without a close
 pub gate-runs : (ms : List Move) → Safe gate (run gate 0 ms)
 gate-runs ms = runs-are-safe gate (cons tt (cons tt nil)) (0 ∷ []) gate-rules 0 (Memᴰ.head refl) tt ms
 
-abbrev not-opening : List Move
-not-opening = by-step 0 failed [] ∷ return normal ∷ []
+abbrev not_opening : List Move
+not_opening = by_step 0 failed [] ∷ return normal ∷ []
 
-pub not_opened : ((run gate 0 not-opening).history ≡ []) × ((run gate 0 not-opening).ended ≡ true)
+pub not_opened : ((run gate 0 not_opening).history ≡ []) × ((run gate 0 not_opening).ended ≡ true)
 unfolding run
 not_opened = (refl, refl)
 
 -- if the failed future asked for a close too, that run would not be safe
-pub close-asked : Safe (gate_with 2) (run (gate_with 2) 0 not-opening) → ⊥
+pub close-asked : Safe (gate_with 2) (run (gate_with 2) 0 not_opening) → ⊥
 unfolding run
-close-asked s = (words to-close []).1 (each-head (each_tail (s.ended-well refl)))
+close-asked s = (words to_close []).1 (each-head (each_tail (s.ended_well refl)))

@@ -20,11 +20,11 @@ module _ (S : Sheet) where
 
   -- the call c stands at the point p after the history h: control is there, or at a call that c made from there
   pub record Stands (p : ℕ) (h : Word) (c : Call) : Type 0 where
-    pub in-pre : Begun c
-    pub in-past : Holds (past S p) h
-    pub in-own : Adds c.began h (Holds (own S p))
+    pub in_pre : Begun c
+    pub in_past : Holds (past S p) h
+    pub in_own : Adds c.began h (Holds (own S p))
     -- its method has a body, and the rules of that read the method's conditions as they are
-    pub no-channel : c.channel ≡ none
+    pub no_channel : c.channel ≡ none
 
   -- where the step that made a call starts
   abbrev pub source : Option Step → ℕ
@@ -88,5 +88,5 @@ module _ (S : Sheet) where
     pub well : Each Well rs
 
   pub data Good (s : State) : Type 0 where
-    running : s.ended ≡ false → Running s.point s.history s.open-calls s.returned-calls → Good s
-    over : s.ended ≡ true → Over s.point s.history s.open-calls s.returned-calls → Good s
+    running : s.ended ≡ false → Running s.point s.history s.open_calls s.returned_calls → Good s
+    over : s.ended ≡ true → Over s.point s.history s.open_calls s.returned_calls → Good s

@@ -13,20 +13,20 @@ use Rattle.bits.specs.Bits.{has}
 use Rattle.condition.specs.Condition.{Word, Condition, empty, join, either, star, any, event, Holds}
 use Rattle.condition.specs.Places.{accepts}
 use Rattle.certificate.specs.Certificate.{Certificate}
-use Rattle.sheet.specs.Sheet.{normal, Point, CallStep, event-step, call_step, pass_step, Sheet, body}
+use Rattle.sheet.specs.Sheet.{normal, Point, CallStep, event_step, call_step, pass_step, Sheet, body}
 use Rattle.sheet.specs.Each.{nil, cons}
 use Rattle.sheet.proofs.Each.{each_member}
 use Rattle.sheet_laws.specs.Names.{HasBody, ChannelsFit}
 use Rattle.runs.specs.Rules.{rules_from, AllMet}
-use Rattle.runs.specs.Runs.{Returned, State, trace_of, future_of, since, Move, return, by-step, raise, new_call, returned_now, move, run_on, run}
-use Rattle.runs.proofs.Moves.{Makes, event-made, pass-made, primitive-made, open_made, stop-made, return-made, run-on-append, run-append, run-on-keeps, step-made, by-trace}
+use Rattle.runs.specs.Runs.{Returned, State, trace_of, future_of, since, Move, return, by_step, raise, new_call, returned_now, move, run_on, run}
+use Rattle.runs.proofs.Moves.{Makes, event_made, pass_made, primitive_made, open_made, stop_made, return_made, run-on-append, run-append, run-on-keeps, step-made, by-trace}
 use Rattle.runs.proofs.Safe.{runs-are-safe}
 
 -- What stays ------------------------------------------------------------------------------------------------------------
 
 -- a later state: the call r has returned, and the history goes on from h
 record Later (r : Returned) (h : Word) (s : State) : Type 0 where
-  returned : Memᴰ r s.returned-calls
+  returned : Memᴰ r s.returned_calls
   added : Word
   goes_on : s.history ≡ h ++ added
 
@@ -40,14 +40,14 @@ module _ (S : Sheet) (r : Returned) (h : Word) where
       }
 
   later-kept : (s t : State) → s.ended ≡ false → Makes S s t → Later r h s → Later r h t
-  later-kept s t z (event-made {q = q} {a = a} i found) l = raised-later s (a ∷ []) q l
-  later-kept s t z (pass-made {q = q} i found) l = raised-later s [] q l
-  later-kept s t z (primitive-made {q = q} i o w found at is to held) l =
+  later-kept s t z (event_made {q = q} {a = a} i found) l = raised-later s (a ∷ []) q l
+  later-kept s t z (pass_made {q = q} i found) l = raised-later s [] q l
+  later-kept s t z (primitive_made {q = q} i o w found at is to held) l =
       let k = raised-later s w q l in
       record { returned = Memᴰ.tail k.returned; added = k.added; goes_on = k.goes_on }
   later-kept s t z (open_made i found at is) l = record { returned = l.returned; added = l.added; goes_on = l.goes_on }
-  later-kept s t z (stop-made i found marked) l = record { returned = l.returned; added = l.added; goes_on = l.goes_on }
-  later-kept s t z (return-made o opened is at to) l =
+  later-kept s t z (stop_made i found marked) l = record { returned = l.returned; added = l.added; goes_on = l.goes_on }
+  later-kept s t z (return_made o opened is at to) l =
       record { returned = Memᴰ.tail l.returned; added = l.added; goes_on = l.goes_on }
 
   later : (s : State) (ms : List Move) → Later r h s → Later r h (run_on S s ms)
@@ -66,51 +66,51 @@ pub record TwiceRound (S : Sheet) (m : ℕ) (close : CallStep) : Type 0 where
   pub last : ℕ
   pub word : Word
   pub running : (run S m before).ended ≡ false
-  pub last-is : get_elem? S.steps last ≡ some (call_step close)
-  pub last-from : (run S m before).point ≡ close.from
+  pub last_is : get_elem? S.steps last ≡ some (call_step close)
+  pub last_from : (run S m before).point ≡ close.from
   pub primitive : body S close.method ≡ none
-  pub in-trace : accepts (trace_of S (new_call (run S m before) last close) normal) word ≡ true
+  pub in_trace : accepts (trace_of S (new_call (run S m before) last close) normal) word ≡ true
   -- the way back, which raises nothing
-  pub quiet : (run_on S (move S (run S m before) (by-step last normal word)) between).history ≡ (run S m before).history ++ word
+  pub quiet : (run_on S (move S (run S m before) (by_step last normal word)) between).history ≡ (run S m before).history ++ word
   -- the first step of the second round
   pub first : ℕ
   pub first_to : ℕ
-  pub still-running : (run_on S (move S (run S m before) (by-step last normal word)) between).ended ≡ false
-  pub first-is : get_elem? S.steps first ≡ some (event-step (run_on S (move S (run S m before) (by-step last normal word)) between).point first_to 0)
+  pub still_running : (run_on S (move S (run S m before) (by_step last normal word)) between).ended ≡ false
+  pub first_is : get_elem? S.steps first ≡ some (event_step (run_on S (move S (run S m before) (by_step last normal word)) between).point first_to 0)
   -- the run ends
-  pub ends : (run S m (before ++ (by-step last normal word ∷ (between ++ (by-step first normal [] ∷ after))))).ended ≡ true
+  pub ends : (run S m (before ++ (by_step last normal word ∷ (between ++ (by_step first normal [] ∷ after))))).ended ≡ true
 
 module _ (S : Sheet) (m : ℕ) (close : CallStep) (t : TwiceRound S m close) where
   abbrev s₁ : State
   s₁ = run S m t.before
 
   abbrev s₂ : State
-  s₂ = move S s₁ (by-step t.last normal t.word)
+  s₂ = move S s₁ (by_step t.last normal t.word)
 
   abbrev s₃ : State
   s₃ = run_on S s₂ t.between
 
   abbrev s₄ : State
-  s₄ = move S s₃ (by-step t.first normal [])
+  s₄ = move S s₃ (by_step t.first normal [])
 
-  abbrev all-moves : List Move
-  all-moves = t.before ++ (by-step t.last normal t.word ∷ (t.between ++ (by-step t.first normal [] ∷ t.after)))
+  abbrev all_moves : List Move
+  all_moves = t.before ++ (by_step t.last normal t.word ∷ (t.between ++ (by_step t.first normal [] ∷ t.after)))
 
   -- the call that ends the first round
   abbrev closed : Returned
   closed = record { call = new_call s₁ t.last close; outcome = normal; at = s₁.history ++ t.word }
 
   closes : s₂ ≡ returned_now (new_call s₁ t.last close) normal (raise t.word close.to s₁)
-  closes = by-trace S s₁ t.last normal t.word t.running close t.last-is t.last-from t.primitive refl true t.in-trace
+  closes = by-trace S s₁ t.last normal t.word t.running close t.last_is t.last_from t.primitive refl true t.in_trace
 
   opens : s₄ ≡ raise (0 ∷ []) t.first_to s₃
-  opens = step-made S s₃ t.first normal [] t.still-running (event-step s₃.point t.first_to 0) t.first-is refl
+  opens = step-made S s₃ t.first normal [] t.still_running (event_step s₃.point t.first_to 0) t.first_is refl
 
   on-next : (s : State) (x : Move) (xs : List Move) → run_on S s (x ∷ xs) ≡ run_on S (move S s x) xs
   unfolding run_on
   on-next s x xs = refl
 
-  whole_run : run S m all-moves ≡ run_on S s₄ t.after
+  whole_run : run S m all_moves ≡ run_on S s₄ t.after
   whole_run =
       run-append S m t.before _
       ∙ (on-next s₁ _ _
@@ -118,7 +118,7 @@ module _ (S : Sheet) (m : ℕ) (close : CallStep) (t : TwiceRound S m close) whe
       ∙ on-next s₃ _ _))
 
   -- at the end, the history goes on from the close by event 0
-  closed-then-0 : Later closed (closed.at ++ (0 ∷ [])) (run S m all-moves)
+  closed-then-0 : Later closed (closed.at ++ (0 ∷ [])) (run S m all_moves)
   closed-then-0 = subst (Later closed (closed.at ++ (0 ∷ []))) (sym whole_run) (later S closed _ s₄ t.after at-s₄)
     where
       at-s₂ : Later closed closed.at s₂
@@ -132,7 +132,7 @@ module _ (S : Sheet) (m : ℕ) (close : CallStep) (t : TwiceRound S m close) whe
           subst (Later closed (closed.at ++ (0 ∷ []))) (sym opens)
           (record { returned = at-s₃.returned; added = []; goes_on = ap (λ (x : Word). x ++ (0 ∷ [])) t.quiet ∙ sym (append-nil _) })
 
-  since-close : since closed.at (run S m all-moves).history ≡ 0 ∷ closed-then-0.added
+  since-close : since closed.at (run S m all_moves).history ≡ 0 ∷ closed-then-0.added
   since-close =
       ap (since closed.at) (closed-then-0.goes_on ∙ append_assoc closed.at (0 ∷ []) closed-then-0.added)
       ∙ drop-append_seam closed.at (0 ∷ closed-then-0.added)
@@ -140,10 +140,10 @@ module _ (S : Sheet) (m : ℕ) (close : CallStep) (t : TwiceRound S m close) whe
   -- where no word of close's future starts with 0, the rules are not all true
   pub not-all-met : ChannelsFit S → HasBody (body S m) → ((v : Word) → Holds (future_of S closed.call normal) (0 ∷ v) → ⊥) → AllMet (rules_from (m ∷ []) S) → ⊥
   not-all-met fit b no-0 h =
-      let ended = (runs-are-safe S fit (m ∷ []) h m (Memᴰ.head refl) b all-moves).ended-well t.ends in
+      let ended = (runs-are-safe S fit (m ∷ []) h m (Memᴰ.head refl) b all_moves).ended_well t.ends in
       no-0 closed-then-0.added
       (subst (Holds (future_of S closed.call normal)) since-close
-      (each_member (λ r. Holds (future_of S r.call r.outcome) (since r.at (run S m all-moves).history)) ended closed-then-0.returned))
+      (each_member (λ r. Holds (future_of S r.call r.outcome) (since r.at (run S m all_moves).history)) ended closed-then-0.returned))
 
 -- The future of document 01: "With 0 open, 1 close, 2 advance" --------------------------------------------------------------
 
@@ -168,7 +168,7 @@ no-0 v (inr h) =
 module _ (conditions : List Condition) (points : List Point) (pre trace future close-pre : ℕ) (certificates : List Certificate) (new : Bool) where
   -- the call of "close"
   abbrev closing : CallStep
-  closing = record { from = 1; to = 2; failed-to = none; method = 1; channel = none }
+  closing = record { from = 1; to = 2; failed_to = none; method = 1; channel = none }
 
   abbrev loop : Sheet
   loop = record {
@@ -179,11 +179,11 @@ module _ (conditions : List Condition) (points : List Point) (pre trace future c
           pre = pre;
           normal = record { trace = trace; future = future };
           failing = none;
-          body = some (record { entry = 0; exit = 3; failed-exit = none });
+          body = some (record { entry = 0; exit = 3; failed_exit = none });
         }
         ∷ record { pre = close-pre; normal = record { trace = 0; future = 1 }; failing = none; body = none }
         ∷ [];
-    steps = event-step 0 1 0 ∷ call_step closing ∷ pass_step 2 0 ∷ pass_step 2 3 ∷ [];
+    steps = event_step 0 1 0 ∷ call_step closing ∷ pass_step 2 0 ∷ pass_step 2 3 ∷ [];
     certificates = certificates;
     new = new;
   }
@@ -191,21 +191,21 @@ module _ (conditions : List Condition) (points : List Point) (pre trace future c
   twice-round : TwiceRound loop 0 closing
   unfolding run
   twice-round = record {
-    before = by-step 0 normal [] ∷ [];
-    between = by-step 2 normal [] ∷ [];
-    after = by-step 1 normal (1 ∷ []) ∷ by-step 3 normal [] ∷ return normal ∷ [];
+    before = by_step 0 normal [] ∷ [];
+    between = by_step 2 normal [] ∷ [];
+    after = by_step 1 normal (1 ∷ []) ∷ by_step 3 normal [] ∷ return normal ∷ [];
     last = 1;
     word = 1 ∷ [];
     running = refl;
-    last-is = refl;
-    last-from = refl;
+    last_is = refl;
+    last_from = refl;
     primitive = refl;
-    in-trace = refl;
+    in_trace = refl;
     quiet = refl;
     first = 0;
     first_to = 1;
-    still-running = refl;
-    first-is = refl;
+    still_running = refl;
+    first_is = refl;
     ends = refl;
   }
 

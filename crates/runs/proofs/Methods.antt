@@ -13,7 +13,7 @@ with_body pre trace future entry exit =
       pre = pre;
       normal = record { trace = trace; future = future };
       failing = none;
-      body = some (record { entry = entry; exit = exit; failed-exit = none });
+      body = some (record { entry = entry; exit = exit; failed_exit = none });
     }
 
 -- of two outcomes
@@ -26,11 +26,11 @@ failing_primitive pre trace future failed-trace failed-future =
       body = none;
     }
 
-abbrev pub failing_with_body : (pre trace future entry exit failed-trace failed-future failed-exit : ℕ) → Method
-failing_with_body pre trace future entry exit failed-trace failed-future failed-exit =
+abbrev pub failing_with_body : (pre trace future entry exit failed-trace failed-future failed_exit : ℕ) → Method
+failing_with_body pre trace future entry exit failed-trace failed-future failed_exit =
     record {
       pre = pre;
       normal = record { trace = trace; future = future };
       failing = some (record { trace = failed-trace; future = failed-future });
-      body = some (record { entry = entry; exit = exit; failed-exit = some failed-exit });
+      body = some (record { entry = entry; exit = exit; failed_exit = some failed_exit });
     }

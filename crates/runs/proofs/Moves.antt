@@ -10,8 +10,8 @@ use Rattle.bits.proofs.Tests.{T_true, T_false}
 use Rattle.condition.specs.Condition.{Word, Condition, Holds}
 use Rattle.condition.specs.Places.{accepts}
 use Rattle.condition.proofs.Words.{words}
-use Rattle.sheet.specs.Sheet.{Outcome, Body, CallStep, Step, event-step, call_step, pass_step, stop_step, Sheet, body, exit_for, exit_in, target_for}
-use Rattle.runs.specs.Runs.{Call, State, trace_of, start, Move, return, by-step, raise, new_call, open_call, returned_now, make_return, make_call, stop, make_step, from_of, try_step, made_by, target_or, close, close_to, is_at, try_return, try_move, move, MadeByTrace, run_on, run}
+use Rattle.sheet.specs.Sheet.{Outcome, Body, CallStep, Step, event_step, call_step, pass_step, stop_step, Sheet, body, exit_for, exit_in, target_for}
+use Rattle.runs.specs.Runs.{Call, State, trace_of, start, Move, return, by_step, raise, new_call, open_call, returned_now, make_return, make_call, stop, make_step, from_of, try_step, made_by, target_or, close, close_to, is_at, try_return, try_move, move, MadeByTrace, run_on, run}
 
 -- what holds of both sides holds of the choice
 by-test : {A : Type 0} (P : A → Type 0) (b : Bool) {x y : A} → (b ≡ true → P x) → (b ≡ false → P y) → P (cond b x y)
@@ -32,15 +32,15 @@ held r w e = (words r w).0 (subst T (sym e) tt)
 module _ (S : Sheet) where
   -- the moves that can be made from s, and the state that each leads to
   pub data Makes (s : State) : State → Type 0 where
-    event-made : {q a : ℕ} (i : ℕ) → get_elem? S.steps i ≡ some (event-step s.point q a) → Makes s (raise (a ∷ []) q s)
-    pass-made : {q : ℕ} (i : ℕ) → get_elem? S.steps i ≡ some (pass_step s.point q) → Makes s (raise [] q s)
-    primitive-made : {t : CallStep} {q : ℕ} (i : ℕ) (o : Outcome) (w : Word) → get_elem? S.steps i ≡ some (call_step t) → s.point ≡ t.from
+    event_made : {q a : ℕ} (i : ℕ) → get_elem? S.steps i ≡ some (event_step s.point q a) → Makes s (raise (a ∷ []) q s)
+    pass_made : {q : ℕ} (i : ℕ) → get_elem? S.steps i ≡ some (pass_step s.point q) → Makes s (raise [] q s)
+    primitive_made : {t : CallStep} {q : ℕ} (i : ℕ) (o : Outcome) (w : Word) → get_elem? S.steps i ≡ some (call_step t) → s.point ≡ t.from
         → body S t.method ≡ none → target_for o t ≡ some q → Holds (trace_of S (new_call s i t) o) w
         → Makes s (returned_now (new_call s i t) o (raise w q s))
     open_made : {t : CallStep} {b : Body} (i : ℕ) → get_elem? S.steps i ≡ some (call_step t) → s.point ≡ t.from
         → body S t.method ≡ some b → Makes s (open_call (new_call s i t) b.entry s)
-    stop-made : (i : ℕ) → get_elem? S.steps i ≡ some (stop_step s.point) → S.new ≡ true → Makes s (stop s)
-    return-made : {c : Call} {cs : List Call} {b : Body} {q : ℕ} (o : Outcome) → s.open-calls ≡ c ∷ cs → body S c.method ≡ some b
+    stop_made : (i : ℕ) → get_elem? S.steps i ≡ some (stop_step s.point) → S.new ≡ true → Makes s (stop s)
+    return_made : {c : Call} {cs : List Call} {b : Body} {q : ℕ} (o : Outcome) → s.open_calls ≡ c ∷ cs → body S c.method ≡ some b
         → exit_for o b ≡ some s.point → target_or s.point o (made_by S c.step) ≡ some q → Makes s (close s o c cs q)
 
   -- what holds of s, and of what each move that can be made from s leads to, holds after trying any move
@@ -50,7 +50,7 @@ module _ (S : Sheet) where
           → (q : Option ℕ) → target_for o t ≡ q → P (make_return s (new_call s i t) o w (trace_of S (new_call s i t) o) q)
       primitive-case found at is none to = same
       primitive-case {t} found at is (some q) to =
-          by-test P _ (λ e. made _ (primitive-made i o w found at is to (held (trace_of S (new_call s i t) o) w e))) (λ e. same)
+          by-test P _ (λ e. made _ (primitive_made i o w found at is to (held (trace_of S (new_call s i t) o) w e))) (λ e. same)
 
       call-case : {t : CallStep} → get_elem? S.steps i ≡ some (call_step t) → s.point ≡ t.from → (d : Option Body) → body S t.method ≡ d
           → P (make_call S s (new_call s i t) o w (target_for o t) d)
@@ -58,38 +58,38 @@ module _ (S : Sheet) where
       call-case found at (some b) is = made _ (open_made i found at is)
 
       step_case : (t : Step) → get_elem? S.steps i ≡ some t → s.point ≡ from_of t → P (make_step S s i o w t)
-      step_case (event-step p q a) found at = made _ (event-made i (rw at found))
+      step_case (event_step p q a) found at = made _ (event_made i (rw at found))
       step_case (call_step t) found at = call-case found at (body S t.method) refl
-      step_case (pass_step p q) found at = made _ (pass-made i (rw at found))
-      step_case (stop_step p) found at = by-test P _ (λ e. made _ (stop-made i (rw at found) e)) (λ e. same)
+      step_case (pass_step p q) found at = made _ (pass_made i (rw at found))
+      step_case (stop_step p) found at = by-test P _ (λ e. made _ (stop_made i (rw at found) e)) (λ e. same)
 
       try-step-case : (t : Option Step) → get_elem? S.steps i ≡ t → P (try_step S s i o w t)
       try-step-case none found = same
       try-step-case (some t) found = by-test P _ (λ e. step_case t found (same_number _ _ e)) (λ e. same)
 
     module _ (o : Outcome) where
-      close-case : {c : Call} {cs : List Call} {b : Body} → s.open-calls ≡ c ∷ cs → body S c.method ≡ some b → exit_for o b ≡ some s.point
+      close-case : {c : Call} {cs : List Call} {b : Body} → s.open_calls ≡ c ∷ cs → body S c.method ≡ some b → exit_for o b ≡ some s.point
           → (q : Option ℕ) → target_or s.point o (made_by S c.step) ≡ q → P (close_to s o c cs q)
       close-case opened is at none to = same
-      close-case opened is at (some q) to = made _ (return-made o opened is at to)
+      close-case opened is at (some q) to = made _ (return_made o opened is at to)
 
-      exit-case : {c : Call} {cs : List Call} {b : Body} → s.open-calls ≡ c ∷ cs → body S c.method ≡ some b → (e : Option ℕ) → exit_for o b ≡ e
+      exit-case : {c : Call} {cs : List Call} {b : Body} → s.open_calls ≡ c ∷ cs → body S c.method ≡ some b → (e : Option ℕ) → exit_for o b ≡ e
           → P (cond (is_at e s.point) (close_to s o c cs (target_or s.point o (made_by S c.step))) s)
       exit-case opened is none at = same
       exit-case opened is (some e) at = by-test P _ (λ x. close-case opened is (at ∙ ap some (sym (same_number _ _ x))) _ refl) (λ x. same)
 
-      body-case : {c : Call} {cs : List Call} → s.open-calls ≡ c ∷ cs → (d : Option Body) → body S c.method ≡ d
+      body-case : {c : Call} {cs : List Call} → s.open_calls ≡ c ∷ cs → (d : Option Body) → body S c.method ≡ d
           → P (cond (is_at (exit_in o d) s.point) (close_to s o c cs (target_or s.point o (made_by S c.step))) s)
       body-case opened none is = same
       body-case opened (some b) is = exit-case opened is (exit_for o b) refl
 
-      try-return-case : (cs : List Call) → s.open-calls ≡ cs → P (try_return S s o cs)
+      try-return-case : (cs : List Call) → s.open_calls ≡ cs → P (try_return S s o cs)
       try-return-case [] opened = same
       try-return-case (c ∷ cs) opened = body-case opened (body S c.method) refl
 
     try-move-case : (m : Move) → P (try_move S s m)
-    try-move-case (return o) = try-return-case o s.open-calls refl
-    try-move-case (by-step i o w) = try-step-case i o w (get_elem? S.steps i) refl
+    try-move-case (return o) = try-return-case o s.open_calls refl
+    try-move-case (by_step i o w) = try-step-case i o w (get_elem? S.steps i) refl
 
   -- what holds of s, and of what each move that is made leads to, holds after any move
   pub move-case : (P : State → Type 0) (s : State) → P s → ((t : State) → s.ended ≡ false → Makes s t → P t) → (m : Move) → P (move S s m)
@@ -128,29 +128,29 @@ module _ (S : Sheet) where
 -- A step that starts where control is, a stop in a new sheet, and a primitive's step, which is made with exactly the words of the outcome's trace ---
 
 module _ (S : Sheet) (s : State) (i : ℕ) (o : Outcome) (w : Word) (going : s.ended ≡ false) where
-  pub step-made : (t : Step) → get_elem? S.steps i ≡ some t → s.point ≡ from_of t → move S s (by-step i o w) ≡ make_step S s i o w t
+  pub step-made : (t : Step) → get_elem? S.steps i ≡ some t → s.point ≡ from_of t → move S s (by_step i o w) ≡ make_step S s i o w t
   unfolding move
   step-made t found at =
-      ap (λ (b : Bool). cond b s (try_move S s (by-step i o w))) going
+      ap (λ (b : Bool). cond b s (try_move S s (by_step i o w))) going
       ∙ (ap (try_step S s i o w) found
       ∙ ap (λ (b : Bool). cond b (make_step S s i o w t) s) (subst (λ x. eqb s.point x ≡ true) at (T_true _ (eqb_refl s.point))))
 
   -- a stop, whatever the outcome and the word
-  pub stop-in-new : get_elem? S.steps i ≡ some (stop_step s.point) → S.new ≡ true → move S s (by-step i o w) ≡ stop s
+  pub stop-in-new : get_elem? S.steps i ≡ some (stop_step s.point) → S.new ≡ true → move S s (by_step i o w) ≡ stop s
   stop-in-new found marked = step-made (stop_step s.point) found refl ∙ ap (λ (b : Bool). cond b (stop s) s) marked
 
   module _ (t : CallStep) (found : get_elem? S.steps i ≡ some (call_step t)) (at : s.point ≡ t.from) (primitive : body S t.method ≡ none)
       {q : ℕ} (to : target_for o t ≡ some q) where
     pub by-trace : (b : Bool) → accepts (trace_of S (new_call s i t) o) w ≡ b
-        → move S s (by-step i o w) ≡ cond b (returned_now (new_call s i t) o (raise w q s)) s
+        → move S s (by_step i o w) ≡ cond b (returned_now (new_call s i t) o (raise w q s)) s
     by-trace b e =
         step-made (call_step t) found at
         ∙ (ap (make_call S s (new_call s i t) o w (target_for o t)) primitive
         ∙ (ap (make_return s (new_call s i t) o w (trace_of S (new_call s i t) o)) to
         ∙ ap (λ (x : Bool). cond x (returned_now (new_call s i t) o (raise w q s)) s) e))
 
-    pub made-by-trace : MadeByTrace S s i t o q w
-    made-by-trace =
+    pub made_by_trace : MadeByTrace S s i t o q w
+    made_by_trace =
         let T = trace_of S (new_call s i t) o in
         record {
           made = λ h. by-trace true (T_true (accepts T w) ((words T w).1 h));
@@ -162,7 +162,7 @@ module _ (S : Sheet) (s : State) (i : ℕ) (o : Outcome) (w : Word) (going : s.e
 module _ (S : Sheet) (s : State) (o : Outcome) where
   module _ (i : ℕ) (w : Word) where
     -- a step that would change nothing from its from
-    step_stays : {t : Step} → get_elem? S.steps i ≡ some t → make_step S s i o w t ≡ s → move S s (by-step i o w) ≡ s
+    step_stays : {t : Step} → get_elem? S.steps i ≡ some t → make_step S s i o w t ≡ s → move S s (by_step i o w) ≡ s
     unfolding move
     step_stays {t} found stays =
         ap (λ (x : Option Step). cond s.ended s (try_step S s i o w x)) found
@@ -170,16 +170,16 @@ module _ (S : Sheet) (s : State) (o : Outcome) where
         ∙ (ap (cond s.ended s) (either_way (eqb s.point (from_of t)) s) ∙ either_way s.ended s))
 
     pub step-without-target : {t : CallStep} → get_elem? S.steps i ≡ some (call_step t) → body S t.method ≡ none → target_for o t ≡ none
-        → move S s (by-step i o w) ≡ s
+        → move S s (by_step i o w) ≡ s
     step-without-target {t} found primitive nowhere =
         step_stays found
         (ap (make_call S s (new_call s i t) o w (target_for o t)) primitive
         ∙ ap (make_return s (new_call s i t) o w (trace_of S (new_call s i t) o)) nowhere)
 
-    pub stop-in-old : {p : ℕ} → get_elem? S.steps i ≡ some (stop_step p) → S.new ≡ false → move S s (by-step i o w) ≡ s
+    pub stop-in-old : {p : ℕ} → get_elem? S.steps i ≡ some (stop_step p) → S.new ≡ false → move S s (by_step i o w) ≡ s
     stop-in-old found unmarked = step_stays found (ap (λ (b : Bool). cond b (stop s) s) unmarked)
 
-  module _ (c : Call) (cs : List Call) (opened : s.open-calls ≡ c ∷ cs) where
+  module _ (c : Call) (cs : List Call) (opened : s.open_calls ≡ c ∷ cs) where
     abbrev exit : Option ℕ
     exit = exit_in o (body S c.method)
 

@@ -8,11 +8,11 @@ use mathlib.Core.List.{List, [], ◌∷◌}
 use lib.ListN.{length, get_elem?}
 use Rattle.sheet.specs.Each.{Each, nil, cons}
 use Rattle.sheet.proofs.Each.{each_map, each-zip, each-get}
-use Rattle.sheet.specs.Sheet.{Outcome, normal, failed, Point, Body, Step, event-step, call_step, pass_step, stop_step, Sheet, is_some, owner_in, owner, body_in, body, target_for}
+use Rattle.sheet.specs.Sheet.{Outcome, normal, failed, Point, Body, Step, event_step, call_step, pass_step, stop_step, Sheet, is_some, owner_in, owner, body_in, body, target_for}
 use Rattle.sheet_laws.specs.Names.{NamedIfAny, BodyNamed, StepNamed, NamesExist, HasBody, SameIfAny, owner_if_any, BodyOwned, StepOwned, OwnersFit}
 use Rattle.runs.specs.Runs.{Call, State, entry_of, start, Move, from_of, to_of, made_by, target_or, run}
 use Rattle.runs.specs.Owners.{AllOwned, OfActive, Belongs}
-use Rattle.runs.proofs.Moves.{Makes, event-made, pass-made, primitive-made, open_made, stop-made, return-made, run-keeps}
+use Rattle.runs.proofs.Moves.{Makes, event_made, pass_made, primitive_made, open_made, stop_made, return_made, run-keeps}
 
 -- where both are there they are the same
 both-there : (a b : Option ℕ) → is_some a ≡ true → is_some b ≡ true → SameIfAny a b → a ≡ b
@@ -45,18 +45,18 @@ module _ (S : Sheet) (named : NamesExist S) (all : AllOwned S) (fit : OwnersFit 
       (subst (λ y. SameIfAny (owner S p) (owner_if_any S y)) is h)
 
   step-joins : (t : Step) → StepNamed points (length S.methods) t → StepOwned S t → Joins (some t)
-  step-joins (event-step p q a) n h = λ o. joins_any p (some q) n.0 n.1 h
+  step-joins (event_step p q a) n h = λ o. joins_any p (some q) n.0 n.1 h
   step-joins (call_step t) n h = go
     where
       go : (o : Outcome) (q : ℕ) → target_for o t ≡ some q → owner S t.from ≡ owner S q
       go normal = joins_any t.from (some t.to) n.0 n.1 h.0
-      go failed = joins_any t.from t.failed-to n.0 n.2 h.1
+      go failed = joins_any t.from t.failed_to n.0 n.2 h.1
   step-joins (pass_step p q) n h = λ o. joins_any p (some q) n.0 n.1 h
   step-joins (stop_step p) n h = λ o q is. absurd (none-ne-some q is)
 
   -- of the step i
   joins : (i : ℕ) {t : Step} → get_elem? S.steps i ≡ some t → Joins (some t)
-  joins i found = subst Joins found (each-get Joins tt (each-zip step-joins named.steps-named fit.steps-owned) i)
+  joins i found = subst Joins found (each-get Joins tt (each-zip step-joins named.steps_named fit.steps_owned) i)
 
   -- the entry of a method belongs to it
   abbrev EntryOwned : ℕ → Option Body → Type 0
@@ -65,7 +65,7 @@ module _ (S : Sheet) (named : NamesExist S) (all : AllOwned S) (fit : OwnersFit 
 
   entry-owned : (m : ℕ) → EntryOwned m (body S m)
   entry-owned m =
-      go (body S m) (each-get (λ x. BodyNamed points (body_in x)) tt (each_map (λ x n. n.body-named) named.methods-named) m) (fit.bodies-owned m)
+      go (body S m) (each-get (λ x. BodyNamed points (body_in x)) tt (each_map (λ x n. n.body_named) named.methods_named) m) (fit.bodies_owned m)
     where
       go : (d : Option Body) → BodyNamed points d → BodyOwned S m d → EntryOwned m d
       go none n h = tt
@@ -81,23 +81,23 @@ module _ (S : Sheet) (named : NamesExist S) (all : AllOwned S) (fit : OwnersFit 
 
   -- the invariant
   abbrev Owned : State → Type 0
-  Owned s = Belongs S s × ReturnsBelong s.open-calls
+  Owned s = Belongs S s × ReturnsBelong s.open_calls
 
   -- wherever a step from the point where control is leads belongs to the active method
   step-on : (s : State) {t : Step} (i : ℕ) → get_elem? S.steps i ≡ some t → s.point ≡ from_of t → (o : Outcome) (q : ℕ) → to_of o t ≡ some q
-      → Belongs S s → OfActive (owner S q) s.open-calls
-  step-on s i found at o q to = subst (λ x. OfActive x s.open-calls) (ap (owner S) at ∙ joins i found o q to)
+      → Belongs S s → OfActive (owner S q) s.open_calls
+  step-on s i found at o q to = subst (λ x. OfActive x s.open_calls) (ap (owner S) at ∙ joins i found o q to)
 
   made-owned : (s t : State) → s.ended ≡ false → Makes S s t → Owned s → Owned t
-  made-owned s t z (event-made {q = q} i found) (b, r) = (step-on s i found refl normal q refl b, r)
-  made-owned s t z (pass-made {q = q} i found) (b, r) = (step-on s i found refl normal q refl b, r)
-  made-owned s t z (primitive-made {q = q} i o w found at is to held) (b, r) = (step-on s i found at o q to b, r)
+  made-owned s t z (event_made {q = q} i found) (b, r) = (step-on s i found refl normal q refl b, r)
+  made-owned s t z (pass_made {q = q} i found) (b, r) = (step-on s i found refl normal q refl b, r)
+  made-owned s t z (primitive_made {q = q} i o w found at is to held) (b, r) = (step-on s i found at o q to b, r)
   made-owned s t z (open_made {t = x} i found at is) (b, r) = (
     subst (EntryOwned x.method) is (entry-owned x.method),
     ((λ here o q to. step-on s i found at o q (subst (λ y. target_or here o y ≡ some q) found to) b), r),
   )
-  made-owned s t z (stop-made i found marked) h = h
-  made-owned s t z (return-made {q = q} o opened is at to) (b, r) = let (back, rs) = subst ReturnsBelong opened r in (back s.point o q to, rs)
+  made-owned s t z (stop_made i found marked) h = h
+  made-owned s t z (return_made {q = q} o opened is at to) (b, r) = let (back, rs) = subst ReturnsBelong opened r in (back s.point o q to, rs)
 
   start-owned : (m : ℕ) → HasBody (body S m) → Owned (start S m)
   unfolding start

@@ -8,7 +8,7 @@ use native.Mathlib.Omega.{arith}
 use Rattle.condition.specs.Condition.{Word, event}
 use Rattle.condition.specs.Places.{accepts}
 use Rattle.condition.proofs.Words.{words}
-use Rattle.sheet.specs.Sheet.{normal, failed, point_from, CallStep, event-step, call_step, Sheet}
+use Rattle.sheet.specs.Sheet.{normal, failed, point_from, CallStep, event_step, call_step, Sheet}
 use Rattle.sheet.proofs.Each.{each-head}
 use lib.ListN.{length, get_or}
 use Rattle.runs.specs.Runs.{Call, Returned, State, Grown, move, MadeByTrace}
@@ -16,46 +16,46 @@ use Rattle.runs.proofs.Methods.{failing_primitive}
 
 -- Histories ---------------------------------------------------------------------------------------------------------------
 
-abbrev began-after : Word → Call
-began-after w = record { method = 0; channel = none; step = none; began = w; activation = record { number = 0; callers = [] } }
+abbrev began_after : Word → Call
+began_after w = record { method = 0; channel = none; step = none; began = w; activation = record { number = 0; callers = [] } }
 
 abbrev state : Word → List Call → List Returned → State
-state h cs rs = record { history = h; open-calls = cs; returned-calls = rs; point = 0; ended = false }
+state h cs rs = record { history = h; open_calls = cs; returned_calls = rs; point = 0; ended = false }
 
 -- the history is 2: an open call began after 1; a call that began after 1 returned after 2; one returned after 1
-not-since-beginning : Grown (state (2 ∷ []) (began-after (1 ∷ []) ∷ []) []) → ⊥
-not-since-beginning g = let e = ap (λ (w : Word). get_or w 0 0) (each-head g.since-beginning) in omega (arith, e)
+not-since-beginning : Grown (state (2 ∷ []) (began_after (1 ∷ []) ∷ []) []) → ⊥
+not-since-beginning g = let e = ap (λ (w : Word). get_or w 0 0) (each-head g.since_beginning) in omega (arith, e)
 
-not-while-open : Grown (state (2 ∷ []) [] (record { call = began-after (1 ∷ []); outcome = normal; at = 2 ∷ [] } ∷ [])) → ⊥
-not-while-open g = let e = ap (λ (w : Word). get_or w 0 0) (each-head g.while-open) in omega (arith, e)
+not-while-open : Grown (state (2 ∷ []) [] (record { call = began_after (1 ∷ []); outcome = normal; at = 2 ∷ [] } ∷ [])) → ⊥
+not-while-open g = let e = ap (λ (w : Word). get_or w 0 0) (each-head g.while_open) in omega (arith, e)
 
-not-since-return : Grown (state (2 ∷ []) [] (record { call = began-after []; outcome = normal; at = 1 ∷ [] } ∷ [])) → ⊥
-not-since-return g = let e = ap (λ (w : Word). get_or w 0 0) (each-head g.since-return) in omega (arith, e)
+not-since-return : Grown (state (2 ∷ []) [] (record { call = began_after []; outcome = normal; at = 1 ∷ [] } ∷ [])) → ⊥
+not-since-return g = let e = ap (λ (w : Word). get_or w 0 0) (each-head g.since_return) in omega (arith, e)
 
 -- Steps -------------------------------------------------------------------------------------------------------------------
 
 -- step 0 calls the primitive 0, whose trace and failed trace are the one word 7, and has no failed target; step 1 raises 3
 abbrev called : CallStep
-called = record { from = 0; to = 0; failed-to = none; method = 0; channel = none }
+called = record { from = 0; to = 0; failed_to = none; method = 0; channel = none }
 
 abbrev sheet : Sheet
 sheet = record {
   conditions = event 7 ∷ [];
   points = point_from 0 0 0 ∷ [];
   methods = failing_primitive 0 0 0 0 0 ∷ [];
-  steps = call_step called ∷ event-step 0 0 3 ∷ [];
+  steps = call_step called ∷ event_step 0 0 3 ∷ [];
   certificates = [];
   new = false;
 }
 
 abbrev over : State
-over = record { history = []; open-calls = []; returned-calls = []; point = 0; ended = true }
+over = record { history = []; open_calls = []; returned_calls = []; point = 0; ended = true }
 
 -- after the end the primitive is not called with a word of its trace
 not-made-after-end : MadeByTrace sheet over 0 called normal 0 (7 ∷ []) → ⊥
 unfolding move accepts
 not-made-after-end m =
-    let e = ap (λ (s : State). length s.returned-calls) (m.made ((words (event 7) (7 ∷ [])).0 tt)) in
+    let e = ap (λ (s : State). length s.returned_calls) (m.made ((words (event 7) (7 ∷ [])).0 tt)) in
     omega (arith, e)
 
 -- with the word 8, which is not of that trace, the event step changes the run
@@ -69,5 +69,5 @@ made-by-event m =
 not-made-without-target : MadeByTrace sheet (state [] [] []) 0 called failed 0 (7 ∷ []) → ⊥
 unfolding move accepts
 not-made-without-target m =
-    let e = ap (λ (s : State). length s.returned-calls) (m.made ((words (event 7) (7 ∷ [])).0 tt)) in
+    let e = ap (λ (s : State). length s.returned_calls) (m.made ((words (event 7) (7 ∷ [])).0 tt)) in
     omega (arith, e)

@@ -25,15 +25,15 @@ module _ (S : Sheet) where
   good-is-safe : {s : State} → Good S s → Safe S s
   good-is-safe (running e g) =
       record {
-        began-well = each_append (open-begun S g.frames) (returned-begun g.well);
-        raised-well = all-raised g.well;
-        ended-well = λ z. absurd (false≢true (sym e ∙ z));
+        began_well = each_append (open-begun S g.frames) (returned-begun g.well);
+        raised_well = all-raised g.well;
+        ended_well = λ z. absurd (false≢true (sym e ∙ z));
       }
   good-is-safe (over e g) =
       record {
-        began-well = each_append g.begun (returned-begun g.well);
-        raised-well = all-raised g.well;
-        ended-well = λ z. each_map (λ r x. adds-since x) g.met;
+        began_well = each_append g.begun (returned-begun g.well);
+        raised_well = all-raised g.well;
+        ended_well = λ z. each_map (λ r x. adds-since x) g.met;
       }
 
 -- demand 3, of every list of moves from any of the starts

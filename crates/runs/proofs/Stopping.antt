@@ -11,14 +11,14 @@ use Rattle.condition.specs.Places.{accepts}
 use Rattle.condition.proofs.Words.{words}
 use Rattle.sheet.specs.Each.{Each, nil, cons}
 use Rattle.sheet.proofs.Each.{each-head}
-use Rattle.sheet.specs.Sheet.{normal, failed, point_from, event-step, call_from, failing_call_from, pass_step, stop_step, Sheet, due}
+use Rattle.sheet.specs.Sheet.{normal, failed, point_from, event_step, call_from, failing_call_from, pass_step, stop_step, Sheet, due}
 use Rattle.runs.specs.Rules.{◌is_in◌, holds_empty, Met, Rule, ◌of◌says◌, of_method, rules_from, rules, AllMet, count}
-use Rattle.runs.specs.Runs.{Call, Returned, State, start, Move, return, by-step, none_open, run, Safe}
+use Rattle.runs.specs.Runs.{Call, Returned, State, start, Move, return, by_step, none_open, run, Safe}
 use Rattle.runs.proofs.Methods.{primitive, with_body, failing_primitive, failing_with_body}
-use Rattle.runs.proofs.Examples.{anywhere, of-0, ◌returned-at◌, midway, Row, ◌leaves◌, states}
+use Rattle.runs.proofs.Examples.{anywhere, of_0, ◌returned-at◌, midway, Row, ◌leaves◌, states}
 use Rattle.runs.proofs.Failing.{same, first, second}
 use Rattle.runs.proofs.Safe.{runs-are-safe}
-use Rattle.runs.proofs.Moves.{Makes, event-made, pass-made, primitive-made, open_made, stop-made, return-made, run-keeps}
+use Rattle.runs.proofs.Moves.{Makes, event_made, pass_made, primitive_made, open_made, stop_made, return_made, run-keeps}
 
 -- Moves that stop ---------------------------------------------------------------------------------------------------------
 
@@ -29,85 +29,85 @@ stopping new = record {
   conditions = star (any 32) ∷ event 7 ∷ [];
   points = anywhere ∷ anywhere ∷ anywhere ∷ anywhere ∷ anywhere ∷ [];
   methods = with_body 0 0 0 0 2 ∷ with_body 0 0 0 3 4 ∷ primitive 0 1 0 ∷ [];
-  steps = call_from 0 1 2 ∷ call_from 1 2 1 ∷ event-step 3 4 5 ∷ stop_step 4 ∷ event-step 4 4 6 ∷ stop_step 0 ∷ [];
+  steps = call_from 0 1 2 ∷ call_from 1 2 1 ∷ event_step 3 4 5 ∷ stop_step 4 ∷ event_step 4 4 6 ∷ stop_step 0 ∷ [];
   certificates = [];
   new = new;
 }
 
-abbrev of-1 : Call
-of-1 = record { method = 1; channel = none; step = some 1; began = 7 ∷ []; activation = record { number = 2; callers = 0 ∷ [] } }
+abbrev of_1 : Call
+of_1 = record { method = 1; channel = none; step = some 1; began = 7 ∷ []; activation = record { number = 2; callers = 0 ∷ [] } }
 
 -- the call of the primitive
-abbrev of-2 : Returned
-of-2 = record { method = 2; channel = none; step = some 0; began = []; activation = record { number = 1; callers = 0 ∷ [] } } returned-at (7 ∷ [])
+abbrev of_2 : Returned
+of_2 = record { method = 2; channel = none; step = some 0; began = []; activation = record { number = 1; callers = 0 ∷ [] } } returned-at (7 ∷ [])
 
 -- in both editions
-abbrev to-stop : List Row
-to-stop =
+abbrev to_stop : List Row
+to_stop =
     -- control is not at the from of the stop
-    (by-step 3 normal [] leaves midway [] 0 (of-0 ∷ []) [])
-    ∷ (by-step 0 normal (7 ∷ []) leaves midway (7 ∷ []) 1 (of-0 ∷ []) (of-2 ∷ []))
-    ∷ (by-step 1 normal [] leaves midway (7 ∷ []) 3 (of-1 ∷ of-0 ∷ []) (of-2 ∷ []))
-    ∷ (by-step 3 normal [] leaves midway (7 ∷ []) 3 (of-1 ∷ of-0 ∷ []) (of-2 ∷ []))
-    ∷ (by-step 2 normal [] leaves midway (7 ∷ 5 ∷ []) 4 (of-1 ∷ of-0 ∷ []) (of-2 ∷ []))
+    (by_step 3 normal [] leaves midway [] 0 (of_0 ∷ []) [])
+    ∷ (by_step 0 normal (7 ∷ []) leaves midway (7 ∷ []) 1 (of_0 ∷ []) (of_2 ∷ []))
+    ∷ (by_step 1 normal [] leaves midway (7 ∷ []) 3 (of_1 ∷ of_0 ∷ []) (of_2 ∷ []))
+    ∷ (by_step 3 normal [] leaves midway (7 ∷ []) 3 (of_1 ∷ of_0 ∷ []) (of_2 ∷ []))
+    ∷ (by_step 2 normal [] leaves midway (7 ∷ 5 ∷ []) 4 (of_1 ∷ of_0 ∷ []) (of_2 ∷ []))
     ∷ []
 
 -- history, point, open and returned calls stay
 abbrev stopped : State
-stopped = record { history = 7 ∷ 5 ∷ []; open-calls = of-1 ∷ of-0 ∷ []; returned-calls = of-2 ∷ []; point = 4; ended = true }
+stopped = record { history = 7 ∷ 5 ∷ []; open_calls = of_1 ∷ of_0 ∷ []; returned_calls = of_2 ∷ []; point = 4; ended = true }
 
-abbrev new-rows : List Row
-new-rows =
-    to-stop
+abbrev new_rows : List Row
+new_rows =
+    to_stop
     -- the stop: a word and an outcome given with it are not read
-    ++ ((by-step 3 failed (9 ∷ []) leaves stopped)
+    ++ ((by_step 3 failed (9 ∷ []) leaves stopped)
     -- moves after it, by which the run would go on
     ∷ (return normal leaves stopped)
-    ∷ (by-step 4 normal [] leaves stopped)
-    ∷ (by-step 3 normal [] leaves stopped)
+    ∷ (by_step 4 normal [] leaves stopped)
+    ∷ (by_step 3 normal [] leaves stopped)
     ∷ [])
 
-pub new-moves : states (stopping true) [] new-rows ≡ map (λ x. x.leaves) new-rows
+pub new-moves : states (stopping true) [] new_rows ≡ map (λ x. x.leaves) new_rows
 unfolding run
 new-moves = refl
 
-abbrev old-rows : List Row
-old-rows =
-    to-stop
+abbrev old_rows : List Row
+old_rows =
+    to_stop
     -- the stop is no move, and the run goes on
-    ++ ((by-step 3 failed (9 ∷ []) leaves midway (7 ∷ 5 ∷ []) 4 (of-1 ∷ of-0 ∷ []) (of-2 ∷ []))
-    ∷ (by-step 4 normal [] leaves midway (7 ∷ 5 ∷ 6 ∷ []) 4 (of-1 ∷ of-0 ∷ []) (of-2 ∷ []))
-    ∷ (return normal leaves midway (7 ∷ 5 ∷ 6 ∷ []) 2 (of-0 ∷ []) ((of-1 returned-at (7 ∷ 5 ∷ 6 ∷ [])) ∷ of-2 ∷ []))
+    ++ ((by_step 3 failed (9 ∷ []) leaves midway (7 ∷ 5 ∷ []) 4 (of_1 ∷ of_0 ∷ []) (of_2 ∷ []))
+    ∷ (by_step 4 normal [] leaves midway (7 ∷ 5 ∷ 6 ∷ []) 4 (of_1 ∷ of_0 ∷ []) (of_2 ∷ []))
+    ∷ (return normal leaves midway (7 ∷ 5 ∷ 6 ∷ []) 2 (of_0 ∷ []) ((of_1 returned-at (7 ∷ 5 ∷ 6 ∷ [])) ∷ of_2 ∷ []))
     ∷ [])
 
-pub old-moves : states (stopping false) [] old-rows ≡ map (λ x. x.leaves) old-rows
+pub old-moves : states (stopping false) [] old_rows ≡ map (λ x. x.leaves) old_rows
 unfolding run
 old-moves = refl
 
 -- a stop in the outermost call
-pub stops-at-start : run (stopping true) 0 (by-step 5 normal [] ∷ [])
-    ≡ record { history = []; open-calls = of-0 ∷ []; returned-calls = []; point = 0; ended = true }
+pub stops-at-start : run (stopping true) 0 (by_step 5 normal [] ∷ [])
+    ≡ record { history = []; open_calls = of_0 ∷ []; returned_calls = []; point = 0; ended = true }
 unfolding run
 stops-at-start = refl
 
 -- The runs of a sheet of the old edition end only when the outermost call returns.
 module _ (S : Sheet) (unmarked : S.new ≡ false) where
   abbrev EndsByReturn : State → Type 0
-  EndsByReturn s = s.ended ≡ true → s.open-calls ≡ []
+  EndsByReturn s = s.ended ≡ true → s.open_calls ≡ []
 
   none-there : (cs : List Call) → none_open cs ≡ true → cs ≡ []
   none-there [] e = refl
   none-there (c ∷ cs) e = absurd (false≢true e)
 
   made_ends : (s t : State) → s.ended ≡ false → Makes S s t → EndsByReturn s → EndsByReturn t
-  made_ends s t z (event-made i found) g = g
-  made_ends s t z (pass-made i found) g = g
-  made_ends s t z (primitive-made i o w found at is to h) g = g
+  made_ends s t z (event_made i found) g = g
+  made_ends s t z (pass_made i found) g = g
+  made_ends s t z (primitive_made i o w found at is to h) g = g
   made_ends s t z (open_made i found at is) g = λ e. absurd (false≢true (sym z ∙ e))
-  made_ends s t z (stop-made i found marked) g = absurd (false≢true (sym unmarked ∙ marked))
-  made_ends s t z (return-made {cs = cs} o opened is at to) g = none-there cs
+  made_ends s t z (stop_made i found marked) g = absurd (false≢true (sym unmarked ∙ marked))
+  made_ends s t z (return_made {cs = cs} o opened is at to) g = none-there cs
 
-  pub old-ends : (m : ℕ) (ms : List Move) → (run S m ms).ended ≡ true → (run S m ms).open-calls ≡ []
+  pub old-ends : (m : ℕ) (ms : List Move) → (run S m ms).ended ≡ true → (run S m ms).open_calls ≡ []
   unfolding start
   old-ends m ms = run-keeps S EndsByReturn made_ends m (λ e. absurd (false≢true e)) ms
 
@@ -191,27 +191,27 @@ opened = join empty (event 0)
 abbrev closing : Condition
 closing = join empty (event 1)
 
-abbrev to-close : Condition
-to-close = join closing empty
+abbrev to_close : Condition
+to_close = join closing empty
 
-abbrev from-1 : ℕ → Condition
-from-1 last = either (join (event 1) empty) (join (event last) empty)
+abbrev from_1 : ℕ → Condition
+from_1 last = either (join (event 1) empty) (join (event last) empty)
 
 abbrev gate : (last at : ℕ) → Sheet
 gate last at = record {
   conditions =
-      empty ∷ event 0 ∷ opened ∷ closing ∷ to-close ∷ join (event 0) to-close ∷ join opened closing
-      ∷ join opened (event 1) ∷ join opened (event last) ∷ join empty (event last) ∷ from-1 last ∷ [];
+      empty ∷ event 0 ∷ opened ∷ closing ∷ to_close ∷ join (event 0) to_close ∷ join opened closing
+      ∷ join opened (event 1) ∷ join opened (event last) ∷ join empty (event last) ∷ from_1 last ∷ [];
   points = point_from 0 0 5 ∷ point_from 2 2 4 ∷ point_from 6 6 0 ∷ point_from 2 0 10 ∷ point_from 7 3 0 ∷ point_from 8 9 0 ∷ [];
   methods = with_body 0 6 0 0 2 ∷ with_body 2 3 0 3 4 ∷ primitive 0 1 4 ∷ [];
-  steps = call_from 0 1 2 ∷ call_from 1 2 1 ∷ event-step 3 4 1 ∷ event-step 3 5 last ∷ stop_step at ∷ [];
+  steps = call_from 0 1 2 ∷ call_from 1 2 1 ∷ event_step 3 4 1 ∷ event_step 3 5 last ∷ stop_step at ∷ [];
   certificates = [];
   new = true;
 }
 
 -- All its rules are true but for 26 of step 1 and 25: what follows for each true rule, and holds of these two, holds of all.
 module _ (last at : ℕ) (P : Rule → Type 0) (met : (x : Rule) → Met x.claim → P x)
-    (rule-26 : P (26 of 1 says from-1 last is_in to-close)) (rule-25 : P (25 of 4 says holds_empty (due (gate last at) at))) where
+    (rule_26 : P (26 of 1 says from_1 last is_in to_close)) (rule-25 : P (25 of 4 says holds_empty (due (gate last at) at))) where
   holds : {x : Rule} {xs : List Rule} → Met x.claim → Each P xs → Each P (x ∷ xs)
   holds {x} h t = cons (met x h) t
 
@@ -222,8 +222,8 @@ module _ (last at : ℕ) (P : Rule → Type 0) (met : (x : Rule) → Met x.claim
       holds refl (holds refl
       (holds (same empty) (holds refl (holds (same (join opened closing)) (holds (same empty)
       (holds (same opened) (holds refl (holds (same closing) (holds (same empty)
-      (holds (same empty) (holds (same opened) (holds (same opened) (holds (same to-close) (holds (same (join (event 0) to-close))
-      (holds (same opened) (holds (same (join opened closing)) (holds (same (join opened closing)) (holds (same empty) (holds (same to-close) (cons rule-26
+      (holds (same empty) (holds (same opened) (holds (same opened) (holds (same to_close) (holds (same (join (event 0) to_close))
+      (holds (same opened) (holds (same (join opened closing)) (holds (same (join opened closing)) (holds (same empty) (holds (same to_close) (cons rule_26
       (holds (same (join opened (event 1))) (holds (same closing) (holds (first (join (event 1) empty) (join (event last) empty))
       (holds (same (join opened (event last))) (holds (same (join empty (event last))) (holds (second (join (event 1) empty) (join (event last) empty))
       (cons rule-25 nil)))))))))))))))))))))))))))
@@ -233,7 +233,7 @@ abbrev pub MetBut : ℕ → List Rule → Type 0
 MetBut n = Each (λ x. (x.number ≡ n → ⊥) → Met x.claim)
 
 -- Where the last event is the close, and the stop is behind it, all rules are true: every run is safe, also one that stops in method 1.
-close-in-due : from-1 1 ⊆ to-close
+close-in-due : from_1 1 ⊆ to_close
 close-in-due w (inl (u, v, e, x, y)) = (u, v, e, ([], u, refl, refl, x), y)
 close-in-due w (inr (u, v, e, x, y)) = (u, v, e, ([], u, refl, refl, x), y)
 
@@ -244,14 +244,14 @@ pub closed-runs : (ms : List Move) → Safe (gate 1 5) (run (gate 1 5) 0 ms)
 closed-runs ms = runs-are-safe (gate 1 5) (cons tt (cons tt (cons tt (cons tt (cons tt nil))))) (0 ∷ []) closed-rules 0 (Memᴰ.head refl) tt ms
 
 -- the primitive opens the gate, method 0 calls method 1, that raises the last event, and the run stops
-abbrev to-gate-stop : List Move
-to-gate-stop = by-step 0 normal (0 ∷ []) ∷ by-step 1 normal [] ∷ by-step 3 normal [] ∷ by-step 4 normal [] ∷ []
+abbrev to_gate_stop : List Move
+to_gate_stop = by_step 0 normal (0 ∷ []) ∷ by_step 1 normal [] ∷ by_step 3 normal [] ∷ by_step 4 normal [] ∷ []
 
 -- such a run: the gate is closed, and both methods are still open
 pub stops-closed :
-    ((run (gate 1 5) 0 to-gate-stop).ended ≡ true)
-    × ((run (gate 1 5) 0 to-gate-stop).history ≡ 0 ∷ 1 ∷ [])
-    × (map (λ c. c.method) (run (gate 1 5) 0 to-gate-stop).open-calls ≡ 1 ∷ 0 ∷ [])
+    ((run (gate 1 5) 0 to_gate_stop).ended ≡ true)
+    × ((run (gate 1 5) 0 to_gate_stop).history ≡ 0 ∷ 1 ∷ [])
+    × (map (λ c. c.method) (run (gate 1 5) 0 to_gate_stop).open_calls ≡ 1 ∷ 0 ∷ [])
 unfolding run
 stops-closed = (refl, refl, refl)
 
@@ -259,18 +259,18 @@ stops-closed = (refl, refl, refl)
 pub left-open-rules : MetBut 26 (rules_from (0 ∷ []) (gate 2 5))
 left-open-rules = gate-rules 2 5 (λ x. (x.number ≡ 26 → ⊥) → Met x.claim) (λ x h n. h) (λ n. absurd (n refl)) (λ n. refl)
 
-pub not-in-due : from-1 2 ⊆ to-close → ⊥
+pub not-in-due : from_1 2 ⊆ to_close → ⊥
 unfolding accepts
-not-in-due h = (words to-close (2 ∷ [])).1 (h (2 ∷ []) ((words (from-1 2) (2 ∷ [])).0 tt))
+not-in-due h = (words to_close (2 ∷ [])).1 (h (2 ∷ []) ((words (from_1 2) (2 ∷ [])).0 tt))
 
-pub left_open : Safe (gate 2 5) (run (gate 2 5) 0 to-gate-stop) → ⊥
+pub left_open : Safe (gate 2 5) (run (gate 2 5) 0 to_gate_stop) → ⊥
 unfolding run
-left_open s = (words to-close (2 ∷ [])).1 (each-head (s.ended-well refl))
+left_open s = (words to_close (2 ∷ [])).1 (each-head (s.ended_well refl))
 
 -- Where the stop is at point 1, only 25 is not true: the run stops in method 0 with the gate open.
 pub stop-before-close-rules : MetBut 25 (rules_from (0 ∷ []) (gate 1 1))
 stop-before-close-rules = gate-rules 1 1 (λ x. (x.number ≡ 25 → ⊥) → Met x.claim) (λ x h n. h) (λ n. close-in-due) (λ n. absurd (n refl))
 
-pub stop-before-close : Safe (gate 1 1) (run (gate 1 1) 0 (by-step 0 normal (0 ∷ []) ∷ by-step 4 normal [] ∷ [])) → ⊥
+pub stop-before-close : Safe (gate 1 1) (run (gate 1 1) 0 (by_step 0 normal (0 ∷ []) ∷ by_step 4 normal [] ∷ [])) → ⊥
 unfolding run
-stop-before-close s = (words to-close []).1 (each-head (s.ended-well refl))
+stop-before-close s = (words to_close []).1 (each-head (s.ended_well refl))

@@ -6,7 +6,7 @@ use Prim.Native.Nat.{ℕ}
 use Rattle.sheet.proofs.Each.{each_member}
 use Rattle.sheet.specs.Sheet.{Sheet}
 use Rattle.runs.specs.Runs.{Call, calls, start, Move, run}
-use Rattle.runs.specs.Owing.{call_number, state_after, HowBegan, at-start, by_move, ToldApart}
+use Rattle.runs.specs.Owing.{call_number, state_after, HowBegan, at_start, by_move, ToldApart}
 
 module _ (S : Sheet) (m : ℕ) (ms : List Move) (told : ToldApart S m ms) where
   -- the number of the first call is not among those of the others
@@ -17,7 +17,7 @@ module _ (S : Sheet) (m : ℕ) (ms : List Move) (told : ToldApart S m ms) where
   -- a call began after the history of a state of the run
   began-in : {c : Call} → HowBegan S m ms c → (k : ℕ) × (c.began ≡ (state_after S m ms k).history)
   unfolding run start
-  began-in (at-start i none) = (0, ap (λ (c : Call). c.began) (Memᴰ.eq_of_singleton i))
+  began-in (at_start i none) = (0, ap (λ (c : Call). c.began) (Memᴰ.eq_of_singleton i))
   began-in (by_move k b) = (k, b.history)
 
   pub began-in-run : {c : Call} → Memᴰ c (calls (run S m ms)) → (k : ℕ) × (c.began ≡ (state_after S m ms k).history)

@@ -28,7 +28,7 @@ LiesInFuture S s r = (v : Word) → Holds (due S s.point) v → Holds (future_of
 
 -- "after a call has returned, and whenever control is in the activation that made it or in one of that activation's callers"
 abbrev pub Owing : Sheet → State → Type 0
-Owing S s = Each (λ r. InCaller s.open-calls r.call → LiesInFuture S s r) s.returned-calls
+Owing S s = Each (λ r. InCaller s.open_calls r.call → LiesInFuture S s r) s.returned_calls
 
 -- Which activation is which ---------------------------------------------------------------------------------------------
 
@@ -40,8 +40,8 @@ module _ (S : Sheet) (m : ℕ) (ms : List Move) where
 
   -- the call c begins with move k, counted from 0: it is there after that move, and not before
   pub record Begins (k : ℕ) (c : Call) : Type 0 where
-    pub not-before : Memᴰ c (calls (state_after k)) → ⊥
-    pub there-after : Memᴰ c (calls (state_after (suc k)))
+    pub not_before : Memᴰ c (calls (state_after k)) → ⊥
+    pub there_after : Memᴰ c (calls (state_after (suc k)))
 
   -- the call c began by move k
   pub record BeganBy (k : ℕ) (c : Call) : Type 0 where
@@ -49,11 +49,11 @@ module _ (S : Sheet) (m : ℕ) (ms : List Move) where
     -- "the history at its beginning"
     pub history : c.began ≡ (state_after k).history
     -- of all calls of the run, its callers are those that were open when it began
-    pub callers : (d : Call) → Memᴰ d (calls (run S m ms)) → IsCaller d c ↔ Memᴰ d (state_after k).open-calls
+    pub callers : (d : Call) → Memᴰ d (calls (run S m ms)) → IsCaller d c ↔ Memᴰ d (state_after k).open_calls
 
   -- the outermost call is there from the start, and has no callers; each other one began by a move
   pub data HowBegan (c : Call) : Type 0 where
-    at-start : Memᴰ c (calls (state_after 0)) → ((d : Call) → IsCaller d c → ⊥) → HowBegan c
+    at_start : Memᴰ c (calls (state_after 0)) → ((d : Call) → IsCaller d c → ⊥) → HowBegan c
     by_move : (k : ℕ) → BeganBy k c → HowBegan c
 
   -- Its activations are told apart, also several of one method, by one step, with equal histories.
@@ -69,8 +69,8 @@ module _ (S : Sheet) (m : ℕ) (ms : List Move) where
   -- of the open calls cs, the innermost was open before move k
   abbrev pub WasOpen : ℕ → List Call → Type 0
   WasOpen k [] = ⊥
-  WasOpen k (d ∷ ds) = Memᴰ d (state_after k).open-calls
+  WasOpen k (d ∷ ds) = Memᴰ d (state_after k).open_calls
 
   abbrev pub OwingWhenOpen : Type 0
   OwingWhenOpen =
-      Each (λ r. (k : ℕ) → Begins k r.call → WasOpen k (run S m ms).open-calls → LiesInFuture S (run S m ms) r) (run S m ms).returned-calls
+      Each (λ r. (k : ℕ) → Begins k r.call → WasOpen k (run S m ms).open_calls → LiesInFuture S (run S m ms) r) (run S m ms).returned_calls

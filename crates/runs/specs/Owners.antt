@@ -15,4 +15,4 @@ OfActive owner [] = Unit {0}
 OfActive owner (c ∷ callers) = owner ≡ some c.method
 
 abbrev pub Belongs : Sheet → State → Type 0
-Belongs S s = OfActive (owner S s.point) s.open-calls
+Belongs S s = OfActive (owner S s.point) s.open_calls

@@ -4,7 +4,7 @@ use Rattle.std.specs.Prelude.{ℕ, suc, ◌+◌, ◌*◌, Bool, false, cond, ◌
 use Rattle.std.proofs.Math.Option.{Option, none, some}
 use Rattle.condition.specs.Condition.{Condition, join, Holds, ◌⊆◌, event}
 use Rattle.sheet.specs.Each.{Each}
-use Rattle.sheet.specs.Sheet.{Outcome, normal, failed, Body, Method, CallStep, Step, event-step, call_step, pass_step, stop_step, Sheet, past, own, due, pre, trace, future, on_channel, body, entry_in}
+use Rattle.sheet.specs.Sheet.{Outcome, normal, failed, Body, Method, CallStep, Step, event_step, call_step, pass_step, stop_step, Sheet, past, own, due, pre, trace, future, on_channel, body, entry_in}
 
 -- ""A in B" says that every word of A is in B"; or A holds the empty word
 infix 30 ◌is_in◌
@@ -66,7 +66,7 @@ module _ (S : Sheet) where
   method_rules starts m (some b) =
       (3 of m says pre S m is_in past S b.entry)
       ∷ (4 of m says holds_empty (own S b.entry))
-      ∷ (exit_rules 5 m normal b.exit ++ if_any b.failed-exit (failed_exit_rules starts m))
+      ∷ (exit_rules 5 m normal b.exit ++ if_any b.failed_exit (failed_exit_rules starts m))
 
   -- "p and q are a step's from and to, T the called method's trace, a the event"; "AB is A joined with B". What the method declares is read as the call
   -- reads it, on its channel.
@@ -93,7 +93,7 @@ module _ (S : Sheet) where
 
   abbrev pub step_rules : ℕ → Step → List Rule
   -- "Event step: 7 past(p)a in past(q); 8 own(p)a in own(q); 9 a due(q) in due(p)."
-  step_rules i (event-step p q a) =
+  step_rules i (event_step p q a) =
       (7 of i says join (past S p) (event a) is_in past S q)
       ∷ (8 of i says join (own S p) (event a) is_in own S q)
       ∷ (9 of i says join (event a) (due S q) is_in due S p)
@@ -102,7 +102,7 @@ module _ (S : Sheet) where
   step_rules i (call_step t) =
       (10 of i says past S t.from is_in on_channel t.channel (pre S t.method))
       ∷ (return_rules 11 i t normal t.to
-      ++ (if_any t.failed-to (return_rules 18 i t failed) ++ if_any (entry_asked t.method) (entry_rules i t)))
+      ++ (if_any t.failed_to (return_rules 18 i t failed) ++ if_any (entry_asked t.method) (entry_rules i t)))
   -- "Pass: 15 past(p) in past(q); 16 own(p) in own(q); 17 due(q) in due(p)."
   step_rules i (pass_step p q) =
       (15 of i says past S p is_in past S q)
@@ -153,19 +153,19 @@ body_count m = how_many m.body
 
 -- e, c and p, of one step
 abbrev pub event_count : Step → ℕ
-event_count (event-step p q a) = 1
+event_count (event_step p q a) = 1
 event_count (call_step t) = 0
 event_count (pass_step p q) = 0
 event_count (stop_step p) = 0
 
 abbrev pub call_count : Step → ℕ
-call_count (event-step p q a) = 0
+call_count (event_step p q a) = 0
 call_count (call_step t) = 1
 call_count (pass_step p q) = 0
 call_count (stop_step p) = 0
 
 abbrev pub pass_count : Step → ℕ
-pass_count (event-step p q a) = 0
+pass_count (event_step p q a) = 0
 pass_count (call_step t) = 0
 pass_count (pass_step p q) = 1
 pass_count (stop_step p) = 0
@@ -173,27 +173,27 @@ pass_count (stop_step p) = 0
 -- whether a method has a failed exit, and with it 22 and 23, and 24 where runs start at it
 abbrev pub failed_exits : Option Body → ℕ
 failed_exits none = 0
-failed_exits (some b) = how_many b.failed-exit
+failed_exits (some b) = how_many b.failed_exit
 
 abbrev pub failed_exit_count : Method → ℕ
 failed_exit_count m = failed_exits m.body
 
 -- whether a step is a call with a failed target, and with it 18 to 21
 abbrev pub failed_call_count : Step → ℕ
-failed_call_count (event-step p q a) = 0
-failed_call_count (call_step t) = how_many t.failed-to
+failed_call_count (event_step p q a) = 0
+failed_call_count (call_step t) = how_many t.failed_to
 failed_call_count (pass_step p q) = 0
 failed_call_count (stop_step p) = 0
 
 -- whether a step is a stop, and with it 25; and whether it is a call with 26
 abbrev pub stop_count : Step → ℕ
-stop_count (event-step p q a) = 0
+stop_count (event_step p q a) = 0
 stop_count (call_step t) = 0
 stop_count (pass_step p q) = 0
 stop_count (stop_step p) = 1
 
 abbrev pub entry_count : Sheet → Step → ℕ
-entry_count S (event-step p q a) = 0
+entry_count S (event_step p q a) = 0
 entry_count S (call_step t) = how_many (entry_asked S t.method)
 entry_count S (pass_step p q) = 0
 entry_count S (stop_step p) = 0

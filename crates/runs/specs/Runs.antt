@@ -7,7 +7,7 @@ use Rattle.condition.specs.Condition.{Word, Condition, Holds}
 use Rattle.condition.specs.Exchange.{exchange}
 use Rattle.condition.specs.Places.{accepts}
 use Rattle.sheet.specs.Each.{Each}
-use Rattle.sheet.specs.Sheet.{Outcome, Body, CallStep, Step, event-step, call_step, pass_step, stop_step, Sheet, pre, trace, future, on_channel, body, exit_in, target_for}
+use Rattle.sheet.specs.Sheet.{Outcome, Body, CallStep, Step, event_step, call_step, pass_step, stop_step, Sheet, pre, trace, future, on_channel, body, exit_in, target_for}
 
 -- The state of a run ----------------------------------------------------------------------------------------------------
 
@@ -36,16 +36,16 @@ pub record Returned : Type 0 where
 pub record State : Type 0 where
   pub history : Word
   -- the innermost first
-  pub open-calls : List Call
+  pub open_calls : List Call
   -- the last to return first
-  pub returned-calls : List Returned
+  pub returned_calls : List Returned
   pub point : ℕ
   -- whether the outermost call has returned, or a stop was made
   pub ended : Bool
 
 -- "every call so far"
 abbrev pub calls : State → List Call
-calls s = s.open-calls ++ map (λ r. r.call) s.returned-calls
+calls s = s.open_calls ++ map (λ r. r.call) s.returned_calls
 
 -- a call's pre: what its method declares, read on the call's channel; "a call's trace and future are those of its outcome". "The mission's properties hold
 -- with the exchanged conditions."
@@ -72,9 +72,9 @@ Extends b h = h ≡ b ++ since b h
 
 -- histories only grow: a call's beginning begins the history at its return, and that begins the present one (proofs/Grow)
 pub record Grown (s : State) : Type 0 where
-  pub since-beginning : Each (λ c. Extends c.began s.history) s.open-calls
-  pub while-open : Each (λ r. Extends r.call.began r.at) s.returned-calls
-  pub since-return : Each (λ r. Extends r.at s.history) s.returned-calls
+  pub since_beginning : Each (λ c. Extends c.began s.history) s.open_calls
+  pub while_open : Each (λ r. Extends r.call.began r.at) s.returned_calls
+  pub since_return : Each (λ r. Extends r.at s.history) s.returned_calls
 
 -- "It starts at the entry of method 0 with no events, method 0 its one open call": here at the method m. The first method of a sheet that is read
 -- whole has a body.
@@ -86,8 +86,8 @@ unfoldable pub start : Sheet → ℕ → State
 start S m =
     record {
       history = [];
-      open-calls = record { method = m; channel = none; step = none; began = []; activation = record { number = 0; callers = [] } } ∷ [];
-      returned-calls = [];
+      open_calls = record { method = m; channel = none; step = none; began = []; activation = record { number = 0; callers = [] } } ∷ [];
+      returned_calls = [];
       point = entry_of (body S m);
       ended = false;
     }
@@ -98,12 +98,12 @@ start S m =
 -- another step is not read. A step that calls a primitive always comes with a word here: [] is the empty word, not the lack of one.
 pub data Move : Type 0 where
   return : Outcome → Move
-  by-step : (step : ℕ) → Outcome → (word : Word) → Move
+  by_step : (step : ℕ) → Outcome → (word : Word) → Move
 
 -- a word is raised, and control goes to the point q
 abbrev pub raise : Word → ℕ → State → State
 raise w q s =
-    record { history = s.history ++ w; open-calls = s.open-calls; returned-calls = s.returned-calls; point = q; ended = s.ended }
+    record { history = s.history ++ w; open_calls = s.open_calls; returned_calls = s.returned_calls; point = q; ended = s.ended }
 
 -- the activation that makes a call now, the innermost open one, and that activation's callers
 abbrev pub callers_now : List Call → List ℕ
@@ -120,23 +120,23 @@ new_call s i t =
       began = s.history;
       activation =
           record {
-            number = length s.open-calls + length s.returned-calls;
-            callers = callers_now s.open-calls;
+            number = length s.open_calls + length s.returned_calls;
+            callers = callers_now s.open_calls;
           };
     }
 
 -- "A call of a method with body opens it and goes to its entry."
 abbrev pub open_call : Call → ℕ → State → State
 open_call c entry s =
-    record { history = s.history; open-calls = c ∷ s.open-calls; returned-calls = s.returned-calls; point = entry; ended = s.ended }
+    record { history = s.history; open_calls = c ∷ s.open_calls; returned_calls = s.returned_calls; point = entry; ended = s.ended }
 
 -- a call that was not opened returns now
 abbrev pub returned_now : Call → Outcome → State → State
 returned_now c o s =
     record {
       history = s.history;
-      open-calls = s.open-calls;
-      returned-calls = record { call = c; outcome = o; at = s.history } ∷ s.returned-calls;
+      open_calls = s.open_calls;
+      returned_calls = record { call = c; outcome = o; at = s.history } ∷ s.returned_calls;
       point = s.point;
       ended = s.ended;
     }
@@ -153,24 +153,24 @@ make_call S s c o w target (some b) = open_call c b.entry s
 
 -- kind 19 "ends the whole run"; what is open stays open: "calls still open owe their pre-condition only"
 abbrev pub stop : State → State
-stop s = record { history = s.history; open-calls = s.open-calls; returned-calls = s.returned-calls; point = s.point; ended = true }
+stop s = record { history = s.history; open_calls = s.open_calls; returned_calls = s.returned_calls; point = s.point; ended = true }
 
 -- "An event step raises its event; a pass raises none; both lead to their target." "For new sheets a stop is a move".
 abbrev pub make_step : Sheet → State → ℕ → Outcome → Word → Step → State
-make_step S s i o w (event-step p q a) = raise (a ∷ []) q s
+make_step S s i o w (event_step p q a) = raise (a ∷ []) q s
 make_step S s i o w (call_step t) = make_call S s (new_call s i t) o w (target_for o t) (body S t.method)
 make_step S s i o w (pass_step p q) = raise [] q s
 make_step S s i o w (stop_step p) = cond S.new (stop s) s
 
 -- the points that a step leads from and, with an outcome, to; a stop leads nowhere
 abbrev pub from_of : Step → ℕ
-from_of (event-step p q a) = p
+from_of (event_step p q a) = p
 from_of (call_step t) = t.from
 from_of (pass_step p q) = p
 from_of (stop_step p) = p
 
 abbrev pub to_of : Outcome → Step → Option ℕ
-to_of o (event-step p q a) = some q
+to_of o (event_step p q a) = some q
 to_of o (call_step t) = target_for o t
 to_of o (pass_step p q) = some q
 to_of o (stop_step p) = none
@@ -201,8 +201,8 @@ abbrev pub close : State → Outcome → Call → List Call → ℕ → State
 close s o c callers q =
     record {
       history = s.history;
-      open-calls = callers;
-      returned-calls = record { call = c; outcome = o; at = s.history } ∷ s.returned-calls;
+      open_calls = callers;
+      returned_calls = record { call = c; outcome = o; at = s.history } ∷ s.returned_calls;
       point = q;
       ended = none_open callers;
     }
@@ -225,8 +225,8 @@ try_return S s o (c ∷ callers) =
 
 -- a move before the end
 abbrev pub try_move : Sheet → State → Move → State
-try_move S s (return o) = try_return S s o s.open-calls
-try_move S s (by-step i o w) = try_step S s i o w (get_elem? S.steps i)
+try_move S s (return o) = try_return S s o s.open_calls
+try_move S s (by_step i o w) = try_step S s i o w (get_elem? S.steps i)
 
 -- "A move that cannot be made, and any move after the end, changes nothing."
 unfoldable pub move : Sheet → State → Move → State
@@ -235,8 +235,8 @@ move S s m = cond s.ended s (try_move S s m)
 -- "A call of a primitive needs a word of the primitive's trace, whichever it is", said with the language: in the state s the step i, which is t, calls a
 -- primitive and leads to q with the outcome o, is made with exactly the words that the trace of that outcome holds (proofs/Moves).
 pub record MadeByTrace (S : Sheet) (s : State) (i : ℕ) (t : CallStep) (o : Outcome) (q : ℕ) (w : Word) : Type 0 where
-  pub made : Holds (trace_of S (new_call s i t) o) w → move S s (by-step i o w) ≡ returned_now (new_call s i t) o (raise w q s)
-  pub not_made : (Holds (trace_of S (new_call s i t) o) w → ⊥) → move S s (by-step i o w) ≡ s
+  pub made : Holds (trace_of S (new_call s i t) o) w → move S s (by_step i o w) ≡ returned_now (new_call s i t) o (raise w q s)
+  pub not_made : (Holds (trace_of S (new_call s i t) o) w → ⊥) → move S s (by_step i o w) ≡ s
 
 -- "Each move starts from what the last one left, and nothing else changes a run or its sheet."
 unfoldable pub run_on : Sheet → State → List Move → State
@@ -253,9 +253,9 @@ run S m ms = run_on S (start S m) ms
 -- What is promised of a state of a run, said with the conditions' languages.
 pub record Safe (S : Sheet) (s : State) : Type 0 where
   -- "every call so far began after a history in its pre"
-  pub began-well : Each (λ c. Holds (pre_of S c) c.began) (calls s)
+  pub began_well : Each (λ c. Holds (pre_of S c) c.began) (calls s)
   -- "every returned call raised a word of its trace"
-  pub raised-well : Each (λ r. Holds (trace_of S r.call r.outcome) (raised r)) s.returned-calls
+  pub raised_well : Each (λ r. Holds (trace_of S r.call r.outcome) (raised r)) s.returned_calls
   -- "if the run ends, what followed each return is in its future"; "'the run ends' includes" a stop, also while the call that made it is open
-  pub ended-well : s.ended ≡ true
-      → Each (λ r. Holds (future_of S r.call r.outcome) (since r.at s.history)) s.returned-calls
+  pub ended_well : s.ended ≡ true
+      → Each (λ r. Holds (future_of S r.call r.outcome) (since r.at s.history)) s.returned_calls

@@ -11,7 +11,7 @@ use Rattle.sheet.specs.Model.{Model}
 use Rattle.sheet.specs.Kind.{Role, symbol, a_pair, counts, edition, kind_of, section_of}
 use Rattle.sheet.specs.Record.{byte_at, record_at}
 use Rattle.sheet.specs.Reading.{Opened, Counted, Reading, tally, start_of, starts_of, wrong_items, full, over_limit, in_condition, all_exist, refusal_of, past_at, ReadResult}
-use Rattle.sheet_laws.proofs.Order.{is-4, is-19, is-20, is-5, is-6, all_named, is-9, is-18, is-24, is-26, twenty, six, seven, nine, eighteen, twenty-four, twenty-six, takes}
+use Rattle.sheet_laws.proofs.Order.{is_4, is_19, is_20, is_5, is_6, all_named, is_9, is_18, is_24, is_26, twenty, six, seven, nine, eighteen, twenty_four, twenty-six, takes}
 use Rattle.format.specs.declared.Refusal.{Refusal}
 use Rattle.format.specs.declared.Refusal.TheVariants.{WrongSection, StopInOldSheet, OverLimit}
 use Rattle.kinds.specs.Kinds.{primitive_kind}
@@ -145,44 +145,44 @@ module _ {l : Limits} {s : List ℕ} {o : ReadResult} {k at limit : ℕ} {t : Ta
         role : (kind_of (byte_at s at)).role ≡ counts
         role = stands-alone (byte_at s at) (omega (arith, here, a.low)) (omega (arith, here, a.high))
 
-        not-4 : is-4 M s at u ≡ false
+        not-4 : is_4 M s at u ≡ false
         not-4 =
             in_order w u (omega (arith, b.section))
             (ap (λ (o : Opened). eqb o.section 1 && not (in_condition (section_of (byte_at s at)) (kind_of (byte_at s at)).role)) b.closed)
 
-        not-19 : is-19 M s at u ≡ false
+        not-19 : is_19 M s at u ≡ false
         not-19 = no-mark w u (λ e. omega (arith, ap section_of e, a.low))
 
         -- 20
         pub old-stop : stop_fits s kind ≡ false → Filled M s o (suc k) (Refused (StopInOldSheet at)) k r table₀ table
-        old-stop e = ends (StopInOldSheet at) (twenty M s at u w.not-2 (not-3 w u) not-4 not-19 (stop_is w u ∙ ap not e), refl)
+        old-stop e = ends (StopInOldSheet at) (twenty M s at u w.not_2 (not-3 w u) not-4 not-19 (stop_is w u ∙ ap not e), refl)
 
-        not-5 : is-5 M s at u ≡ false
+        not-5 : is_5 M s at u ≡ false
         not-5 =
             ap (λ (y : Role). wrong_items (section_of (byte_at s at)) y (length u.opened.items)) role
             ∙ and_left (eqb (section_of (byte_at s at)) 1) _ (ne_eqb _ 1 (λ (e : section_of (byte_at s at) ≡ 1). omega (arith, here, a.low)))
 
-        limit_is : is-6 M s at u ≡ leb limit (count_of t k)
+        limit_is : is_6 M s at u ≡ leb limit (count_of t k)
         limit_is =
             ap (λ (y : Role). over_limit M u (record_at s at) (section_of (byte_at s at)) y) role
             ∙ ap (λ (j : ℕ). full M j (tally u j)) here ∙ ap (full M k) (h.told.1 k) ∙ a.limited (count_of t k)
 
         module _ (fits : stop_fits s kind ≡ true) where
-          not-20 : is-20 M s at u ≡ false
+          not-20 : is_20 M s at u ≡ false
           not-20 = stop_is w u ∙ ap not fits
 
           -- 6
           pub over-limit : leb limit (count_of t k) ≡ true → Filled M s o (suc k) (Refused (OverLimit at)) k r table₀ table
-          over-limit e = ends (OverLimit at) (six M s at u w.not-2 (not-3 w u) not-4 not-19 not-20 not-5 (limit_is ∙ e), refl)
+          over-limit e = ends (OverLimit at) (six M s at u w.not_2 (not-3 w u) not-4 not-19 not-20 not-5 (limit_is ∙ e), refl)
 
           -- there is room; nothing of the section was counted in this sheet where it began, and what its records name is listed
           module _ (within : leb limit (count_of t k) ≡ false) {t₀ : Tally} (counts₀ : Counts r t₀) (none : r.own k ≡ []) (ps ms : List ℕ)
               (named : NamedListed s ps ms k r) where
-            under : is-6 M s at u ≡ false
+            under : is_6 M s at u ≡ false
             under = limit_is ∙ within
 
-            first-is : is-9 M s at u ≡ (eqb (count_of t k) (count_of t₀ k) && primitive_kind kind)
-            first-is =
+            first_is : is_9 M s at u ≡ (eqb (count_of t k) (count_of t₀ k) && primitive_kind kind)
+            first_is =
                 ap (λ (b : Bool). b && eqb (length (u.own 3)) 0) (primitive-is w u) ∙ go (primitive_kind kind) refl
               where
                 go : (b : Bool) → primitive_kind kind ≡ b → (b && eqb (length (u.own 3)) 0) ≡ (eqb (count_of t k) (count_of t₀ k) && b)
@@ -193,19 +193,19 @@ module _ {l : Limits} {s : List ℕ} {o : ReadResult} {k at limit : ℕ} {t : Ta
                 go false e = sym (and_right (eqb (count_of t k) (count_of t₀ k)) false refl)
 
             module _ (names : all_named M s at u ≡ true) where
-              methods-listed : section_of (byte_at s at) ≡ 4 → Listed s ms 3 u
-              methods-listed e = still-listed s ms 3 h.grown (λ f. omega (arith, here)) (named.methods-listed (sym here ∙ e))
+              methods_listed : section_of (byte_at s at) ≡ 4 → Listed s ms 3 u
+              methods_listed e = still-listed s ms 3 h.grown (λ f. omega (arith, here)) (named.methods_listed (sym here ∙ e))
 
-              outcomes-is : is-18 M s at u ≡ wrong_outcomes_at s at kind ms
-              outcomes-is = outcomes-are l.events s at u (subst T (sym names) tt) ms methods-listed w.kind
+              outcomes-is : is_18 M s at u ≡ wrong_outcomes_at s at kind ms
+              outcomes-is = outcomes-are l.events s at u (subst T (sym names) tt) ms methods_listed w.kind
 
-              channels-is : is-26 M s at u ≡ wrong_channel_at s at kind ms
-              channels-is = channels-are l.events s at u (subst T (sym names) tt) ms methods-listed w.kind
+              channels-is : is_26 M s at u ≡ wrong_channel_at s at kind ms
+              channels-is = channels-are l.events s at u (subst T (sym names) tt) ms methods_listed w.kind
 
-              owners-is : is-24 M s at u ≡ not (owners_fit s at kind t.methods ps)
+              owners-is : is_24 M s at u ≡ not (owners_fit s at kind t.methods ps)
               owners-is =
                   owners-are l.events s ps u at w.kind (h.told.1 3) (subst T (sym names) tt)
-                  (λ ne. still-listed s ps 2 h.grown (λ e. ne (here ∙ sym e)) (named.points-listed (above (λ e. ne (here ∙ e)))))
+                  (λ ne. still-listed s ps 2 h.grown (λ e. ne (here ∙ sym e)) (named.points_listed (above (λ e. ne (here ∙ e)))))
                 where
                   above : (k ≡ 2 → ⊥) → 2 < k
                   above ne = by_contra 3 k (λ g. ne (omega (arith, a.low)))
@@ -220,25 +220,25 @@ module _ {l : Limits} {s : List ℕ} {o : ReadResult} {k at limit : ℕ} {t : Ta
             judges =
                 let exist = all_exist l.events (count_of t) (kind_of kind).fields (record_at s at).values in
                 cond-by Judges (not exist)
-                (λ e. (seven M s at u w.not-2 (not-3 w u) not-4 not-19 not-20 not-5 under (names-are w u h.told.1 ∙ not-true exist e), refl))
+                (λ e. (seven M s at u w.not_2 (not-3 w u) not-4 not-19 not-20 not-5 under (names-are w u h.told.1 ∙ not-true exist e), refl))
                 (λ e. let names : all_named M s at u ≡ true = names-are w u h.told.1 ∙ not-false exist e in
                 cond-by Judges (eqb (count_of t k) (count_of t₀ k) && primitive_kind kind)
-                (λ f. (nine M s at u w.not-2 (not-3 w u) not-4 not-19 not-20 not-5 under names (first-is ∙ f), refl))
+                (λ f. (nine M s at u w.not_2 (not-3 w u) not-4 not-19 not-20 not-5 under names (first_is ∙ f), refl))
                 (λ f. cond-by Judges (wrong_outcomes_at s at kind ms)
-                (λ g. (eighteen M s at u w.not-2 (not-3 w u) not-4 not-19 not-20 not-5 under names (first-is ∙ f) (outcomes-is names ∙ g), refl))
+                (λ g. (eighteen M s at u w.not_2 (not-3 w u) not-4 not-19 not-20 not-5 under names (first_is ∙ f) (outcomes-is names ∙ g), refl))
                 (λ g. cond-by Judges (not (owners_fit s at kind t.methods ps))
                 (λ i. (
-                  twenty-four M s at u w.not-2 (not-3 w u) not-4 not-19 not-20 not-5 under names (first-is ∙ f) (outcomes-is names ∙ g)
+                  twenty_four M s at u w.not_2 (not-3 w u) not-4 not-19 not-20 not-5 under names (first_is ∙ f) (outcomes-is names ∙ g)
                       (owners-is names ∙ i),
                   refl,
                 ))
                 (λ i. cond-by Judges (wrong_channel_at s at kind ms)
                 (λ j. (
-                  twenty-six M s at u w.not-2 (not-3 w u) not-4 not-19 not-20 not-5 under names (first-is ∙ f) (outcomes-is names ∙ g)
+                  twenty-six M s at u w.not_2 (not-3 w u) not-4 not-19 not-20 not-5 under names (first_is ∙ f) (outcomes-is names ∙ g)
                       (owners-is names ∙ i) (channels-is names ∙ j),
                   refl,
                 ))
-                (λ j. takes M s at u w.not-2 (not-3 w u) not-4 not-19 not-20 not-5 under names (first-is ∙ f) (outcomes-is names ∙ g)
+                (λ j. takes M s at u w.not_2 (not-3 w u) not-4 not-19 not-20 not-5 under names (first_is ∙ f) (outcomes-is names ∙ g)
                 (owners-is names ∙ i) (channels-is names ∙ j))))))
 
             module _ {n n₀ : ℕ} {j : Judged} (n-is : n ≡ count_of t k) (n₀-is : n₀ ≡ count_of t₀ k)

@@ -13,7 +13,7 @@ use Rattle.sheet.specs.Model.{Model}
 use Rattle.sheet.specs.Kind.{Role, symbol, a_pair, counts, edition, kind_of, section_of}
 use Rattle.sheet.specs.Record.{byte_at, record_at}
 use Rattle.sheet.specs.Reading.{Opened, Counted, Reading, tally, start_of, starts_of, wrong_items, full, over_limit, refusal_of, opened_past, past_at, ReadResult, refusal, owners_from, at_end}
-use Rattle.sheet_laws.proofs.Order.{is-4, is-5, is-6, takes}
+use Rattle.sheet_laws.proofs.Order.{is_4, is_5, is_6, takes}
 use Rattle.format.specs.declared.Refusal.{Refusal}
 use Rattle.format.specs.declared.Refusal.TheVariants.{WrongSection, Unfinished, NoFirstBody}
 use Rattle.kinds.specs.Kinds.{counts_one}
@@ -29,7 +29,7 @@ use Rattle.sections.specs.declared.Read.TheVariants.{Refused}
 use Rattle.sections.specs.Sections.{Counts, Comes, Told, Answers, whole_unless, end_of, Concluded, FirstSheet}
 use Rattle.sections.proofs.Comes.{ended, refuses, taken-on}
 use Rattle.sections.proofs.Counted.{at-is, own_same, counts_same, closed, others, starts, counts-more}
-use Rattle.sections.proofs.Tests.{and_left, section-is, not-3, early, in_order, no-mark, no_stop, no-method, no_call, no_join, no-channel}
+use Rattle.sections.proofs.Tests.{and_left, section-is, not-3, early, in_order, no-mark, no_stop, no-method, no_call, no_join, no_channel}
 use Rattle.sections.proofs.Listed.{Leads}
 use Rattle.sections.proofs.Owners.{owners_told, strays-are}
 
@@ -42,8 +42,8 @@ pub record Ending (M : Model) (s : List ℕ) (o : ReadResult) (r : Reading) (fro
   pub counts : Counts state t
   pub others : (j : ℕ) → (j ≡ 5 → ⊥) → state.own j ≡ r.own j
   pub same : state.before ≡ r.before
-  pub no-condition : eqb state.opened.section 1 ≡ false
-  pub is-inside : ltb 0 state.opened.section ≡ inside
+  pub no_condition : eqb state.opened.section 1 ≡ false
+  pub is_inside : ltb 0 state.opened.section ≡ inside
   pub first : get_or (starts_of (state.own 5)) 0 (start_of state.opened at) ≡ from
 
 pub begin : {M : Model} {s : List ℕ} {o : ReadResult} {r : Reading} {from : ℕ} {t : Tally} → Told M s o 5 (Done from t) r → r.own 5 ≡ []
@@ -57,8 +57,8 @@ begin {r = r} {from} (b, counted) none =
       counts = counted;
       others = λ j ne. refl;
       same = refl;
-      no-condition = ap (λ (o : Opened). eqb o.section 1) b.closed;
-      is-inside = ap (λ (o : Opened). ltb 0 o.section) b.closed;
+      no_condition = ap (λ (o : Opened). eqb o.section 1) b.closed;
+      is_inside = ap (λ (o : Opened). ltb 0 o.section) b.closed;
       first =
           ap (λ (xs : List Counted). get_or (starts_of xs) 0 (start_of r.opened from)) none
           ∙ ap (λ (o : Opened). start_of o from) b.closed;
@@ -91,11 +91,11 @@ module _ {M : Model} {s : List ℕ} {o : ReadResult} {r : Reading} {from at : �
         here : section_of (byte_at s at) ≡ 5
         here = section-is w ∙ same
 
-        not-4 : is-4 M s at u ≡ false
-        not-4 = in_order w u (omega (arith, h.section, same)) (and_left (eqb u.opened.section 1) _ h.no-condition)
+        not-4 : is_4 M s at u ≡ false
+        not-4 = in_order w u (omega (arith, h.section, same)) (and_left (eqb u.opened.section 1) _ h.no_condition)
 
         -- not 5 and not 6
-        no-limit : (is-5 M s at u ≡ false) × (is-6 M s at u ≡ false)
+        no-limit : (is_5 M s at u ≡ false) × (is_6 M s at u ≡ false)
         no-limit = go (kind_of (byte_at s at)).role (suits (byte_at s at))
           where
             go : (y : Role) → Suits (section_of (byte_at s at)) y
@@ -110,10 +110,10 @@ module _ {M : Model} {s : List ℕ} {o : ReadResult} {r : Reading} {from at : �
 
         taken : refusal_of M s at u ≡ 0
         taken =
-            takes M s at u w.not-2 (not-3 w u) not-4 (no-mark w u (λ e. omega (arith, ap section_of e, same))) (no_stop w u (λ e. omega (arith, ap section_of e, same)))
+            takes M s at u w.not_2 (not-3 w u) not-4 (no-mark w u (λ e. omega (arith, ap section_of e, same))) (no_stop w u (λ e. omega (arith, ap section_of e, same)))
             no-limit.0 no-limit.1
             (names-nothing M.events (tally u) (byte_at s at) (λ low high. omega (arith, here)) (record_at s at).values) (no-method w u (λ e. omega (arith, same)))
-            (no_call w u (λ e. omega (arith, same))) (no_join w u (λ e. omega (arith, same)) (λ e. omega (arith, same))) (no-channel w u (λ e. omega (arith, same)))
+            (no_call w u (λ e. omega (arith, same))) (no_join w u (λ e. omega (arith, same)) (λ e. omega (arith, same))) (no_channel w u (λ e. omega (arith, same)))
 
         beyond : Comes M s o q (past_at s at u)
         beyond = taken-on h.comes before w taken
@@ -134,8 +134,8 @@ module _ {M : Model} {s : List ℕ} {o : ReadResult} {r : Reading} {from at : �
               counts = counts_same s at u goes_on h.counts;
               others = λ j ne. ap (λ (own : ℕ → List Counted). own j) same-own ∙ h.others j ne;
               same = h.same;
-              no-condition = ap (λ (o : Opened). eqb o.section 1) opened-is;
-              is-inside = ap (λ (o : Opened). ltb 0 o.section) opened-is;
+              no_condition = ap (λ (o : Opened). eqb o.section 1) opened-is;
+              is_inside = ap (λ (o : Opened). ltb 0 o.section) opened-is;
               first =
                   ap (λ (own : ℕ → List Counted). get_or (starts_of (own 5)) 0 (start_of (past_at s at u).opened q)) same-own
                   ∙ ap (λ (o : Opened). get_or (starts_of (u.own 5)) 0 (start_of o q)) opened-is
@@ -164,8 +164,8 @@ module _ {M : Model} {s : List ℕ} {o : ReadResult} {r : Reading} {from at : �
               counts = subst (Counts (past_at s at u)) (sym after) (counts-more s at u role 5 here (omega arith) (omega arith) h.counts);
               others = λ j ne. others s at u role 5 here j ne ∙ h.others j ne;
               same = h.same;
-              no-condition = ap (λ (o : Opened). eqb o.section 1) closed_is;
-              is-inside = ap (λ (o : Opened). ltb 0 o.section) closed_is;
+              no_condition = ap (λ (o : Opened). eqb o.section 1) closed_is;
+              is_inside = ap (λ (o : Opened). ltb 0 o.section) closed_is;
               first =
                   ap (λ (os : List ℕ). get_or os 0 (start_of (past_at s at u).opened q)) (starts s at u role 5 here)
                   ∙ first_of (starts_of (u.own 5)) (start_of u.opened at) (start_of (past_at s at u).opened q) ∙ h.first;
@@ -190,7 +190,7 @@ module _ {M : Model} {s : List ℕ} {o : ReadResult} {r : Reading} {from at : �
     owners-told : owners_from u (u.own 2) ≡ owners_told u (stray_in s t.methods (take t.points table))
     owners-told =
         let before = ap (λ (before : ℕ → List Counted). before 2 ++ r.own 2) sheet.none_before in
-        strays-are s u (u.own 2) table (subst (Leads s table) (before ∙ sym (h.others 2 (λ e. omega arith))) sheet.points-listed)
+        strays-are s u (u.own 2) table (subst (Leads s table) (before ∙ sym (h.others 2 (λ e. omega arith))) sheet.points_listed)
         ∙ ap₂ (λ (m n : ℕ). owners_told u (stray_in s m (take n table))) (h.counts 3) (sym (counted 2))
 
     abbrev c : Contents
@@ -226,5 +226,5 @@ module _ {M : Model} {s : List ℕ} {o : ReadResult} {r : Reading} {from at : �
       where
         answers : Answers s o (end_of s inside c table) u
         answers =
-            answered inside (eqb t.methods 0) (stray_in s t.methods (take t.points table)) h.is-inside (ap (λ (n : ℕ). eqb n 0) (sym (counted 3)))
+            answered inside (eqb t.methods 0) (stray_in s t.methods (take t.points table)) h.is_inside (ap (λ (n : ℕ). eqb n 0) (sym (counted 3)))
             owners-told

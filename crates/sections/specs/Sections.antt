@@ -110,12 +110,12 @@ pub record Concluded (s : List ℕ) (o : ReadResult) (r : Reading) (a : Read) : 
 -- what the end of a sheet asks: nothing was counted before the sheet, and the table leads to its points
 pub record FirstSheet (s points-table : List ℕ) (r : Reading) : Type 0 where
   pub none_before : r.before ≡ (λ k. [])
-  pub points-listed : Listed s points-table points r
+  pub points_listed : Listed s points-table points r
 
 -- what the records of section k name is listed: those of methods and steps name points, those of steps methods
 pub record NamedListed (s points-table methods-table : List ℕ) (k : ℕ) (r : Reading) : Type 0 where
-  pub points-listed : points < k → Listed s points-table points r
-  pub methods-listed : k ≡ steps → Listed s methods-table methods r
+  pub points_listed : points < k → Listed s points-table points r
+  pub methods_listed : k ≡ steps → Listed s methods-table methods r
 
 -- section k, of points, methods or steps: it has `limit` at most, and the table has room for them
 pub record Alone (l : Limits) (k limit : ℕ) (table : List ℕ) : Type 0 where

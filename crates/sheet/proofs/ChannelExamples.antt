@@ -10,7 +10,7 @@ use lib.ListN.{replicate}
 use Rattle.condition.specs.Condition.{leaf, join, either, star, any}
 use Rattle.condition.specs.Exchange.{exchange}
 use Rattle.sheet.specs.Model.{large, entry, four, with_kinds, set_events, NoMoreEvents, as_many, fewer, NoLarger}
-use Rattle.sheet.specs.Sheet.{point_from, event-step, call_from, channel_call_from, on_channel}
+use Rattle.sheet.specs.Sheet.{point_from, event_step, call_from, channel_call_from, on_channel}
 use Rattle.sheet.specs.Reading.{starting_from, read_from, read_sheet}
 use Rattle.sheet.specs.Decode.{sheet_of}
 use Rattle.sheet.proofs.Examples.{declared, one_outcome, body, starts, Row, number_and_place, after, times, leaf_of0, point0, method0, pass0, primitive0, naming, behind}
@@ -83,7 +83,7 @@ channel-sheet-is-so : sheet_of four channel_sheet
       conditions = join (leaf 0x0807060504030201) (leaf 1) ∷ any 64 ∷ any 32 ∷ star (either (leaf 1) (leaf 0x8000000000000000)) ∷ [];
       points = replicate 2 (point_from 0 0 0);
       methods = one_outcome 0 (declared 0 0) (body 0 0 none) ∷ one_outcome 0 (declared 0 0) none ∷ [];
-      steps = event-step 0 1 63 ∷ channel_call_from 0 1 1 3 ∷ channel_call_from 1 0 1 0 ∷ call_from 1 1 1 ∷ [];
+      steps = event_step 0 1 63 ∷ channel_call_from 0 1 1 3 ∷ channel_call_from 1 0 1 0 ∷ call_from 1 1 1 ∷ [];
       certificates = [];
       new = false;
     }

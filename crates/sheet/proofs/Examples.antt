@@ -11,7 +11,7 @@ use lib.ListN.{get_or, replicate, set, take}
 use Rattle.condition.specs.Condition.{leaf, empty, join, either, star}
 use Rattle.certificate.specs.Certificate.{pair}
 use Rattle.sheet.specs.Model.{Model, large, entry, with_kinds, as_many, NoLarger}
-use Rattle.sheet.specs.Sheet.{point_from, Declared, Body, Method, event-step, call_from, failing_call_from, channel_call_from, pass_step, stop_step}
+use Rattle.sheet.specs.Sheet.{point_from, Declared, Body, Method, event_step, call_from, failing_call_from, channel_call_from, pass_step, stop_step}
 use Rattle.sheet.specs.Kind.{kind_of, section_of, body_length}
 use Rattle.sheet.specs.Record.{Record, record_at}
 use Rattle.sheet.specs.Reading.{nothing, Counted, Reading, starting_from, starts_of, in_condition, ReadResult, whole, refusal, state_of, read_from, read_sheet}
@@ -98,7 +98,7 @@ abbrev pub two_outcomes : ℕ → Declared → Declared → Option Body → Meth
 two_outcomes pre normal failing body = record { pre = pre; normal = normal; failing = some failing; body = body }
 
 abbrev pub body : ℕ → ℕ → Option ℕ → Option Body
-body entry exit failed-exit = some (record { entry = entry; exit = exit; failed-exit = failed-exit })
+body entry exit failed_exit = some (record { entry = entry; exit = exit; failed_exit = failed_exit })
 
 methods-are-so : map (λ (s : List ℕ). method_of (record_at s 0)) (primitive_bytes ∷ method_bytes ∷ failing_primitive_bytes ∷ failing_method_bytes ∷ [])
     ≡ one_outcome 0x1101 (declared 0x1202 0x1303) none
@@ -110,7 +110,7 @@ unfolding record_at
 methods-are-so = refl
 
 steps-are-so : map (λ (s : List ℕ). step_of (record_at s 0)) step_bytes
-    ≡ event-step 0x1101 0x1202 0x03 ∷ call_from 0x1101 0x1202 0x1303 ∷ pass_step 0x1101 0x1202 ∷ failing_call_from 0x1101 0x1202 0x1303 0x1404 ∷ stop_step 0x1101
+    ≡ event_step 0x1101 0x1202 0x03 ∷ call_from 0x1101 0x1202 0x1303 ∷ pass_step 0x1101 0x1202 ∷ failing_call_from 0x1101 0x1202 0x1303 0x1404 ∷ stop_step 0x1101
     ∷ channel_call_from 0x1101 0x1202 0x1303 0x04 ∷ []
 unfolding record_at
 steps-are-so = refl
@@ -132,7 +132,7 @@ small-is-so : sheet_of large small
       conditions = join empty (leaf 1) ∷ star (either (leaf 2) empty) ∷ [];
       points = point_from 0 1 0 ∷ point_from 1 0 1 ∷ [];
       methods = one_outcome 1 (declared 0 1) (body 0 1 none) ∷ one_outcome 0 (declared 1 0) none ∷ [];
-      steps = event-step 0 1 31 ∷ call_from 1 0 1 ∷ pass_step 1 0 ∷ [];
+      steps = event_step 0 1 31 ∷ call_from 1 0 1 ∷ pass_step 1 0 ∷ [];
       certificates = (pair 0 1 ∷ pair 5 0x04030201 ∷ []) ∷ [] ∷ [];
       new = false;
     }

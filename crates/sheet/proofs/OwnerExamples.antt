@@ -8,7 +8,7 @@ use Prim.Native.Nat.{ℕ}
 use lib.ListN.{get_or, replicate}
 use Rattle.condition.specs.Condition.{empty}
 use Rattle.sheet.specs.Model.{large, entry, with_kinds}
-use Rattle.sheet.specs.Sheet.{point_from, owned_point_from, event-step, call_from, failing_call_from, pass_step, stop_step}
+use Rattle.sheet.specs.Sheet.{point_from, owned_point_from, event_step, call_from, failing_call_from, pass_step, stop_step}
 use Rattle.sheet.specs.Record.{record_at}
 use Rattle.sheet.specs.Reading.{nothing, Counted, starting_from, read_from, read_sheet}
 use Rattle.sheet.specs.Decode.{point_of, sheet_of}
@@ -30,7 +30,7 @@ abbrev method : ℕ → ℕ → List ℕ
 method entry exit = naming 0x09 (0 ∷ 0 ∷ 0 ∷ entry ∷ exit ∷ [])
 
 abbrev failing_method : ℕ → ℕ → ℕ → List ℕ
-failing_method entry exit failed-exit = naming 0x10 (0 ∷ 0 ∷ 0 ∷ entry ∷ exit ∷ 0 ∷ 0 ∷ failed-exit ∷ [])
+failing_method entry exit failed_exit = naming 0x10 (0 ∷ 0 ∷ 0 ∷ entry ∷ exit ∷ 0 ∷ 0 ∷ failed_exit ∷ [])
 
 abbrev event : ℕ → ℕ → List ℕ
 event from to = naming 0x0A (from ∷ to ∷ []) ++ (31 ∷ [])
@@ -42,7 +42,7 @@ abbrev pass : ℕ → ℕ → List ℕ
 pass from to = naming 0x0C (from ∷ to ∷ [])
 
 abbrev failing_call : ℕ → ℕ → ℕ → ℕ → List ℕ
-failing_call from to failed-to m = naming 0x11 (from ∷ to ∷ failed-to ∷ m ∷ [])
+failing_call from to failed_to m = naming 0x11 (from ∷ to ∷ failed_to ∷ m ∷ [])
 
 abbrev stop : ℕ → List ℕ
 stop from = naming 0x13 (from ∷ [])
@@ -76,7 +76,7 @@ owned-sheet-is-so : sheet_of large owned_sheet
           ∷ one_outcome 0 (declared 0 0) none
           ∷ two_outcomes 0 (declared 0 0) (declared 0 0) (body 1 3 (some 1))
           ∷ [];
-      steps = event-step 0 3 31 ∷ call_from 2 2 0 ∷ pass_step 3 1 ∷ failing_call_from 0 3 0 2 ∷ stop_step 1 ∷ [];
+      steps = event_step 0 3 31 ∷ call_from 2 2 0 ∷ pass_step 3 1 ∷ failing_call_from 0 3 0 2 ∷ stop_step 1 ∷ [];
       certificates = [];
       new = true;
     }

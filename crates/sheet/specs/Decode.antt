@@ -2,7 +2,7 @@
 use Rattle.std.specs.Prelude.{ℕ, ◌+◌, Bool, false, List, [], map, eqb}
 use Rattle.std.proofs.Math.Option.{none, some}
 use Rattle.sheet.specs.Model.{Model}
-use Rattle.sheet.specs.Sheet.{Declared, Point, Method, Step, event-step, call_from, failing_call_from, channel_call_from, pass_step, stop_step, Sheet}
+use Rattle.sheet.specs.Sheet.{Declared, Point, Method, Step, event_step, call_from, failing_call_from, channel_call_from, pass_step, stop_step, Sheet}
 use Rattle.sheet.specs.Kind.{conditions, points, methods, steps, certificates}
 use Rattle.sheet.specs.Record.{Record, value}
 use Rattle.sheet.specs.Reading.{Counted, ◌when◌else◌, is_primitive, has_two_outcomes, owner_of, is_new, item, ReadResult, whole, refusal, read_sheet}
@@ -25,14 +25,14 @@ method_of x =
       failing = some (declared_from x (3 when is_primitive x else 5)) when has_two_outcomes x else none;
       body =
           none when is_primitive x
-          else some (record { entry = value x 3; exit = value x 4; failed-exit = some (value x 7) when has_two_outcomes x else none });
+          else some (record { entry = value x 3; exit = value x 4; failed_exit = some (value x 7) when has_two_outcomes x else none });
     }
 
 -- kind 10: "from, to (2 each), event (1)"; kind 11: "from, to, method"; kind 17: "from, to, failed target, method"; kind 22: "from, to, method ..,
 -- channel"; kind 19: "from"; kind 12: "from, to"
 abbrev pub step_of : Record → Step
 step_of x =
-    event-step (value x 0) (value x 1) (value x 2) when eqb x.kind 10
+    event_step (value x 0) (value x 1) (value x 2) when eqb x.kind 10
     else call_from (value x 0) (value x 1) (value x 2) when eqb x.kind 11
     else failing_call_from (value x 0) (value x 1) (value x 2) (value x 3) when eqb x.kind 17
     else channel_call_from (value x 0) (value x 1) (value x 2) (value x 3) when eqb x.kind 22

@@ -6,7 +6,7 @@ use Rattle.std.proofs.Math.ListN.{get_elem?}
 use Rattle.condition.specs.Condition.{Condition, no_word}
 use Rattle.certificate.specs.Certificate.{Certificate, pair}
 use Rattle.sheet.specs.Model.{Model, condition_limit, symbol_limit, leaf_limit, method_limit, step_limit}
-use Rattle.sheet.specs.Kind.{conditions, points, methods, Field, a-set, a-long-set, an-event, a-place, an-owner, a-channel, a-name, Role, symbol, a_pair, counts, edition, Kind, kind_of}
+use Rattle.sheet.specs.Kind.{conditions, points, methods, Field, a-set, a-long-set, an-event, a-place, an-owner, a-channel, a_name, Role, symbol, a_pair, counts, edition, Kind, kind_of}
 use Rattle.sheet.specs.Record.{Record, byte_at, record_at, next_at, value}
 
 -- The state between two records ---------------------------------------------------------------------------------------
@@ -113,7 +113,7 @@ exists events counted an-event v = ltb v events
 exists events counted a-place v = true
 exists events counted an-owner v = true
 exists events counted a-channel v = true
-exists events counted (a-name of) v = ltb v (counted of)
+exists events counted (a_name of) v = ltb v (counted of)
 
 -- of all fields of a record, in order
 abbrev pub all_exist : ℕ → (ℕ → ℕ) → List Field → List ℕ → Bool
@@ -167,7 +167,7 @@ names_point an-event = false
 names_point a-place = false
 names_point an-owner = false
 names_point a-channel = false
-names_point (a-name of) = eqb of points
+names_point (a_name of) = eqb of points
 
 abbrev pub points_named : List Field → List ℕ → List ℕ
 points_named [] vs = []

@@ -33,7 +33,7 @@ pub record Declared : Type 0 where
 pub record Body : Type 0 where
   pub entry : ℕ
   pub exit : ℕ
-  pub failed-exit : Option ℕ
+  pub failed_exit : Option ℕ
 
 -- a primitive: "conditions pre, trace, future"; a method with body: "pre, trace, future, entry point, exit point"; those of kinds 15 and 16 have two
 -- outcomes
@@ -47,26 +47,26 @@ pub record Method : Type 0 where
 pub record CallStep : Type 0 where
   pub from : ℕ
   pub to : ℕ
-  pub failed-to : Option ℕ
+  pub failed_to : Option ℕ
   pub method : ℕ
   pub channel : Option ℕ
 
 -- an event step: "from, to (2 each), event (1)"; a pass step: "from, to"; a stop step, kind 19: "from"
 pub data Step : Type 0 where
-  event-step : (from to event : ℕ) → Step
+  event_step : (from to event : ℕ) → Step
   call_step : CallStep → Step
   pass_step : (from to : ℕ) → Step
   stop_step : (from : ℕ) → Step
 
 -- the steps of kinds 11, 17 and 22
 abbrev pub call_from : (from to method : ℕ) → Step
-call_from p q m = call_step (record { from = p; to = q; failed-to = none; method = m; channel = none })
+call_from p q m = call_step (record { from = p; to = q; failed_to = none; method = m; channel = none })
 
-abbrev pub failing_call_from : (from to failed-to method : ℕ) → Step
-failing_call_from p q f m = call_step (record { from = p; to = q; failed-to = some f; method = m; channel = none })
+abbrev pub failing_call_from : (from to failed_to method : ℕ) → Step
+failing_call_from p q f m = call_step (record { from = p; to = q; failed_to = some f; method = m; channel = none })
 
 abbrev pub channel_call_from : (from to method channel : ℕ) → Step
-channel_call_from p q m c = call_step (record { from = p; to = q; failed-to = none; method = m; channel = some c })
+channel_call_from p q m c = call_step (record { from = p; to = q; failed_to = none; method = m; channel = some c })
 
 -- a sheet: what its records stand for, by section, and whether it is "a sheet of the new edition" (document 02, Ask 4)
 pub record Sheet : Type 0 where
@@ -150,7 +150,7 @@ entry_in (some b) = some b.entry
 -- the exit point of a method for an outcome, and the target of a call step for one, if they have one
 abbrev pub exit_for : Outcome → Body → Option ℕ
 exit_for normal b = some b.exit
-exit_for failed b = b.failed-exit
+exit_for failed b = b.failed_exit
 
 abbrev pub exit_in : Outcome → Option Body → Option ℕ
 exit_in o none = none
@@ -158,4 +158,4 @@ exit_in o (some b) = exit_for o b
 
 abbrev pub target_for : Outcome → CallStep → Option ℕ
 target_for normal t = some t.to
-target_for failed t = t.failed-to
+target_for failed t = t.failed_to

@@ -12,7 +12,7 @@ use Rattle.sheet.specs.Record.{byte_at, next_at}
 use Rattle.sheet.specs.Reading.{Reading, fresh, refusal_of, past_at, ReadResult, refusal, at_end, read_on, read_sheet}
 use Rattle.sheet_laws.proofs.Take.{took}
 use Rattle.sheet_laws.proofs.ReadOn.{after_record}
-use Rattle.sheet_laws.proofs.States.{Reached, at-start, past}
+use Rattle.sheet_laws.proofs.States.{Reached, at_start, past}
 use Rattle.sheet_laws.proofs.Models.{Beside, two, six, seven, same, numbers}
 
 -- no record that reading comes to is of a kind above k that the instrument M takes
@@ -54,4 +54,4 @@ module _ (k : ℕ) (M : Model) (l : k ≤ M.kinds) (s : List ℕ) (without : Wit
   -- read as before
   pub reads-as-before : read_sheet N s ≡ read_sheet M s
   unfolding read_sheet
-  reads-as-before = ap (λ (x : ReadResult). cond (ltb M.bytes (length s)) (refusal 1 M.bytes fresh) x) (on (length s) 0 fresh at-start)
+  reads-as-before = ap (λ (x : ReadResult). cond (ltb M.bytes (length s)) (refusal 1 M.bytes fresh) x) (on (length s) 0 fresh at_start)

@@ -21,13 +21,13 @@ use Rattle.sheet_laws.proofs.Standing.{closed, pairs-now, OpenIn, still_open}
 -- certificates start at these offsets, the first at the offset `at`, each of the others behind the one before, and the last ends at `end`; a pair
 -- is six bytes, the end of a certificate one
 pub data Chain (s : List ℕ) (end : ℕ) : ℕ → List ℕ → Type 0 where
-  no-certificate : Chain s end end []
-  a-certificate-more : {at : ℕ} {os : List ℕ} → Chain s end (suc (at + 6 * length (certificate_at s at))) os → Chain s end at (at ∷ os)
+  no_certificate : Chain s end end []
+  a_certificate_more : {at : ℕ} {os : List ℕ} → Chain s end (suc (at + 6 * length (certificate_at s at))) os → Chain s end at (at ∷ os)
 
 -- one more behind the last
 chain-longer : {s : List ℕ} {end at : ℕ} {os : List ℕ} → Chain s end at os → Chain s (suc (end + 6 * length (certificate_at s end))) at (os ++ (end ∷ []))
-chain-longer no-certificate = a-certificate-more no-certificate
-chain-longer (a-certificate-more t) = a-certificate-more (chain-longer t)
+chain-longer no_certificate = a_certificate_more no_certificate
+chain-longer (a_certificate_more t) = a_certificate_more (chain-longer t)
 
 -- where what was counted starts, with one more
 pub starts_more : (xs : List Counted) (x : Counted) → starts_of (xs ++ (x ∷ [])) ≡ starts_of xs ++ (start_of x.opened x.last.at ∷ [])
@@ -48,7 +48,7 @@ record Good (s : List ℕ) (end section : ℕ) (cs : List Counted) : Type 0 wher
 
 none_yet : (s : List ℕ) (end section : ℕ) {cs : List Counted} → cs ≡ [] → Good s end section cs
 none_yet s end section {cs} e =
-    record { up_to = subst (λ (cs : List Counted). UpTo s end (starts_of cs)) (sym e) (record { from = end; chain = no-certificate }); none_before = λ l. e }
+    record { up_to = subst (λ (cs : List Counted). UpTo s end (starts_of cs)) (sym e) (record { from = end; chain = no_certificate }); none_before = λ l. e }
 
 module _ (s : List ℕ) (at kind : ℕ) (values : List ℕ) (r : Reading) (now-open : OpenIn s at r) where
   abbrev x : Record

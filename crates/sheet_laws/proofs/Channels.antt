@@ -20,7 +20,7 @@ use Rattle.sheet_laws.specs.Names.{ChannelFits, StepOnChannel, ChannelsFit, NoCh
 use Rattle.sheet.proofs.Each.{each-mapped}
 use Rattle.sheet_laws.proofs.Take.{or-false, and-false, Took}
 use Rattle.sheet_laws.proofs.Order.{two, test-holds}
-use Rattle.sheet_laws.proofs.ReadOn.{Ends, too_long, at-record, at-the-end, read-ends, number_of, end-number, owners-number}
+use Rattle.sheet_laws.proofs.ReadOn.{Ends, too_long, at_record, at_the_end, read-ends, number_of, end-number, owners-number}
 use Rattle.sheet_laws.proofs.Own.{each-own}
 use Rattle.sheet_laws.proofs.States.{Later, each-later, named-then}
 use Rattle.sheet_laws.proofs.Kind.{step-cases}
@@ -45,8 +45,8 @@ and-true false b e = absurd (subst T (sym e) tt)
 has-neither : (o : Option Method) → plain_in o ≡ true → (body_in o ≡ none) × (declared_in failed o ≡ none)
 has-neither none e = (refl, refl)
 has-neither (some x) e =
-    let (no_body, one-outcome) = and-true (not (is_some x.body)) (not (is_some x.failing)) e in
-    (none_of x.body no_body, none_of x.failing one-outcome)
+    let (no_body, one_outcome) = and-true (not (is_some x.body)) (not (is_some x.failing)) e in
+    (none_of x.body no_body, none_of x.failing one_outcome)
 
 -- a record of a method as what it stands for
 plain-as : (x : Record) → plain_primitive_in (some x) ≡ plain_in (some (method_of x))
@@ -73,15 +73,15 @@ module _ (M : Model) (s : List ℕ) (r : Reading) (h : read_sheet M s ≡ whole 
       (and-false (eqb (byte_at s at) 22) _ w.channels e) in
       let is = named-then M s r h plain_primitive_in plain_in method_of refl plain-as later methods m
       (ltb→lt _ _ (taken-exists M s at u w 22 e 2 (omega arith))) in
-      let (no_body, one-outcome) = has-neither (get_elem? S.methods m) (sym is ∙ not-false _ plain) in
-      (no_body, one-outcome, ltb-false last_channel c within)
+      let (no_body, one_outcome) = has-neither (get_elem? S.methods m) (sym is ∙ not-false _ plain) in
+      (no_body, one_outcome, ltb-false last_channel c within)
 
   fits-channel : (at : ℕ) (u : Reading) → Took M s at u → Later u r → StepOnChannel S (step_of (record_at s at))
   unfolding record_at
   fits-channel at u w later = step-cases (StepOnChannel S) (record_at s at) tt (λ e. tt) (λ e. tt) (named-plain at u w later) (λ e. tt) tt
 
-  pub channels-fit : ChannelsFit (sheet_of M s)
-  channels-fit =
+  pub channels_fit : ChannelsFit (sheet_of M s)
+  channels_fit =
       subst ChannelsFit (sym (sheet-is M s r h))
       (each-mapped (StepOnChannel S) (λ (c : Counted). step_of c.last) (each-later M s r h (λ x. StepOnChannel S (step_of x)) fits-channel steps))
 
@@ -97,8 +97,8 @@ module _ (M : Model) (s : List ℕ) (before-22 : M.kinds < 22) where
       (λ e. absurd (omega (arith, before-22, ltb-false M.kinds (byte_at s at) within, eqb-true (byte_at s at) 22 e))) (λ e. tt) tt
 
   -- no call of a sheet that is read whole is on a channel
-  pub no-channels : (r : Reading) → read_sheet M s ≡ whole r → Each NoChannel (sheet_of M s).steps
-  no-channels r h =
+  pub no_channels : (r : Reading) → read_sheet M s ≡ whole r → Each NoChannel (sheet_of M s).steps
+  no_channels r h =
       subst (λ (S : Sheet). Each NoChannel S.steps) (sym (sheet-is M s r h))
       (each-mapped NoChannel (λ (c : Counted). step_of c.last)
       (each-own M s (λ at r. Unit {0}) (λ k (c : Counted). NoChannel (step_of c.last)) (λ at r w q. tt) (λ at r w q e. none_here at r w) r h tt steps))
@@ -112,14 +112,14 @@ module _ (M : Model) (s : List ℕ) (before-22 : M.kinds < 22) where
       omega (arith, e, two M s at r (rw (is-22, lt-ltb M.kinds 22 before-22)))
 
   -- no sheet is refused for a channel
-  pub no-channel-refused : (n at : ℕ) (r : Reading) → read_sheet M s ≡ refusal n at r → n ≡ 26 → ⊥
-  no-channel-refused n at r h e = go (read-ends M s (λ at r. Unit {0}) (λ at r w q. tt) tt) (ap number_of h ∙ e)
+  pub no_channel_refused : (n at : ℕ) (r : Reading) → read_sheet M s ≡ refusal n at r → n ≡ 26 → ⊥
+  no_channel_refused n at r h e = go (read-ends M s (λ at r. Unit {0}) (λ at r w q. tt) tt) (ap number_of h ∙ e)
     where
       Other : ℕ → Type 0
       Other n = n ≡ 26 → ⊥
 
       go : {o : ReadResult} → Ends M s (λ at r. Unit {0}) o → Other (number_of o)
       go too_long = λ e. omega (arith, e)
-      go (at-record {at} {r} q) = not-26 at r
-      go (at-the-end {at} {r} q) =
+      go (at_record {at} {r} q) = not-26 at r
+      go (at_the_end {at} {r} q) =
           end-number s r Other (λ e. omega (arith, e)) (λ e. omega (arith, e)) (owners-number r Other (λ e. omega (arith, e)) (λ e. omega (arith, e)) (r.own points))

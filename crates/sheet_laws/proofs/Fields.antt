@@ -4,7 +4,7 @@ use mathlib.Core.List.{List, [], ◌∷◌}
 use Prim.Native.Nat.{ℕ, ◌+◌, ◌*◌, ◌^◌, ◌<◌}
 use native.Mathlib.Omega.{arith}
 use lib.ListN.{get_or}
-use Rattle.sheet.specs.Kind.{Field, a-set, a-long-set, an-event, a-place, an-owner, a-channel, a-name, width}
+use Rattle.sheet.specs.Kind.{Field, a-set, a-long-set, an-event, a-place, an-owner, a-channel, a_name, width}
 use Rattle.sheet.specs.Record.{Bytes, byte_at, number_at, values_at}
 use Rattle.sheet_laws.specs.AtOffset.{short_at, set_at, long_set_at}
 
@@ -74,8 +74,8 @@ module _ (s : List ℕ) where
   field-first f fs at to v e is h = value-is f fs at to e ∙ ap (λ (v : ℕ). v ∷ values_at s to fs) is ∙ ap (λ (vs : List ℕ). v ∷ vs) h
 
   pub name-first : (k : ℕ) (fs : List Field) (at to : ℕ) {vs : List ℕ} → at + 2 ≡ to → values_at s to fs ≡ vs
-      → values_at s at (a-name k ∷ fs) ≡ short_at s at ∷ vs
-  name-first k fs at to e h = field-first (a-name k) fs at to (short_at s at) e (short-value at) h
+      → values_at s at (a_name k ∷ fs) ≡ short_at s at ∷ vs
+  name-first k fs at to e h = field-first (a_name k) fs at to (short_at s at) e (short-value at) h
 
   pub event-value : (at : ℕ) → values_at s at (an-event ∷ []) ≡ byte_at s at ∷ []
   event-value at = field-first an-event [] at (at + 1) (byte_at s at) refl (byte-value at) (no_value (at + 1))
@@ -96,7 +96,7 @@ module _ (s : List ℕ) where
     -- names in a row, the first at the offset at + j: the fields, where those behind them start, and the values
     abbrev pub names_then : List ℕ → List Field → List Field
     names_then [] fs = fs
-    names_then (k ∷ ks) fs = a-name k ∷ names_then ks fs
+    names_then (k ∷ ks) fs = a_name k ∷ names_then ks fs
 
     abbrev pub past_names : ℕ → List ℕ → ℕ
     past_names j [] = j
@@ -141,7 +141,7 @@ module _ (s : List ℕ) where
     number_lt a-place at = omega (arith, byte-value at, byte-lt at)
     number_lt an-owner at = omega (arith, short-value at, short-lt at)
     number_lt a-channel at = omega (arith, byte-value at, byte-lt at)
-    number_lt (a-name k) at = omega (arith, short-value at, short-lt at)
+    number_lt (a_name k) at = omega (arith, short-value at, short-lt at)
 
     pub first-lt : (fs : List Field) (at : ℕ) → get_or (values_at s at fs) 0 0 < 2 ^ first_bits fs
     unfolding values_at

@@ -34,10 +34,10 @@ module _ (M : Model) (s : List ℕ) where
   kept at r w h =
       own-cases FirstHasBody s at r 3 h (λ e same. one_more (counted s at r) (r.own 3) w.first h)
 
-  pub first-has-body : (r : Reading) → read_sheet M s ≡ whole r → HasBody (body (sheet_of M s) 0)
-  first-has-body r h =
+  pub first_has_body : (r : Reading) → read_sheet M s ≡ whole r → HasBody (body (sheet_of M s) 0)
+  first_has_body r h =
       let end = read_keeps M s (λ at (r : Reading). FirstHasBody (r.own 3)) kept r h tt in
-      subst (λ (S : Sheet). HasBody (body S 0)) (sym (sheet-is M s r h)) (go (r.own 3) end.holds end.some-method)
+      subst (λ (S : Sheet). HasBody (body S 0)) (sym (sheet-is M s r h)) (go (r.own 3) end.holds end.some_method)
     where
       has_body : (b : Bool) (m : Body) → b ≡ false → HasBody (cond b none (some m))
       has_body true m e = absurd (subst T e tt)

@@ -9,13 +9,13 @@ use lib.ListN.{length, get_or, drop}
 use lib.Dec.{eqb}
 use Rattle.condition.specs.Condition.{Condition, join, either, star, no_word}
 use Rattle.certificate.specs.Certificate.{pair}
-use Rattle.sheet.specs.Kind.{a-set, a-long-set, Role, symbol, a_pair, counts, edition, Kind, a-kind, kinds, kind_of, section_of}
+use Rattle.sheet.specs.Kind.{a-set, a-long-set, Role, symbol, a_pair, counts, edition, Kind, a_kind, kinds, kind_of, section_of}
 use Rattle.sheet.specs.Record.{Record, byte_at, values_at, record_at, value}
-use Rattle.sheet.specs.Sheet.{Declared, Method, Step, event-step, call_from, failing_call_from, channel_call_from, pass_step, stop_step}
+use Rattle.sheet.specs.Sheet.{Declared, Method, Step, event_step, call_from, failing_call_from, channel_call_from, pass_step, stop_step}
 use Rattle.sheet.specs.Reading.{is_leaf, is_primitive, has_two_outcomes}
 use Rattle.sheet.specs.Decode.{point_of, declared_from, method_of, step_of}
 use Rattle.sheet.proofs.Kind.{◌and◌, numbered}
-use Rattle.sheet_laws.specs.AtOffset.{point_as, point_at, declared_at, method_as, method_at, step_as, step_at, pair_at, Symbol, leaf-symbol, empty-symbol, join-symbol, either-symbol, star-symbol, short_at, set_at, long_set_at, symbols_by_kind, symbol_at, postfix}
+use Rattle.sheet_laws.specs.AtOffset.{point_as, point_at, declared_at, method_as, method_at, step_as, step_at, pair_at, Symbol, leaf_symbol, empty-symbol, join-symbol, either-symbol, star-symbol, short_at, set_at, long_set_at, symbols_by_kind, symbol_at, postfix}
 use Rattle.sheet_laws.proofs.Fields.{event-value, owner-value, channel-value, set-value-alone, long-set-value-alone, shorts_then, names-then, names-alone, pair_values}
 use Rattle.sheet_laws.proofs.Symbols.{symbols_in, leaf_count}
 
@@ -47,7 +47,7 @@ Fits s at x section counts = Counts s at x section
 Fits s at x section edition = section ≡ 1
 
 -- the step of a record, by its kind
-pub step-cases : (P : Step → Type 0) (x : Record) → P (event-step (value x 0) (value x 1) (value x 2))
+pub step-cases : (P : Step → Type 0) (x : Record) → P (event_step (value x 0) (value x 1) (value x 2))
     → (eqb x.kind 11 ≡ true → P (call_from (value x 0) (value x 1) (value x 2)))
     → (eqb x.kind 17 ≡ true → P (failing_call_from (value x 0) (value x 1) (value x 2) (value x 3)))
     → (eqb x.kind 22 ≡ true → P (channel_call_from (value x 0) (value x 1) (value x 2) (value x 3)))
@@ -59,7 +59,7 @@ step-cases P x event = go (eqb x.kind 10) (eqb x.kind 11) (eqb x.kind 17) (eqb x
         → (b22 ≡ true → P (channel_call_from (value x 0) (value x 1) (value x 2) (value x 3))) → (b19 ≡ true → P (stop_step (value x 0)))
         → P (pass_step (value x 0) (value x 1))
         → P
-        (cond b10 (event-step (value x 0) (value x 1) (value x 2))
+        (cond b10 (event_step (value x 0) (value x 1) (value x 2))
         (cond b11 (call_from (value x 0) (value x 1) (value x 2))
         (cond b17 (failing_call_from (value x 0) (value x 1) (value x 2) (value x 3))
         (cond b22 (channel_call_from (value x 0) (value x 1) (value x 2) (value x 3))
@@ -99,13 +99,13 @@ module _ (s : List ℕ) (at : ℕ) where
 
   -- a symbol by its kind, and a long leaf
   abbrev symbol_as : ℕ → Option Symbol
-  symbol_as k = cond (eqb k 21) (some (leaf-symbol (long_set_at s (at + 1)))) (get_or (symbols_by_kind s at) k none)
+  symbol_as k = cond (eqb k 21) (some (leaf_symbol (long_set_at s (at + 1)))) (get_or (symbols_by_kind s at) k none)
 
-  pub symbol-is : (k : ℕ) → eqb k 21 ≡ false → byte_at s at ≡ k → symbol_at s at ≡ get_or (symbols_by_kind s at) k none
+  pub symbol_is : (k : ℕ) → eqb k 21 ≡ false → byte_at s at ≡ k → symbol_at s at ≡ get_or (symbols_by_kind s at) k none
   unfolding symbol_at
-  symbol-is k n e = ap symbol_as e ∙ rw n
+  symbol_is k n e = ap symbol_as e ∙ rw n
 
-  pub long-leaf-is : byte_at s at ≡ 21 → symbol_at s at ≡ some (leaf-symbol (long_set_at s (at + 1)))
+  pub long-leaf-is : byte_at s at ≡ 21 → symbol_at s at ≡ some (leaf_symbol (long_set_at s (at + 1)))
   unfolding symbol_at
   long-leaf-is e = ap symbol_as e
 
@@ -113,28 +113,28 @@ module _ (s : List ℕ) (at : ℕ) where
   abbrev shorts : List ℕ
   shorts = shorts_then s at 1 (1 ∷ 1 ∷ 1 ∷ 1 ∷ 1 ∷ 1 ∷ 1 ∷ 1 ∷ []) []
 
-  point-is : (k : ℕ) → byte_at s at ≡ k → point_at s at ≡ point_of (with k shorts)
+  point_is : (k : ℕ) → byte_at s at ≡ k → point_at s at ≡ point_of (with k shorts)
   unfolding point_at
-  point-is k e = ap (λ (k : ℕ). point_as k s at) e
+  point_is k e = ap (λ (k : ℕ). point_as k s at) e
 
   abbrev declared : ℕ → ℕ → Declared
   declared trace future = record { trace = trace; future = future }
 
-  declared-is : (i to : ℕ) → i + 2 ≡ to → declared_at s i ≡ declared (short_at s i) (short_at s to)
+  declared_is : (i to : ℕ) → i + 2 ≡ to → declared_at s i ≡ declared (short_at s i) (short_at s to)
   unfolding declared_at
-  declared-is i to e = ap (λ (to : ℕ). declared (short_at s i) (short_at s to)) e
+  declared_is i to e = ap (λ (to : ℕ). declared (short_at s i) (short_at s to)) e
 
-  failing-is : (primitive two : Bool)
+  failing_is : (primitive two : Bool)
       → cond two (some (declared_at s (cond primitive (at + 7) (at + 11)))) none ≡ cond two (some (declared_from (with 0 shorts) (cond primitive 3 5))) none
-  failing-is primitive false = refl
-  failing-is true true = ap (λ (d : Declared). some d) (declared-is (at + 7) (at + 9) (omega arith))
-  failing-is false true = ap (λ (d : Declared). some d) (declared-is (at + 11) (at + 13) (omega arith))
+  failing_is primitive false = refl
+  failing_is true true = ap (λ (d : Declared). some d) (declared_is (at + 7) (at + 9) (omega arith))
+  failing_is false true = ap (λ (d : Declared). some d) (declared_is (at + 11) (at + 13) (omega arith))
 
   method-is : (k : ℕ) → byte_at s at ≡ k → method_at s at ≡ method_of (with k shorts)
   unfolding method_at
   method-is k e =
       ap (λ (k : ℕ). method_as k s at) e
-      ∙ ap₂ declares (declared-is (at + 3) (at + 5) (omega arith)) (failing-is (is_primitive (with k shorts)) (has_two_outcomes (with k shorts)))
+      ∙ ap₂ declares (declared_is (at + 3) (at + 5) (omega arith)) (failing_is (is_primitive (with k shorts)) (has_two_outcomes (with k shorts)))
     where
       declares : Declared → Option Declared → Method
       declares normal failing = record { pre = short_at s (at + 1); normal = normal; failing = failing; body = (method_of (with k shorts)).body }
@@ -164,8 +164,8 @@ module _ (s : List ℕ) (at : ℕ) where
   leaf-row e = (
     refl,
     record {
-      y = leaf-symbol (get_or (values_at s (at + 1) (a-set ∷ [])) 0 0);
-      is = symbol-is 1 refl e ∙ ap (λ (vs : List ℕ). some (leaf-symbol (get_or vs 0 0))) (sym (set-value-alone s (at + 1)));
+      y = leaf_symbol (get_or (values_at s (at + 1) (a-set ∷ [])) 0 0);
+      is = symbol_is 1 refl e ∙ ap (λ (vs : List ℕ). some (leaf_symbol (get_or vs 0 0))) (sym (set-value-alone s (at + 1)));
       made = λ items h. refl;
       leaf = refl;
     },
@@ -176,8 +176,8 @@ module _ (s : List ℕ) (at : ℕ) where
   long-leaf-row e = (
     refl,
     record {
-      y = leaf-symbol (get_or (values_at s (at + 1) (a-long-set ∷ [])) 0 0);
-      is = long-leaf-is e ∙ ap (λ (vs : List ℕ). some (leaf-symbol (get_or vs 0 0))) (sym (long-set-value-alone s (at + 1)));
+      y = leaf_symbol (get_or (values_at s (at + 1) (a-long-set ∷ [])) 0 0);
+      is = long-leaf-is e ∙ ap (λ (vs : List ℕ). some (leaf_symbol (get_or vs 0 0))) (sym (long-set-value-alone s (at + 1)));
       made = λ items h. refl;
       leaf = refl;
     },
@@ -185,19 +185,19 @@ module _ (s : List ℕ) (at : ℕ) where
 
   empty-row : Row 2 (kind_of 2)
   unfolding symbols_in postfix
-  empty-row e = (refl, record { y = empty-symbol; is = symbol-is 2 refl e; made = λ items h. refl; leaf = refl })
+  empty-row e = (refl, record { y = empty-symbol; is = symbol_is 2 refl e; made = λ items h. refl; leaf = refl })
 
   fits-row : (k : ℕ) → Row k (kind_of k)
   fits-row =
-      numbered Row kinds (a-kind 0 counts [])
+      numbered Row kinds (a_kind 0 counts [])
       ((λ e. tt)
       and leaf-row
       and empty-row
-      and (λ e. (refl, record { y = join-symbol; is = symbol-is 3 refl e; made = join-made; leaf = refl }))
-      and (λ e. (refl, record { y = either-symbol; is = symbol-is 4 refl e; made = either-made; leaf = refl }))
-      and (λ e. (refl, record { y = star-symbol; is = symbol-is 5 refl e; made = star-made; leaf = refl }))
-      and symbol-is 6 refl
-      and (λ e. point-is 7 e ∙ ap (λ (vs : List ℕ). point_of (with 7 vs)) (sym (names-alone s at (1 ∷ 1 ∷ 1 ∷ []))))
+      and (λ e. (refl, record { y = join-symbol; is = symbol_is 3 refl e; made = join-made; leaf = refl }))
+      and (λ e. (refl, record { y = either-symbol; is = symbol_is 4 refl e; made = either-made; leaf = refl }))
+      and (λ e. (refl, record { y = star-symbol; is = symbol_is 5 refl e; made = star-made; leaf = refl }))
+      and symbol_is 6 refl
+      and (λ e. point_is 7 e ∙ ap (λ (vs : List ℕ). point_of (with 7 vs)) (sym (names-alone s at (1 ∷ 1 ∷ 1 ∷ []))))
       and (λ e. method-is 8 e ∙ ap (λ (vs : List ℕ). method_of (with 8 vs)) (sym (names-alone s at (1 ∷ 1 ∷ 1 ∷ []))))
       and (λ e. method-is 9 e ∙ ap (λ (vs : List ℕ). method_of (with 9 vs)) (sym (names-alone s at (1 ∷ 1 ∷ 1 ∷ 2 ∷ 2 ∷ []))))
       and (λ e. event-is e ∙ ap (λ (vs : List ℕ). step_of (with 10 vs)) (sym (names-then s at 1 (2 ∷ 2 ∷ []) _ (event-value s (at + 5)))))
@@ -210,7 +210,7 @@ module _ (s : List ℕ) (at : ℕ) where
       and (λ e. step_is 17 refl refl e ∙ ap (λ (vs : List ℕ). step_of (with 17 vs)) (sym (names-alone s at (2 ∷ 2 ∷ 2 ∷ 3 ∷ []))))
       and (λ e. refl)
       and (λ e. step_is 19 refl refl e ∙ ap (λ (vs : List ℕ). step_of (with 19 vs)) (sym (names-alone s at (2 ∷ []))))
-      and (λ e. point-is 20 e ∙ ap (λ (vs : List ℕ). point_of (with 20 vs)) (sym (names-then s at 1 (1 ∷ 1 ∷ 1 ∷ []) _ (owner-value s (at + 7)))))
+      and (λ e. point_is 20 e ∙ ap (λ (vs : List ℕ). point_of (with 20 vs)) (sym (names-then s at 1 (1 ∷ 1 ∷ 1 ∷ []) _ (owner-value s (at + 7)))))
       and long-leaf-row
       and (λ e. channel-call-is e ∙ ap (λ (vs : List ℕ). step_of (with 22 vs)) (sym (names-then s at 1 (2 ∷ 2 ∷ 3 ∷ []) _ (channel-value s (at + 7)))))
       and (λ i e. tt))

@@ -12,7 +12,7 @@ use borrow.Author.Tests.{leb-false, lt-ltb}
 use Rattle.bits.proofs.Tests.{and-out}
 use Rattle.sheet.specs.Model.{Model, condition_limit, method_limit, step_limit}
 use Rattle.sheet.specs.Each.{Each, nil, cons}
-use Rattle.sheet.specs.Kind.{Field, a-set, a-long-set, an-event, a-place, an-owner, a-channel, a-name, Role, counts, kind_of, section_of}
+use Rattle.sheet.specs.Kind.{Field, a-set, a-long-set, an-event, a-place, an-owner, a-channel, a_name, Role, counts, kind_of, section_of}
 use Rattle.sheet.specs.Record.{byte_at, record_at, next_at}
 use Rattle.sheet.specs.Reading.{Counted, Reading, fresh, tally, full, over_limit, exists, all_exist, past_at, whole, read_sheet}
 use Rattle.sheet.proofs.Each.{each_map, each_append}
@@ -59,7 +59,7 @@ module _ (M : Model) (r t : Reading) (more : (k : ℕ) → tally r k ≤ tally t
   exists-still : (f : Field) (v : ℕ) → T (exists M.events (tally r) f v) → T (exists M.events (tally t) f v)
   exists-still a-set v e = e
   exists-still a-long-set v e = e
-  exists-still (a-name k) v e = subst T (sym (lt-ltb v (tally t k) (lt_of_lt_of_le (ltb→lt v (tally r k) e) (more k)))) tt
+  exists-still (a_name k) v e = subst T (sym (lt-ltb v (tally t k) (lt_of_lt_of_le (ltb→lt v (tally r k) e) (more k)))) tt
   exists-still an-event v e = e
   exists-still a-place v e = e
   exists-still an-owner v e = e

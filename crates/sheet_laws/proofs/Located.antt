@@ -20,9 +20,9 @@ use Rattle.sheet_laws.proofs.Laws.{Within, own-tally, none_over}
 use Rattle.sheet_laws.proofs.Symbols.{Stands}
 use Rattle.sheet_laws.proofs.Standing.{IsAt, ReadAt, read_at}
 use Rattle.sheet_laws.proofs.SheetOf.{sheet-is}
-use Rattle.sheet_laws.proofs.Named.{names-exist, events-below}
-use Rattle.sheet_laws.proofs.First.{first-has-body}
-use Rattle.sheet_laws.proofs.Outcomes.{outcomes-fit}
+use Rattle.sheet_laws.proofs.Named.{names_exist, events_below}
+use Rattle.sheet_laws.proofs.First.{first_has_body}
+use Rattle.sheet_laws.proofs.Outcomes.{outcomes_fit}
 
 -- the element with a number is what stands at the offset with that number, inside the sheet
 pub record Found {A : Type 0} (s : List ℕ) (at : ℕ → A) (xs : List A) (os : List ℕ) (i : ℕ) : Type 0 where
@@ -31,18 +31,18 @@ pub record Found {A : Type 0} (s : List ℕ) (at : ℕ → A) (xs : List A) (os 
 
 -- the bytes s have the conditions, points, methods and steps of the sheet S at these offsets, by section
 pub record Located (M : Model) (S : Sheet) (s : List ℕ) (offsets : ℕ → List ℕ) : Type 0 where
-  pub conditions-counted : length S.conditions ≡ length (offsets conditions)
-  pub points-counted : length S.points ≡ length (offsets points)
-  pub methods-counted : length S.methods ≡ length (offsets methods)
-  pub steps-counted : length S.steps ≡ length (offsets steps)
-  pub few-conditions : length S.conditions ≤ condition_limit
-  pub few-points : length S.points ≤ M.points
-  pub few-methods : length S.methods ≤ method_limit
-  pub few-steps : length S.steps ≤ step_limit
-  pub condition-stands : (c : ℕ) → c < length S.conditions → Stands s (get_or (offsets conditions) c 0) (condition S c)
-  pub point-found : (p : ℕ) → p < length S.points → Found s (point_at s) S.points (offsets points) p
-  pub method-found : (m : ℕ) → m < length S.methods → Found s (method_at s) S.methods (offsets methods) m
-  pub step-found : (i : ℕ) → i < length S.steps → Found s (step_at s) S.steps (offsets steps) i
+  pub conditions_counted : length S.conditions ≡ length (offsets conditions)
+  pub points_counted : length S.points ≡ length (offsets points)
+  pub methods_counted : length S.methods ≡ length (offsets methods)
+  pub steps_counted : length S.steps ≡ length (offsets steps)
+  pub few_conditions : length S.conditions ≤ condition_limit
+  pub few_points : length S.points ≤ M.points
+  pub few_methods : length S.methods ≤ method_limit
+  pub few_steps : length S.steps ≤ step_limit
+  pub condition_stands : (c : ℕ) → c < length S.conditions → Stands s (get_or (offsets conditions) c 0) (condition S c)
+  pub point_found : (p : ℕ) → p < length S.points → Found s (point_at s) S.points (offsets points) p
+  pub method_found : (m : ℕ) → m < length S.methods → Found s (method_at s) S.methods (offsets methods) m
+  pub step_found : (i : ℕ) → i < length S.steps → Found s (step_at s) S.steps (offsets steps) i
   pub names : NamesExist S
   pub events : Each (EventBelow M.events) S.steps
   pub first : HasBody (body S 0)
@@ -75,32 +75,32 @@ module _ (M : Model) (s : List ℕ) (r : Reading) (h : read_sheet M s ≡ whole 
   located =
       let same = sym (sheet-is M s r h) in
       subst (λ (S : Sheet). Located M S s (λ k. starts_of (r.own k))) same (record {
-        conditions-counted = as_many s (λ (c : Counted). item c.opened 0) (r.own 1);
-        points-counted = as_many s (λ (c : Counted). point_of c.last) (r.own 2);
-        methods-counted = as_many s (λ (c : Counted). method_of c.last) (r.own 3);
-        steps-counted = as_many s (λ (c : Counted). step_of c.last) (r.own 4);
-        few-conditions = few 1 (λ (c : Counted). item c.opened 0);
-        few-points = few 2 (λ (c : Counted). point_of c.last);
-        few-methods = few 3 (λ (c : Counted). method_of c.last);
-        few-steps = few 4 (λ (c : Counted). step_of c.last);
-        condition-stands = stand s (read_at M s r h 1);
-        point-found = found s (λ (c : Counted). point_of c.last) (point_at s) (read_at M s r h 2);
-        method-found = found s (λ (c : Counted). method_of c.last) (method_at s) (read_at M s r h 3);
-        step-found = found s (λ (c : Counted). step_of c.last) (step_at s) (read_at M s r h 4);
-        names = subst NamesExist (sheet-is M s r h) (names-exist M s r h);
-        events = subst (λ (S : Sheet). Each (EventBelow M.events) S.steps) (sheet-is M s r h) (events-below M s r h);
-        first = subst (λ (S : Sheet). HasBody (body S 0)) (sheet-is M s r h) (first-has-body M s r h);
-        outcomes = subst OutcomesFit (sheet-is M s r h) (outcomes-fit M s r h);
+        conditions_counted = as_many s (λ (c : Counted). item c.opened 0) (r.own 1);
+        points_counted = as_many s (λ (c : Counted). point_of c.last) (r.own 2);
+        methods_counted = as_many s (λ (c : Counted). method_of c.last) (r.own 3);
+        steps_counted = as_many s (λ (c : Counted). step_of c.last) (r.own 4);
+        few_conditions = few 1 (λ (c : Counted). item c.opened 0);
+        few_points = few 2 (λ (c : Counted). point_of c.last);
+        few_methods = few 3 (λ (c : Counted). method_of c.last);
+        few_steps = few 4 (λ (c : Counted). step_of c.last);
+        condition_stands = stand s (read_at M s r h 1);
+        point_found = found s (λ (c : Counted). point_of c.last) (point_at s) (read_at M s r h 2);
+        method_found = found s (λ (c : Counted). method_of c.last) (method_at s) (read_at M s r h 3);
+        step_found = found s (λ (c : Counted). step_of c.last) (step_at s) (read_at M s r h 4);
+        names = subst NamesExist (sheet-is M s r h) (names_exist M s r h);
+        events = subst (λ (S : Sheet). Each (EventBelow M.events) S.steps) (sheet-is M s r h) (events_below M s r h);
+        first = subst (λ (S : Sheet). HasBody (body S 0)) (sheet-is M s r h) (first_has_body M s r h);
+        outcomes = subst OutcomesFit (sheet-is M s r h) (outcomes_fit M s r h);
         edition = refl;
       })
 
   -- the certificates are those that stand at their offsets
-  pub certificates-are : (sheet_of M s).certificates ≡ map (certificate_at s) (starts_of (r.own 5))
-  certificates-are = ap (λ (S : Sheet). S.certificates) (sheet-is M s r h) ∙ go (read_at M s r h 5)
+  pub certificates_are : (sheet_of M s).certificates ≡ map (certificate_at s) (starts_of (r.own 5))
+  certificates_are = ap (λ (S : Sheet). S.certificates) (sheet-is M s r h) ∙ go (read_at M s r h 5)
     where
       go : {cs : List Counted} → Each (ReadAt s 5) cs → map (λ (c : Counted). c.opened.pairs) cs ≡ map (certificate_at s) (starts_of cs)
       go nil = refl
       go (cons e t) = ap₂ (λ (c : Certificate) (cs : List Certificate). c ∷ cs) (sym e) (go t)
 
   pub certificates-counted : length (sheet_of M s).certificates ≡ length (starts_of (r.own 5))
-  certificates-counted = ap (λ (cs : List Certificate). length cs) certificates-are ∙ length-map (starts_of (r.own 5)) (certificate_at s)
+  certificates-counted = ap (λ (cs : List Certificate). length cs) certificates_are ∙ length-map (starts_of (r.own 5)) (certificate_at s)

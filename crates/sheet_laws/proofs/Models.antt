@@ -11,22 +11,22 @@ use lib.ListN.{length}
 use lib.Dec.{T, eqb, ltb, leb}
 use borrow.Author.Tests.{leb-false, leb-true, lt-leb, ltb-false, ltb-true, le-ltb}
 use Rattle.sheet.specs.Model.{Model, NoMoreEvents, as_many, fewer, NoLarger}
-use Rattle.sheet.specs.Kind.{points, an-event, Role, symbol, a_pair, counts, edition, Kind, a-kind, kinds, kind_of}
+use Rattle.sheet.specs.Kind.{points, an-event, Role, symbol, a_pair, counts, edition, Kind, a_kind, kinds, kind_of}
 use Rattle.sheet.specs.Record.{Record, byte_at, values_at, record_at, next_at}
 use Rattle.sheet.specs.Reading.{Reading, tally, full, over_limit, all_exist, ◌when◌else◌, refusal_of, past_at, ReadResult, refusal, read_on, read_from}
 use Rattle.sheet_laws.specs.AtOffset.{short_at}
 use Rattle.sheet.proofs.Kind.{◌and◌, numbered}
 use Rattle.sheet_laws.proofs.Fields.{event-value, names-then}
 use Rattle.sheet_laws.proofs.Take.{or-false}
-use Rattle.sheet_laws.proofs.Order.{is-3, is-4, is-19, is-20, is-5}
+use Rattle.sheet_laws.proofs.Order.{is_3, is_4, is_19, is_20, is_5}
 
 -- what an instrument M reads, beside what M' reads, which is no smaller: 1 where it takes fewer bytes, 6 where it takes fewer points, 2 at a record of a
 -- kind that M' alone takes, 7 at an event step whose event M' alone has, or the same
 pub data ReadsLike (M M' : Model) (s : List ℕ) : ReadResult → ReadResult → Type 0 where
   too_long : {x : ReadResult} (r : Reading) → M.bytes < M'.bytes → ReadsLike M M' s (refusal 1 M.bytes r) x
   over-limit : {x : ReadResult} (at : ℕ) (r : Reading) → M.points < M'.points → ReadsLike M M' s (refusal 6 at r) x
-  unknown-kind : {x : ReadResult} (at : ℕ) (r : Reading) → M.kinds < byte_at s at → byte_at s at ≤ M'.kinds → ReadsLike M M' s (refusal 2 at r) x
-  step-above : {x : ReadResult} (at : ℕ) (r : Reading) → byte_at s at ≡ 10 → M.events ≤ byte_at s (at + 5) → byte_at s (at + 5) < M'.events
+  unknown_kind : {x : ReadResult} (at : ℕ) (r : Reading) → M.kinds < byte_at s at → byte_at s at ≤ M'.kinds → ReadsLike M M' s (refusal 2 at r) x
+  step_above : {x : ReadResult} (at : ℕ) (r : Reading) → byte_at s at ≡ 10 → M.events ≤ byte_at s (at + 5) → byte_at s (at + 5) < M'.events
       → ReadsLike M M' s (refusal 7 at r) x
   the_same : {x : ReadResult} → ReadsLike M M' s x x
 
@@ -72,7 +72,7 @@ module _ (I I' : Model) where
 module _ (M M' : Model) (s : List ℕ) (at : ℕ) where
   data ExistLike (k : ℕ) : Bool → Bool → Type 0 where
     existing : {b : Bool} → ExistLike k b b
-    event-above : {b : Bool} → k ≡ 10 → M.events ≤ byte_at s (at + 5) → byte_at s (at + 5) < M'.events → ExistLike k false b
+    event_above : {b : Bool} → k ≡ 10 → M.events ≤ byte_at s (at + 5) → byte_at s (at + 5) < M'.events → ExistLike k false b
 
   module _ (counted : ℕ → ℕ) (no_more : M.events ≤ M'.events) where
     abbrev LikeOf : (k : ℕ) → Kind → List ℕ → Type 0
@@ -94,13 +94,13 @@ module _ (M M' : Model) (s : List ℕ) (at : ℕ) where
         go true true true true e e' = existing
         go true true true false e e' =
             absurd (omega (arith, no_more, ltb-true (byte_at s (at + 5)) M.events e, ltb-false (byte_at s (at + 5)) M'.events e'))
-        go true true false true e e' = event-above refl (ltb-false (byte_at s (at + 5)) M.events e) (ltb-true (byte_at s (at + 5)) M'.events e')
+        go true true false true e e' = event_above refl (ltb-false (byte_at s (at + 5)) M.events e) (ltb-true (byte_at s (at + 5)) M'.events e')
         go true true false false e e' = existing
 
     exist-like : (k : ℕ) → Row k (kind_of k)
     unfolding values_at
     exist-like =
-        numbered Row kinds (a-kind 0 counts [])
+        numbered Row kinds (a_kind 0 counts [])
         (existing
         and existing
         and existing
@@ -179,17 +179,17 @@ module _ (M M' : Model) (N : NoLarger M M') (s : List ℕ) where
 
     by-7 : {b7 b7' : Bool} (n : ℕ) → ExistLike M M' s at b b7 b7' → Beside (7 when not b7 else n) (7 when not b7' else n)
     by-7 n existing = same
-    by-7 n (event-above step more less) = seven step more less
+    by-7 n (event_above step more less) = seven step more less
 
     pub numbers : Beside (refusal_of M s at r) (refusal_of M' s at r)
     unfolding record_at
     numbers =
         by_2 (is2_for M) (is2_for M') refl refl
-        (alike 3 (is-3 M s at r)
-        (alike 4 (is-4 M s at r)
-        (alike 19 (is-19 M s at r)
-        (alike 20 (is-20 M s at r)
-        (alike 5 (is-5 M s at r)
+        (alike 3 (is_3 M s at r)
+        (alike 4 (is_4 M s at r)
+        (alike 19 (is_19 M s at r)
+        (alike 20 (is_20 M s at r)
+        (alike 5 (is_5 M s at r)
         (by-6 (is6_for M) (is6_for M') refl refl (by-7 _ (exist-like M M' s at (tally r) (no_more N.events) b))))))))
 
   -- All records -------------------------------------------------------------------------------------------------------------
@@ -200,9 +200,9 @@ module _ (M M' : Model) (N : NoLarger M M') (s : List ℕ) where
 
   past-record : (at : ℕ) (r : Reading) {n n' : ℕ} {y y' : ReadResult} → Beside at r n n' → ReadsLike M M' s y y'
       → ReadsLike M M' s (y when eqb n 0 else refusal n at r) (y' when eqb n' 0 else refusal n' at r)
-  past-record at r (two above taken) h = unknown-kind at r above taken
+  past-record at r (two above taken) h = unknown_kind at r above taken
   past-record at r (six less) h = over-limit at r less
-  past-record at r (seven step more less) h = step-above at r step more less
+  past-record at r (seven step more less) h = step_above at r step more less
   past-record at r (same {n}) h = choose (eqb n 0) h the_same
 
   on : (fuel at : ℕ) (r : Reading) → ReadsLike M M' s (read_on M s fuel at r) (read_on M' s fuel at r)

@@ -13,7 +13,7 @@ use Rattle.bits.proofs.Tests.{and-out}
 use Rattle.sheet.specs.Model.{Model}
 use Rattle.sheet.specs.Each.{Each}
 use Rattle.sheet.specs.Sheet.{Outcome, normal, failed, Point, Method, Sheet, declared_for}
-use Rattle.sheet.specs.Kind.{Field, a-set, an-owner, a-name, Kind, a-kind, conditions, points, counts, kinds, kind_of, width}
+use Rattle.sheet.specs.Kind.{Field, a-set, an-owner, a_name, Kind, a_kind, conditions, points, counts, kinds, kind_of, width}
 use Rattle.sheet.specs.Record.{Record, byte_at, values_at, record_at, value}
 use Rattle.sheet.specs.Reading.{Counted, Reading, tally, is_new, exists, all_exist, owner_of, item, whole, no_method, read_sheet}
 use Rattle.sheet.specs.Decode.{point_of, method_of, step_of, sheet_read, sheet_of}
@@ -63,7 +63,7 @@ module _ (events : ℕ) (counted : ℕ → ℕ) where
 
   named-row : (k : ℕ) → Row k (kind_of k)
   named-row =
-      numbered Row kinds (a-kind 0 counts [])
+      numbered Row kinds (a_kind 0 counts [])
       ((λ at vs n. tt)
       and (λ at vs n. tt)
       and (λ at vs n. tt)
@@ -90,28 +90,28 @@ module _ (events : ℕ) (counted : ℕ → ℕ) where
       and (λ i at vs n. tt))
     where
       -- of kinds 7 and 20, which has a field more
-      point-row : (k : ℕ) (fs : List Field) → Row k (a-kind points counts (a-name conditions ∷ a-name conditions ∷ a-name conditions ∷ fs))
+      point-row : (k : ℕ) (fs : List Field) → Row k (a_kind points counts (a_name conditions ∷ a_name conditions ∷ a_name conditions ∷ fs))
       point-row k fs at vs n =
           record {
-            past-exists = ltb→lt _ _ (n 0 (omega arith));
-            own-exists = ltb→lt _ _ (n 1 (omega arith));
-            due-exists = ltb→lt _ _ (n 2 (omega arith));
+            past_exists = ltb→lt _ _ (n 0 (omega arith));
+            own_exists = ltb→lt _ _ (n 1 (omega arith));
+            due_exists = ltb→lt _ _ (n 2 (omega arith));
           }
 
       primitive-row : Row 8 (kind_of 8)
       primitive-row at vs n =
           record {
-            pre-exists = ltb→lt _ _ (n 0 (omega arith));
-            declared-named = λ o. outcomes _ _ o (ltb→lt _ _ (n 1 (omega arith)), ltb→lt _ _ (n 2 (omega arith))) tt;
-            body-named = tt;
+            pre_exists = ltb→lt _ _ (n 0 (omega arith));
+            declared_named = λ o. outcomes _ _ o (ltb→lt _ _ (n 1 (omega arith)), ltb→lt _ _ (n 2 (omega arith))) tt;
+            body_named = tt;
           }
 
       method-row : Row 9 (kind_of 9)
       method-row at vs n =
           record {
-            pre-exists = ltb→lt _ _ (n 0 (omega arith));
-            declared-named = λ o. outcomes _ _ o (ltb→lt _ _ (n 1 (omega arith)), ltb→lt _ _ (n 2 (omega arith))) tt;
-            body-named = (ltb→lt _ _ (n 3 (omega arith)), ltb→lt _ _ (n 4 (omega arith)), tt);
+            pre_exists = ltb→lt _ _ (n 0 (omega arith));
+            declared_named = λ o. outcomes _ _ o (ltb→lt _ _ (n 1 (omega arith)), ltb→lt _ _ (n 2 (omega arith))) tt;
+            body_named = (ltb→lt _ _ (n 3 (omega arith)), ltb→lt _ _ (n 4 (omega arith)), tt);
           }
 
       event-row : Row 10 (kind_of 10)
@@ -126,21 +126,21 @@ module _ (events : ℕ) (counted : ℕ → ℕ) where
       failing-primitive-row : Row 15 (kind_of 15)
       failing-primitive-row at vs n =
           record {
-            pre-exists = ltb→lt _ _ (n 0 (omega arith));
-            declared-named =
+            pre_exists = ltb→lt _ _ (n 0 (omega arith));
+            declared_named =
                 λ o.
                 outcomes _ _ o (ltb→lt _ _ (n 1 (omega arith)), ltb→lt _ _ (n 2 (omega arith))) (ltb→lt _ _ (n 3 (omega arith)), ltb→lt _ _ (n 4 (omega arith)));
-            body-named = tt;
+            body_named = tt;
           }
 
       failing-method-row : Row 16 (kind_of 16)
       failing-method-row at vs n =
           record {
-            pre-exists = ltb→lt _ _ (n 0 (omega arith));
-            declared-named =
+            pre_exists = ltb→lt _ _ (n 0 (omega arith));
+            declared_named =
                 λ o.
                 outcomes _ _ o (ltb→lt _ _ (n 1 (omega arith)), ltb→lt _ _ (n 2 (omega arith))) (ltb→lt _ _ (n 5 (omega arith)), ltb→lt _ _ (n 6 (omega arith)));
-            body-named = (ltb→lt _ _ (n 3 (omega arith)), ltb→lt _ _ (n 4 (omega arith)), ltb→lt _ _ (n 7 (omega arith)));
+            body_named = (ltb→lt _ _ (n 3 (omega arith)), ltb→lt _ _ (n 4 (omega arith)), ltb→lt _ _ (n 7 (omega arith)));
           }
 
       failing-call-row : Row 17 (kind_of 17)
@@ -181,8 +181,8 @@ module _ (M : Model) (s : List ℕ) (r : Reading) (h : read_sheet M s ≡ whole 
           (subst (λ (j : ℕ). NamedIn M.events (tally r) j c.last) x.section here)
 
   -- what 25 leaves
-  owners-named : Each (λ (c : Counted). NamedIfAny (length (r.own 3)) (owner_of c.last)) (r.own 2)
-  owners-named = each_map each (read_keeps M s (λ at r. Unit {0}) (λ at r w q. tt) r h tt).owners-exist
+  owners_named : Each (λ (c : Counted). NamedIfAny (length (r.own 3)) (owner_of c.last)) (r.own 2)
+  owners_named = each_map each (read_keeps M s (λ at r. Unit {0}) (λ at r w q. tt) r h tt).owners_exist
     where
       below : (n : ℕ) (o : Option ℕ) → no_method n o ≡ false → NamedIfAny n o
       below n none e = tt
@@ -197,17 +197,17 @@ module _ (M : Model) (s : List ℕ) (r : Reading) (h : read_sheet M s ≡ whole 
       let points = length-map (r.own 2) (λ (c : Counted). point_of c.last) in
       let methods = length-map (r.own 3) (λ (c : Counted). method_of c.last) in
       record {
-        points-named = rw conditions (each-mapped (PointNamed _) (λ (c : Counted). point_of c.last) (named 2));
-        methods-named = rw (conditions, points) (each-mapped (MethodNamed _ _) (λ (c : Counted). method_of c.last) (named 3));
-        steps-named =
+        points_named = rw conditions (each-mapped (PointNamed _) (λ (c : Counted). point_of c.last) (named 2));
+        methods_named = rw (conditions, points) (each-mapped (MethodNamed _ _) (λ (c : Counted). method_of c.last) (named 3));
+        steps_named =
             rw (points, methods) (each-mapped (StepNamed _ _) (λ (c : Counted). step_of c.last) (each_map (λ c (n : NamedHere 4 c). n.0) (named 4)));
-        owners-named = rw methods (each-mapped (λ (x : Point). NamedIfAny _ x.owner) (λ (c : Counted). point_of c.last) owners-named);
+        owners_named = rw methods (each-mapped (λ (x : Point). NamedIfAny _ x.owner) (λ (c : Counted). point_of c.last) owners_named);
       }
 
-  pub names-exist : NamesExist (sheet_of M s)
-  names-exist = subst NamesExist (sym (sheet-is M s r h)) names-read
+  pub names_exist : NamesExist (sheet_of M s)
+  names_exist = subst NamesExist (sym (sheet-is M s r h)) names-read
 
-  pub events-below : Each (EventBelow M.events) (sheet_of M s).steps
-  events-below =
+  pub events_below : Each (EventBelow M.events) (sheet_of M s).steps
+  events_below =
       subst (λ (S : Sheet). Each (EventBelow M.events) S.steps) (sym (sheet-is M s r h))
       (each-mapped (EventBelow M.events) (λ (c : Counted). step_of c.last) (each_map (λ c (n : NamedHere 4 c). n.1) (named 4)))

@@ -15,7 +15,7 @@ use Rattle.condition.proofs.Narrow.{EventsBelow}
 use Rattle.sheet.specs.Model.{Model, set_events}
 use Rattle.sheet.specs.Each.{Each, nil, cons}
 use Rattle.sheet.specs.Sheet.{Sheet, condition}
-use Rattle.sheet.specs.Kind.{Role, symbol, a_pair, counts, edition, Kind, a-kind, kinds, kind_of, section_of}
+use Rattle.sheet.specs.Kind.{Role, symbol, a_pair, counts, edition, Kind, a_kind, kinds, kind_of, section_of}
 use Rattle.sheet.specs.Record.{Bytes, Record, byte_at, record_at, value}
 use Rattle.sheet.specs.Reading.{Opened, Counted, Reading, item, opened_past, past_at, ReadResult, whole, refusal, read_sheet}
 use Rattle.sheet.specs.Decode.{sheet_in, sheet_of}
@@ -39,7 +39,7 @@ module _ (n : ℕ) where
 
   makes-below : (k : ℕ) → MakesBelow (kind_of k).role
   makes-below =
-      numbered (λ (k : ℕ) (row : Kind). MakesBelow row.role) kinds (a-kind 0 counts [])
+      numbered (λ (k : ℕ) (row : Kind). MakesBelow row.role) kinds (a_kind 0 counts [])
       (tt
       and (λ set a b h ha hb. h)
       and (λ set a b h ha hb. tt)
@@ -72,7 +72,7 @@ bits_of k = cond (ltb k 21) 32 64
 
 few_bits : (k : ℕ) → first_bits (kind_of k).fields ≤ bits_of k
 few_bits =
-    numbered (λ (k : ℕ) (row : Kind). first_bits row.fields ≤ bits_of k) kinds (a-kind 0 counts [])
+    numbered (λ (k : ℕ) (row : Kind). first_bits row.fields ≤ bits_of k) kinds (a_kind 0 counts [])
     (lit≤ tt
     and lit≤ tt and lit≤ tt and lit≤ tt and lit≤ tt and lit≤ tt and lit≤ tt and lit≤ tt and lit≤ tt and lit≤ tt and lit≤ tt and lit≤ tt
     and lit≤ tt and lit≤ tt and lit≤ tt and lit≤ tt and lit≤ tt and lit≤ tt and lit≤ tt and lit≤ tt and lit≤ tt and lit≤ tt and lit≤ tt

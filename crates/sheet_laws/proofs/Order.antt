@@ -53,108 +53,108 @@ module _ (M : Model) (s : List ℕ) (at : ℕ) (r : Reading) where
   k = kind_of (byte_at s at)
 
   -- the tests, by the number of their refusal
-  abbrev pub is-2 : Bool
-  is-2 = eqb (byte_at s at) 0 || ltb M.kinds (byte_at s at)
+  abbrev pub is_2 : Bool
+  is_2 = eqb (byte_at s at) 0 || ltb M.kinds (byte_at s at)
 
-  abbrev pub is-3 : Bool
-  is-3 = ltb (length s) (next_at s at)
+  abbrev pub is_3 : Bool
+  is_3 = ltb (length s) (next_at s at)
 
-  abbrev pub is-4 : Bool
-  is-4 = ltb k.section r.section || (eqb r.opened.section 1 && not (in_condition k.section k.role))
+  abbrev pub is_4 : Bool
+  is_4 = ltb k.section r.section || (eqb r.opened.section 1 && not (in_condition k.section k.role))
 
-  abbrev pub is-19 : Bool
-  is-19 = eqb (byte_at s at) 18 && ltb 0 at
+  abbrev pub is_19 : Bool
+  is_19 = eqb (byte_at s at) 18 && ltb 0 at
 
-  abbrev pub is-20 : Bool
-  is-20 = eqb (byte_at s at) 19 && not (is_new s)
+  abbrev pub is_20 : Bool
+  is_20 = eqb (byte_at s at) 19 && not (is_new s)
 
-  abbrev pub is-5 : Bool
-  is-5 = wrong_items k.section k.role (length r.opened.items)
+  abbrev pub is_5 : Bool
+  is_5 = wrong_items k.section k.role (length r.opened.items)
 
-  abbrev pub is-6 : Bool
-  is-6 = over_limit M r x k.section k.role
+  abbrev pub is_6 : Bool
+  is_6 = over_limit M r x k.section k.role
 
   abbrev pub all_named : Bool
   all_named = all_exist M.events (tally r) k.fields x.values
 
-  abbrev pub is-9 : Bool
-  is-9 = is_primitive x && eqb (length (r.own 3)) 0
+  abbrev pub is_9 : Bool
+  is_9 = is_primitive x && eqb (length (r.own 3)) 0
 
-  abbrev pub is-18 : Bool
-  is-18 = wrong_outcomes r x
+  abbrev pub is_18 : Bool
+  is_18 = wrong_outcomes r x
 
-  abbrev pub is-24 : Bool
-  is-24 = wrong_owner r k x
+  abbrev pub is_24 : Bool
+  is_24 = wrong_owner r k x
 
-  abbrev pub is-26 : Bool
-  is-26 = wrong_channel r x
+  abbrev pub is_26 : Bool
+  is_26 = wrong_channel r x
 
   abbrev tests : List Test
   tests =
-      record { number = 2; holds = is-2 }
-      ∷ record { number = 3; holds = is-3 }
-      ∷ record { number = 4; holds = is-4 }
-      ∷ record { number = 19; holds = is-19 }
-      ∷ record { number = 20; holds = is-20 }
-      ∷ record { number = 5; holds = is-5 }
-      ∷ record { number = 6; holds = is-6 }
+      record { number = 2; holds = is_2 }
+      ∷ record { number = 3; holds = is_3 }
+      ∷ record { number = 4; holds = is_4 }
+      ∷ record { number = 19; holds = is_19 }
+      ∷ record { number = 20; holds = is_20 }
+      ∷ record { number = 5; holds = is_5 }
+      ∷ record { number = 6; holds = is_6 }
       ∷ record { number = 7; holds = not all_named }
-      ∷ record { number = 9; holds = is-9 }
-      ∷ record { number = 18; holds = is-18 }
-      ∷ record { number = 24; holds = is-24 }
-      ∷ record { number = 26; holds = is-26 }
+      ∷ record { number = 9; holds = is_9 }
+      ∷ record { number = 18; holds = is_18 }
+      ∷ record { number = 24; holds = is_24 }
+      ∷ record { number = 26; holds = is_26 }
       ∷ []
 
   -- a record that is refused does not pass the test of that number
   pub test-holds : (n : ℕ) → refusal_of M s at r ≡ suc n → holds_of (suc n) tests ≡ true
   test-holds n e = first_holds n tests e
 
-  pub two : is-2 ≡ true → refusal_of M s at r ≡ 2
+  pub two : is_2 ≡ true → refusal_of M s at r ≡ 2
   two e2 = rw e2
 
-  module _ (e2 : is-2 ≡ false) where
-    pub three : is-3 ≡ true → refusal_of M s at r ≡ 3
+  module _ (e2 : is_2 ≡ false) where
+    pub three : is_3 ≡ true → refusal_of M s at r ≡ 3
     three e3 = rw (e2, e3)
 
-    module _ (e3 : is-3 ≡ false) where
-      pub four : is-4 ≡ true → refusal_of M s at r ≡ 4
+    module _ (e3 : is_3 ≡ false) where
+      pub four : is_4 ≡ true → refusal_of M s at r ≡ 4
       four e4 = rw (e2, e3, e4)
 
-      module _ (e4 : is-4 ≡ false) where
-        pub nineteen : is-19 ≡ true → refusal_of M s at r ≡ 19
+      module _ (e4 : is_4 ≡ false) where
+        pub nineteen : is_19 ≡ true → refusal_of M s at r ≡ 19
         nineteen e19 = rw (e2, e3, e4, e19)
 
-        module _ (e19 : is-19 ≡ false) where
-          pub twenty : is-20 ≡ true → refusal_of M s at r ≡ 20
+        module _ (e19 : is_19 ≡ false) where
+          pub twenty : is_20 ≡ true → refusal_of M s at r ≡ 20
           twenty e20 = rw (e2, e3, e4, e19, e20)
 
-          module _ (e20 : is-20 ≡ false) where
-            pub five : is-5 ≡ true → refusal_of M s at r ≡ 5
+          module _ (e20 : is_20 ≡ false) where
+            pub five : is_5 ≡ true → refusal_of M s at r ≡ 5
             five e5 = rw (e2, e3, e4, e19, e20, e5)
 
-            module _ (e5 : is-5 ≡ false) where
-              pub six : is-6 ≡ true → refusal_of M s at r ≡ 6
+            module _ (e5 : is_5 ≡ false) where
+              pub six : is_6 ≡ true → refusal_of M s at r ≡ 6
               six e6 = rw (e2, e3, e4, e19, e20, e5, e6)
 
-              module _ (e6 : is-6 ≡ false) where
+              module _ (e6 : is_6 ≡ false) where
                 pub seven : all_named ≡ false → refusal_of M s at r ≡ 7
                 seven e7 = rw (e2, e3, e4, e19, e20, e5, e6, e7)
 
                 module _ (e7 : all_named ≡ true) where
-                  pub nine : is-9 ≡ true → refusal_of M s at r ≡ 9
+                  pub nine : is_9 ≡ true → refusal_of M s at r ≡ 9
                   nine e9 = rw (e2, e3, e4, e19, e20, e5, e6, e7, e9)
 
-                  module _ (e9 : is-9 ≡ false) where
-                    pub eighteen : is-18 ≡ true → refusal_of M s at r ≡ 18
+                  module _ (e9 : is_9 ≡ false) where
+                    pub eighteen : is_18 ≡ true → refusal_of M s at r ≡ 18
                     eighteen e18 = rw (e2, e3, e4, e19, e20, e5, e6, e7, e9, e18)
 
-                    module _ (e18 : is-18 ≡ false) where
-                      pub twenty-four : is-24 ≡ true → refusal_of M s at r ≡ 24
-                      twenty-four e24 = rw (e2, e3, e4, e19, e20, e5, e6, e7, e9, e18, e24)
+                    module _ (e18 : is_18 ≡ false) where
+                      pub twenty_four : is_24 ≡ true → refusal_of M s at r ≡ 24
+                      twenty_four e24 = rw (e2, e3, e4, e19, e20, e5, e6, e7, e9, e18, e24)
 
-                      module _ (e24 : is-24 ≡ false) where
-                        pub twenty-six : is-26 ≡ true → refusal_of M s at r ≡ 26
+                      module _ (e24 : is_24 ≡ false) where
+                        pub twenty-six : is_26 ≡ true → refusal_of M s at r ≡ 26
                         twenty-six e26 = rw (e2, e3, e4, e19, e20, e5, e6, e7, e9, e18, e24, e26)
 
-                        pub takes : is-26 ≡ false → refusal_of M s at r ≡ 0
+                        pub takes : is_26 ≡ false → refusal_of M s at r ≡ 0
                         takes e26 = rw (e2, e3, e4, e19, e20, e5, e6, e7, e9, e18, e24, e26)

@@ -55,21 +55,21 @@ exit-fits : (x : Record) → ExitsFit (method_of x).failing (method_of x).body
 exit-fits x = go (is_primitive x) (has_two_outcomes x) _
   where
     with-exit : Bool → Body
-    with-exit two = record { entry = value x 3; exit = value x 4; failed-exit = cond two (some (value x 7)) none }
+    with-exit two = record { entry = value x 3; exit = value x 4; failed_exit = cond two (some (value x 7)) none }
 
     go : (primitive two : Bool) (d : Declared) → ExitsFit (cond two (some d) none) (cond primitive none (some (with-exit two)))
     go true two d = tt
     go false true d = refl
     go false false d = refl
 
-pub outcomes-fit : (M : Model) (s : List ℕ) (r : Reading) → read_sheet M s ≡ whole r → OutcomesFit (sheet_of M s)
-outcomes-fit M s r h =
+pub outcomes_fit : (M : Model) (s : List ℕ) (r : Reading) → read_sheet M s ≡ whole r → OutcomesFit (sheet_of M s)
+outcomes_fit M s r h =
     subst OutcomesFit (sym (sheet-is M s r h))
     (record {
-      exits-fit =
+      exits_fit =
           each-mapped (λ (x : Method). ExitsFit x.failing x.body) (λ (c : Counted). method_of c.last)
           (each_all (λ (c : Counted). exit-fits c.last) {xs = r.own 3});
-      targets-fit =
+      targets_fit =
           each-mapped (TargetsFit (sheet_read (is_new s) r.own)) (λ (c : Counted). step_of c.last)
           (each-later M s r h (λ x. TargetsFit (sheet_read (is_new s) r.own) (step_of x)) (target_fits M s r h) 4);
     })

@@ -15,7 +15,7 @@ use Rattle.sheet.specs.Model.{Model}
 use Rattle.sheet.specs.Each.{Each, nil, cons}
 use Rattle.sheet.specs.Sheet.{Point, Sheet, body_in}
 use Rattle.sheet.specs.Sheet as sheet
-use Rattle.sheet.specs.Kind.{points, methods, Field, a-set, a-long-set, an-event, a-place, an-owner, a-channel, a-name, Kind, a-kind, counts, kinds, kind_of, section_of}
+use Rattle.sheet.specs.Kind.{points, methods, Field, a-set, a-long-set, an-event, a-place, an-owner, a-channel, a_name, Kind, a_kind, counts, kinds, kind_of, section_of}
 use Rattle.sheet.specs.Record.{Record, byte_at, values_at, record_at, next_at}
 use Rattle.sheet.specs.Reading.{Counted, Reading, tally, is_new, is_owned, exists, all_exist, owner_of, owner_in, point_owner, agree, agrees_with, all_agree, names_point, points_named, owners_joined, wrong_owner, ◌when◌else◌, refusal_of, past_at, ReadResult, whole, refusal, owners_from, read_sheet}
 use Rattle.sheet.specs.Decode.{point_of, method_of, step_of, sheet_read, sheet_of}
@@ -24,7 +24,7 @@ use Rattle.sheet.proofs.Each.{each_append, each_right, each-mapped, each-listed}
 use Rattle.sheet.proofs.Kind.{◌and◌, numbered}
 use Rattle.sheet_laws.proofs.Take.{or-false, Took}
 use Rattle.sheet_laws.proofs.Order.{test-holds}
-use Rattle.sheet_laws.proofs.ReadOn.{Ends, too_long, at-record, at-the-end, read-ends, number_of, end-number, read_keeps}
+use Rattle.sheet_laws.proofs.ReadOn.{Ends, too_long, at_record, at_the_end, read-ends, number_of, end-number, read_keeps}
 use Rattle.sheet_laws.proofs.Own.{counted, own-cases}
 use Rattle.sheet_laws.proofs.States.{Later, each-numbered, named-then}
 use Rattle.sheet_laws.proofs.SheetOf.{sheet-is}
@@ -106,7 +106,7 @@ module _ (S : Sheet) (s : List ℕ) where
 
     owned-row : (k : ℕ) → Row k (kind_of k)
     owned-row =
-        numbered Row kinds (a-kind 0 counts [])
+        numbered Row kinds (a_kind 0 counts [])
         ((λ h. tt)
         and (λ h. tt)
         and (λ h. tt)
@@ -162,7 +162,7 @@ module _ (events : ℕ) (u : Reading) (owner : ℕ → Option ℕ) (are : (p : �
       by_field a-place l same = same
       by_field an-owner l same = same
       by_field a-channel l same = same
-      by_field (a-name of) l same = by_name of (eqb of points) refl l same
+      by_field (a_name of) l same = by_name of (eqb of points) refl l same
 
 -- Of the sheet --------------------------------------------------------------------------------------------------------------
 
@@ -198,12 +198,12 @@ module _ (M : Model) (s : List ℕ) (r : Reading) (h : read_sheet M s ≡ whole 
   bodies m (suc i) (c ∷ cs) all = bodies m i cs all
 
   -- what 24 leaves
-  pub owners-fit : OwnersFit (sheet_of M s)
-  owners-fit =
+  pub owners_fit : OwnersFit (sheet_of M s)
+  owners_fit =
       subst OwnersFit (sym (sheet-is M s r h))
       (record {
-        bodies-owned = λ m. bodies m m (r.own 3) (owned 3 m);
-        steps-owned =
+        bodies_owned = λ m. bodies m m (r.own 3) (owned 3 m);
+        steps_owned =
             each-mapped (StepOwned S) (λ (c : Counted). step_of c.last) (each-listed (λ (c : Counted). StepOwned S (step_of c.last)) (r.own 4) (owned 4));
       })
 
@@ -247,9 +247,9 @@ none-wrong r k x nobody =
     go ps true = simp (nobody-with (some (tally r methods)) ps, nobody-agrees ps)
     go ps false = simp (nobody-agrees ps)
 
-none-stray : (r : Reading) {ps : List Counted} → Each NoOwner ps → owners_from r ps ≡ whole r
-none-stray r nil = refl
-none-stray r (cons e all) = rw e (none-stray r all)
+none_stray : (r : Reading) {ps : List Counted} → Each NoOwner ps → owners_from r ps ≡ whole r
+none_stray r nil = refl
+none_stray r (cons e all) = rw e (none_stray r all)
 
 module _ (M : Model) (s : List ℕ) (before-20 : M.kinds < 20) where
   -- the points so far
@@ -269,8 +269,8 @@ module _ (M : Model) (s : List ℕ) (before-20 : M.kinds < 20) where
       (λ e same. subst (Each NoOwner) (append_assoc (r.before 2) (r.own 2) (counted s at r ∷ [])) (each_append all (cons (none_here at r w) nil)))
 
   -- no point of a sheet that is read whole has an owner
-  pub no-owners : (r : Reading) → read_sheet M s ≡ whole r → Each (λ (x : Point). x.owner ≡ none) (sheet_of M s).points
-  no-owners r h =
+  pub no_owners : (r : Reading) → read_sheet M s ≡ whole r → Each (λ (x : Point). x.owner ≡ none) (sheet_of M s).points
+  no_owners r h =
       subst (λ (S : Sheet). Each (λ (x : Point). x.owner ≡ none) S.points) (sym (sheet-is M s r h))
       (each-mapped (λ (x : Point). x.owner ≡ none) (λ (c : Counted). point_of c.last)
       (each_right (r.before 2) (read_keeps M s NoneOwned still-none r h nil).holds))
@@ -283,12 +283,12 @@ module _ (M : Model) (s : List ℕ) (before-20 : M.kinds < 20) where
   )
 
   -- no sheet is refused for an owner
-  pub no-owner-refused : (n at : ℕ) (r : Reading) → read_sheet M s ≡ refusal n at r → (n ≡ 24 → ⊥) × (n ≡ 25 → ⊥)
-  no-owner-refused n at r h = subst (λ (o : ReadResult). NotForOwner (number_of o)) h (go (read-ends M s NoneOwned still-none nil))
+  pub no_owner_refused : (n at : ℕ) (r : Reading) → read_sheet M s ≡ refusal n at r → (n ≡ 24 → ⊥) × (n ≡ 25 → ⊥)
+  no_owner_refused n at r h = subst (λ (o : ReadResult). NotForOwner (number_of o)) h (go (read-ends M s NoneOwned still-none nil))
     where
       go : {o : ReadResult} → Ends M s NoneOwned o → NotForOwner (number_of o)
       go too_long = (λ e. omega (arith, e), λ e. omega (arith, e))
-      go (at-record {at} {r} all) = record-other at r all
-      go (at-the-end {at} {r} all) =
+      go (at_record {at} {r} all) = record-other at r all
+      go (at_the_end {at} {r} all) =
           end-number s r NotForOwner (λ e. omega (arith, e), λ e. omega (arith, e)) (λ e. omega (arith, e), λ e. omega (arith, e))
-          (subst (λ (o : ReadResult). NotForOwner (number_of o)) (sym (none-stray r (each_right (r.before points) all))) (λ e. omega (arith, e), λ e. omega (arith, e)))
+          (subst (λ (o : ReadResult). NotForOwner (number_of o)) (sym (none_stray r (each_right (r.before points) all))) (λ e. omega (arith, e), λ e. omega (arith, e)))

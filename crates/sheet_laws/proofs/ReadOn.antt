@@ -45,8 +45,8 @@ module _ (M : Model) (s : List ℕ) (P : ℕ → Reading → Type 0) where
   -- how reading ends, and that a property of the offset and the state holds there: with 1, at a record that is refused, or at the end
   pub data Ends : ReadResult → Type 0 where
     too_long : {r : Reading} → Ends (refusal 1 M.bytes r)
-    at-record : {at : ℕ} {r : Reading} → P at r → Ends (refusal (refusal_of M s at r) at r)
-    at-the-end : {at : ℕ} {r : Reading} → P at r → Ends (at_end s r)
+    at_record : {at : ℕ} {r : Reading} → P at r → Ends (refusal (refusal_of M s at r) at r)
+    at_the_end : {at : ℕ} {r : Reading} → P at r → Ends (at_end s r)
 
   -- an invariant of the offset and the state, kept by each record that is taken, holds where reading ends
   module _ (kept : (at : ℕ) (r : Reading) → Took M s at r → P at r → P (next_at s at) (past_at s at r)) where
@@ -54,14 +54,14 @@ module _ (M : Model) (s : List ℕ) (P : ℕ → Reading → Type 0) where
         (more : P (next_at s at) (past_at s at r) → Ends (read_on M s fuel (next_at s at) (past_at s at r))) where
       record-ends : (n : ℕ) → refusal_of M s at r ≡ n → Ends (after_record M s fuel at r n)
       record-ends zero e = more (kept at r (took M s at r e) p)
-      record-ends (suc n) e = simp (eqb-suc-zero n) (subst (λ (n : ℕ). Ends (refusal n at r)) e (at-record p))
+      record-ends (suc n) e = simp (eqb-suc-zero n) (subst (λ (n : ℕ). Ends (refusal n at r)) e (at_record p))
 
       suc-ends : (b : Bool) → Ends (cond b (at_end s r) (after_record M s fuel at r (refusal_of M s at r)))
-      suc-ends true = at-the-end p
+      suc-ends true = at_the_end p
       suc-ends false = record-ends (refusal_of M s at r) refl
 
     pub on-ends : (fuel at : ℕ) (r : Reading) → P at r → Ends (read_on M s fuel at r)
-    on-ends zero at r p = subst Ends (sym (no_fuel M s at r)) (at-the-end p)
+    on-ends zero at r p = subst Ends (sym (no_fuel M s at r)) (at_the_end p)
     on-ends (suc fuel) at r p =
         subst Ends (sym (on-is M s fuel at r)) (suc-ends fuel at r p (on-ends fuel (next_at s at) (past_at s at r)) (leb (length s) at))
 
@@ -105,8 +105,8 @@ OwnerExists methods p = no_method methods (owner_of p.last) ≡ false
 pub record Finished (P : ℕ → Reading → Type 0) (r : Reading) : Type 0 where
   pub end : ℕ
   pub holds : P end r
-  pub some-method : eqb (length (r.own 3)) 0 ≡ false
-  pub owners-exist : Each (OwnerExists (tally r 3)) (r.own 2)
+  pub some_method : eqb (length (r.own 3)) 0 ≡ false
+  pub owners_exist : Each (OwnerExists (tally r 3)) (r.own 2)
 
 abbrev IsWhole : ReadResult → Type 0
 IsWhole (whole r) = Unit {0}
@@ -134,7 +134,7 @@ finishes s P at r r' p = go (ltb 0 r.opened.section) (eqb (length (r.own 3)) 0) 
     go false true f h = not-whole h
     go false false f h =
         let (same, all) = owners-whole r r' (r.own 2) h in
-        subst (Finished P) same (record { end = at; holds = p; some-method = f; owners-exist = all })
+        subst (Finished P) same (record { end = at; holds = p; some_method = f; owners_exist = all })
 
 -- the invariant holds at the end
 pub read_keeps : (M : Model) (s : List ℕ) (P : ℕ → Reading → Type 0)
@@ -144,12 +144,12 @@ read_keeps M s P kept r h p = go (read-ends M s P kept p) h
   where
     go : {o : ReadResult} → Ends M s P o → o ≡ whole r → Finished P r
     go too_long h = not-whole h
-    go (at-record p) h = not-whole h
-    go (at-the-end {at} {r = u} p) h = finishes s P at u r p h
+    go (at_record p) h = not-whole h
+    go (at_the_end {at} {r = u} p) h = finishes s P at u r p h
 
 -- a sheet that is read whole has a first record, and it is taken
 pub first_taken : (M : Model) (s : List ℕ) (r : Reading) → read_sheet M s ≡ whole r → Took M s 0 fresh
-first_taken M s r h = let end = read_keeps M s Begun begun r h (inl (refl, refl)) in taken end.holds end.some-method
+first_taken M s r h = let end = read_keeps M s Begun begun r h (inl (refl, refl)) in taken end.holds end.some_method
   where
     Begun : ℕ → Reading → Type 0
     Begun at r = ((at ≡ 0) × (r ≡ fresh)) ⊎ Took M s 0 fresh
@@ -159,5 +159,5 @@ first_taken M s r h = let end = read_keeps M s Begun begun r h (inl (refl, refl)
     begun at r w (inr first) = inr first
 
     taken : {end : ℕ} → Begun end r → eqb (length (r.own 3)) 0 ≡ false → Took M s 0 fresh
-    taken (inl (start, none)) some-method = absurd (subst T (sym (ap (λ (r : Reading). eqb (length (r.own 3)) 0) none) ∙ some-method) tt)
-    taken (inr first) some-method = first
+    taken (inl (start, none)) some_method = absurd (subst T (sym (ap (λ (r : Reading). eqb (length (r.own 3)) 0) none) ∙ some_method) tt)
+    taken (inr first) some_method = first

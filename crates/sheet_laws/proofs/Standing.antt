@@ -22,25 +22,25 @@ use Rattle.sheet.proofs.Each.{each_map}
 use Rattle.sheet_laws.proofs.Take.{or-false, next-lt, Took}
 use Rattle.sheet_laws.proofs.Own.{each-own}
 use Rattle.sheet_laws.proofs.Symbols.{SymbolsTo, no_symbol, one-symbol-more, Stands, stands, symbols_in, leaves_in, leaves-append, leaves-postfix}
-use Rattle.sheet_laws.proofs.Pairs.{pair-next, PairsTo, no-pair, one-pair-more, certificate-stands}
+use Rattle.sheet_laws.proofs.Pairs.{pair-next, PairsTo, no_pair, one-pair-more, certificate-stands}
 use Rattle.sheet_laws.proofs.Kind.{IsSymbol, Counts, Fits, fits}
 
 -- What is open --------------------------------------------------------------------------------------------------------------
 
 -- the items of an open condition stand from its start up to here, and so many symbols and leaves are counted
 pub record Building (s : List ℕ) (start : ℕ) (items : List Condition) (symbols leaves at : ℕ) : Type 0 where
-  pub symbols-stand : SymbolsTo s at start (symbols_in items)
-  pub symbols-counted : length (symbols_in items) ≡ symbols
-  pub leaves-counted : leaves_in (symbols_in items) ≡ leaves
-  pub few-symbols : symbols ≤ 96
-  pub few-leaves : leaves ≤ 31
+  pub symbols_stand : SymbolsTo s at start (symbols_in items)
+  pub symbols_counted : length (symbols_in items) ≡ symbols
+  pub leaves_counted : leaves_in (symbols_in items) ≡ leaves
+  pub few_symbols : symbols ≤ 96
+  pub few_leaves : leaves ≤ 31
 
 -- what can be open at an offset past a record of a section: nothing, a condition, or in section 5 a certificate
 pub data Open (s : List ℕ) (at : ℕ) : ℕ → Opened → Type 0 where
   closed : {section : ℕ} → Open s at section nothing
   in-condition : {section start : ℕ} {items : List Condition} {symbols leaves : ℕ} → Building s start items symbols leaves at
       → Open s at section (record { section = 1; start = start; items = items; symbols = symbols; leaves = leaves; pairs = [] })
-  in-certificate : {start : ℕ} {pairs : Certificate} → PairsTo s at start pairs
+  in_certificate : {start : ℕ} {pairs : Certificate} → PairsTo s at start pairs
       → Open s at 5 (record { section = 5; start = start; items = []; symbols = 0; leaves = 0; pairs = pairs })
 
 abbrev pub OpenIn : List ℕ → ℕ → Reading → Type 0
@@ -51,22 +51,22 @@ module _ (s : List ℕ) (at : ℕ) where
   building-now : (section : ℕ) (o : Opened) → section ≤ 1 → Open s at section o → Building s (start_of o at) o.items o.symbols o.leaves at
   unfolding symbols_in leaves_in
   building-now section o first closed =
-      record { symbols-stand = no_symbol; symbols-counted = refl; leaves-counted = refl; few-symbols = omega arith; few-leaves = omega arith }
+      record { symbols_stand = no_symbol; symbols_counted = refl; leaves_counted = refl; few_symbols = omega arith; few_leaves = omega arith }
   building-now section o first (in-condition b) = b
-  building-now section o first (in-certificate t) = absurd (omega arith)
+  building-now section o first (in_certificate t) = absurd (omega arith)
 
   -- a record of a section j in between starts where it is
   pub alone : (section j : ℕ) (o : Opened) → section ≤ suc (suc j) → suc (suc j) < 5 → (eqb o.section 1 && true) ≡ false → Open s at section o
       → start_of o at ≡ at
   alone section j o order few none_open closed = refl
   alone section j o order few none_open (in-condition b) = absurd (subst T none_open tt)
-  alone section j o order few none_open (in-certificate t) = absurd (omega arith)
+  alone section j o order few none_open (in_certificate t) = absurd (omega arith)
 
   -- in section 5 a certificate is open, or one may start here
   pub pairs-now : (section : ℕ) (o : Opened) → (eqb o.section 1 && true) ≡ false → Open s at section o → PairsTo s at (start_of o at) o.pairs
-  pairs-now section o none_open closed = no-pair
+  pairs-now section o none_open closed = no_pair
   pairs-now section o none_open (in-condition b) = absurd (subst T none_open tt)
-  pairs-now section o none_open (in-certificate t) = t
+  pairs-now section o none_open (in_certificate t) = t
 
 -- What stands where ---------------------------------------------------------------------------------------------------------
 
@@ -104,15 +104,15 @@ module _ (M : Model) (s : List ℕ) (at kind : ℕ) (values : List ℕ) (r : Rea
       → Building s (start_of o at) (make (value x 0) (item o 1) (item o 0) ∷ drop takes o.items) (suc o.symbols) (o.leaves + cond (is_leaf x) 1 0) (next_at s at)
   unfolding leaves_in
   symbol-past takes make y first enough room =
-      let (few, few-leaves) = or-false (leb symbol_limit o.symbols) (is_leaf x && leb leaf_limit o.leaves) room in
+      let (few, few_leaves) = or-false (leb symbol_limit o.symbols) (is_leaf x && leb leaf_limit o.leaves) room in
       let now = building-now s at r.section o first now-open in
       let made = y.made o.items enough in
       record {
-        symbols-stand = rw made (one-symbol-more s at y.y y.is now.symbols-stand);
-        symbols-counted = rw made (omega (arith, length-append (symbols_in o.items) (y.y ∷ []), now.symbols-counted));
-        leaves-counted = rw made (omega (arith, leaves-append (symbols_in o.items) (y.y ∷ []), now.leaves-counted, y.leaf));
-        few-symbols = leb-false symbol_limit o.symbols few;
-        few-leaves = one-leaf-more (is_leaf x) o.leaves now.few-leaves few-leaves;
+        symbols_stand = rw made (one-symbol-more s at y.y y.is now.symbols_stand);
+        symbols_counted = rw made (omega (arith, length-append (symbols_in o.items) (y.y ∷ []), now.symbols_counted));
+        leaves_counted = rw made (omega (arith, leaves-append (symbols_in o.items) (y.y ∷ []), now.leaves_counted, y.leaf));
+        few_symbols = leb-false symbol_limit o.symbols few;
+        few_leaves = one-leaf-more (is_leaf x) o.leaves now.few_leaves few_leaves;
       }
 
   -- one pair more of a certificate
@@ -132,7 +132,7 @@ module _ (M : Model) (s : List ℕ) (at kind : ℕ) (values : List ℕ) (r : Rea
       subst (λ (k : ℕ). Past k (symbol takes make)) (sym first)
       (in-condition (symbol-past takes make y (omega arith) (ltb-false (length o.items) takes items) room))
   past-record section a_pair (last, e, is) order none_open items room =
-      subst (λ (k : ℕ). Past k a_pair) (sym last) (in-certificate (pair-past _ e is none_open))
+      subst (λ (k : ℕ). Past k a_pair) (sym last) (in_certificate (pair-past _ e is none_open))
   past-record section counts fit order none_open items room = closed
   past-record section edition fit order none_open items room = closed
 
@@ -144,8 +144,8 @@ module _ (M : Model) (s : List ℕ) (at kind : ℕ) (values : List ℕ) (r : Rea
   unfolding symbols_in
   one-item [] e b closes inside = absurd (omega arith)
   one-item (c ∷ []) e b closes inside =
-      stands s _ at c b.symbols-stand closes inside (omega (arith, b.symbols-counted, b.few-symbols))
-      (omega (arith, leaves-postfix c, b.leaves-counted, b.few-leaves))
+      stands s _ at c b.symbols_stand closes inside (omega (arith, b.symbols_counted, b.few_symbols))
+      (omega (arith, leaves-postfix c, b.leaves_counted, b.few_leaves))
   one-item (c ∷ d ∷ items) e b closes inside = absurd (omega arith)
 
   abbrev here : Counted
@@ -192,4 +192,4 @@ module _ (M : Model) (s : List ℕ) where
 
   -- "Conditions are in postfix order"
   pub conditions-in-postfix : (r : Reading) → read_sheet M s ≡ whole r → Each (InPostfix s) (r.own 1)
-  conditions-in-postfix r h = each_map (λ c (x : ReadAt s 1 c). x.in-postfix) (read_at r h 1)
+  conditions-in-postfix r h = each_map (λ c (x : ReadAt s 1 c). x.in_postfix) (read_at r h 1)

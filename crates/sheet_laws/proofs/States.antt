@@ -21,7 +21,7 @@ use Rattle.sheet_laws.proofs.Laws.{none_before, grows}
 
 -- reading of a sheet that stands alone comes to an offset in a state: at the start, and past each record that is taken
 pub data Reached (M : Model) (s : List ℕ) : ℕ → Reading → Type 0 where
-  at-start : Reached M s 0 fresh
+  at_start : Reached M s 0 fresh
   past : {at : ℕ} {r : Reading} → Reached M s at r → Took M s at r → Reached M s (next_at s at) (past_at s at r)
 
 -- Elements by number ------------------------------------------------------------------------------------------------------

@@ -32,12 +32,12 @@ when-zero n true m e = absurd (subst IsZero (sym e) tt)
 when-zero n false m e = (refl, e)
 
 module _ (s : List ℕ) (at : ℕ) where
-  pub next-is : next_at s at ≡ at + 1 + body_length (byte_at s at)
+  pub next_is : next_at s at ≡ at + 1 + body_length (byte_at s at)
   unfolding next_at
-  next-is = refl
+  next_is = refl
 
   pub next-lt : at < next_at s at
-  next-lt = omega (arith, next-is)
+  next-lt = omega (arith, next_is)
 
   pub record_is : record_at s at ≡ record { at = at; kind = byte_at s at; values = values_at s (at + 1) (kind_of (byte_at s at)).fields }
   unfolding record_at
@@ -53,9 +53,9 @@ pub record Took (M : Model) (s : List ℕ) (at : ℕ) (r : Reading) : Type 0 whe
   pub in_order : r.section ≤ section_of (byte_at s at)
   pub none_open : (eqb r.opened.section 1 && not (in_condition (section_of (byte_at s at)) (kind_of (byte_at s at)).role)) ≡ false
   -- not 19
-  pub edition-first : (eqb (byte_at s at) 18 && ltb 0 at) ≡ false
+  pub edition_first : (eqb (byte_at s at) 18 && ltb 0 at) ≡ false
   -- not 20
-  pub stops-new : (eqb (byte_at s at) 19 && not (is_new s)) ≡ false
+  pub stops_new : (eqb (byte_at s at) 19 && not (is_new s)) ≡ false
   -- not 5
   pub items : wrong_items (section_of (byte_at s at)) (kind_of (byte_at s at)).role (length r.opened.items) ≡ false
   -- not 6
@@ -84,7 +84,7 @@ took M s at r e =
     let (seven, e) = when-zero 6 (not (all_exist M.events (tally r) (kind_of b).fields (record_at s at).values)) _ e in
     let (nine, e) = when-zero 8 (is_primitive (record_at s at) && eqb (length (r.own 3)) 0) _ e in
     let (eighteen, e) = when-zero 17 (wrong_outcomes r (record_at s at)) _ e in
-    let (twenty-four, e) = when-zero 23 (wrong_owner r (kind_of b) (record_at s at)) _ e in
+    let (twenty_four, e) = when-zero 23 (wrong_owner r (kind_of b) (record_at s at)) _ e in
     let (twenty-six, e) = when-zero 25 (wrong_channel r (record_at s at)) _ e in
     let (order, condition) = or-false (ltb (section_of b) r.section) (eqb r.opened.section 1 && not (in_condition (section_of b) (kind_of b).role)) four in
     record {
@@ -92,13 +92,13 @@ took M s at r e =
       inside = ltb-false (length s) (next_at s at) three;
       in_order = ltb-false (section_of b) r.section order;
       none_open = condition;
-      edition-first = nineteen;
-      stops-new = twenty;
+      edition_first = nineteen;
+      stops_new = twenty;
       items = five;
       room = six;
       names = subst T (sym (not-false (all_exist M.events (tally r) (kind_of b).fields (record_at s at).values) seven)) tt;
       first = nine;
       outcomes = eighteen;
-      owners = twenty-four;
+      owners = twenty_four;
       channels = twenty-six;
     }

@@ -4,7 +4,7 @@ use Rattle.std.specs.Prelude.{ℕ, zero, suc, ◌+◌, ◌*◌, ◌≡◌, Bool,
 use Rattle.std.proofs.Math.Option.{Option, none, some}
 use Rattle.condition.specs.Condition.{Condition, leaf, empty, join, either, star}
 use Rattle.certificate.specs.Certificate.{Pair, pair, Certificate}
-use Rattle.sheet.specs.Sheet.{Declared, Point, Method, Step, event-step, call_from, failing_call_from, channel_call_from, pass_step, stop_step}
+use Rattle.sheet.specs.Sheet.{Declared, Point, Method, Step, event_step, call_from, failing_call_from, channel_call_from, pass_step, stop_step}
 use Rattle.sheet.specs.Record.{byte_at, next_at}
 use Rattle.sheet.specs.Reading.{Counted, start_of, item}
 
@@ -57,7 +57,7 @@ method_as kind s at =
       failing = cond two (some (declared_at s (cond primitive (at + 7) (at + 11)))) none;
       body =
           cond primitive none
-          (some (record { entry = short_at s (at + 7); exit = short_at s (at + 9); failed-exit = cond two (some (short_at s (at + 15))) none }));
+          (some (record { entry = short_at s (at + 7); exit = short_at s (at + 9); failed_exit = cond two (some (short_at s (at + 15))) none }));
     }
 
 unfoldable pub method_at : List ℕ → ℕ → Method
@@ -67,7 +67,7 @@ method_at s at = method_as (byte_at s at) s at
 unfoldable pub step_as : ℕ → List ℕ → ℕ → Step
 unfolding short_at
 step_as kind s at =
-    cond (eqb kind 10) (event-step (short_at s (at + 1)) (short_at s (at + 3)) (byte_at s (at + 5)))
+    cond (eqb kind 10) (event_step (short_at s (at + 1)) (short_at s (at + 3)) (byte_at s (at + 5)))
     (cond (eqb kind 11) (call_from (short_at s (at + 1)) (short_at s (at + 3)) (short_at s (at + 5)))
     (cond (eqb kind 17) (failing_call_from (short_at s (at + 1)) (short_at s (at + 3)) (short_at s (at + 5)) (short_at s (at + 7)))
     (cond (eqb kind 22) (channel_call_from (short_at s (at + 1)) (short_at s (at + 3)) (short_at s (at + 5)) (byte_at s (at + 7)))
@@ -86,17 +86,17 @@ pair_at s at = pair (byte_at s (at + 1)) (set_at s (at + 2))
 
 -- kinds 1 to 5 and 21, the symbols of a condition's postfix form: "leaf" and "EMPTY, JOIN, EITHER, STAR"
 pub data Symbol : Type 0 where
-  leaf-symbol : (set : ℕ) → Symbol
+  leaf_symbol : (set : ℕ) → Symbol
   empty-symbol join-symbol either-symbol star-symbol : Symbol
 
 -- the symbol at an offset, by its kind
 abbrev pub symbols_by_kind : List ℕ → ℕ → List (Option Symbol)
 symbols_by_kind s at =
-    none ∷ some (leaf-symbol (set_at s (at + 1))) ∷ some empty-symbol ∷ some join-symbol ∷ some either-symbol ∷ some star-symbol ∷ []
+    none ∷ some (leaf_symbol (set_at s (at + 1))) ∷ some empty-symbol ∷ some join-symbol ∷ some either-symbol ∷ some star-symbol ∷ []
 
 unfoldable pub symbol_at : List ℕ → ℕ → Option Symbol
 unfolding long_set_at
-symbol_at s at = cond (eqb (byte_at s at) 21) (some (leaf-symbol (long_set_at s (at + 1)))) (get_or (symbols_by_kind s at) (byte_at s at) none)
+symbol_at s at = cond (eqb (byte_at s at) 21) (some (leaf_symbol (long_set_at s (at + 1)))) (get_or (symbols_by_kind s at) (byte_at s at) none)
 
 abbrev pub in_front : {A : Type 0} → Option A → List A → List A
 in_front none xs = []
@@ -112,7 +112,7 @@ unfolding symbol_at next_at symbols_on
 symbols_at s at = symbols_on s (length s) at
 
 unfoldable pub postfix : Condition → List Symbol
-postfix (leaf t) = leaf-symbol t ∷ []
+postfix (leaf t) = leaf_symbol t ∷ []
 postfix empty = empty-symbol ∷ []
 postfix (join a b) = postfix a ++ (postfix b ++ (join-symbol ∷ []))
 postfix (either a b) = postfix a ++ (postfix b ++ (either-symbol ∷ []))

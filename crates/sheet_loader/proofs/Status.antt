@@ -15,7 +15,7 @@ use Rattle.sheet.specs.Reading.{ReadResult, whole, refusal}
 use Rattle.sheet.specs.Decode.{sheet_of}
 use Rattle.runs.specs.Runs.{Move, run, Safe}
 use Rattle.verdict.specs.Verdict.{Report, accepted, refused, unproved}
-use Rattle.verdict.specs.WordTest.{Answer, held, not-held, untested}
+use Rattle.verdict.specs.WordTest.{Answer, held, not_held, untested}
 use Rattle.instrument.specs.declared.Instrument.{Instrument}
 use Rattle.instrument.specs.declared.Named.{Named}
 use Rattle.instrument.specs.declared.Named.TheVariants.{Known, Unknown}
@@ -38,18 +38,18 @@ is-accepted (unproved r k f) e = absurd (omega arith)
 
 is-yes : (a : Answer) → answer_status a ≡ 1 → a ≡ held
 is-yes held e = refl
-is-yes (not-held n) e = absurd (omega arith)
+is-yes (not_held n) e = absurd (omega arith)
 is-yes (untested n at) e = absurd (omega arith)
 
-is-no : (a : Answer) → answer_status a ≡ 3 → (n : ℕ) × (a ≡ not-held n)
+is-no : (a : Answer) → answer_status a ≡ 3 → (n : ℕ) × (a ≡ not_held n)
 is-no held e = absurd (omega arith)
-is-no (not-held n) e = (n, refl)
+is-no (not_held n) e = (n, refl)
 is-no (untested n at) e = absurd (omega arith)
 
 -- the third number of a no that is written
-third : (n : ℕ) (before : List ℕ) {after : List ℕ} → leb room (length before) ≡ true → after ≡ stored (answer_numbers (not-held n)) before → get_or after 2 0 ≡ n
+third : (n : ℕ) (before : List ℕ) {after : List ℕ} → leb room (length before) ≡ true → after ≡ stored (answer_numbers (not_held n)) before → get_or after 2 0 ≡ n
 third n before roomy e =
-    ap (λ (xs : List ℕ). get_or xs 2 0) (e ∙ ap (λ (b : Bool). cond b (answer_numbers (not-held n) ++ drop room before) before) roomy)
+    ap (λ (xs : List ℕ). get_or xs 2 0) (e ∙ ap (λ (b : Bool). cond b (answer_numbers (not_held n) ++ drop room before) before) roomy)
 
 -- On an instrument
 module _ {M : Model} {s before after : List ℕ} where
@@ -76,7 +76,7 @@ of-no-report (unproved r k f) e = omega (arith, e)
 
 of-no-word : (a : Answer) → answer_status a ≡ unknown_status → ⊥
 of-no-word held e = omega (arith, e)
-of-no-word (not-held n) e = omega (arith, e)
+of-no-word (not_held n) e = omega (arith, e)
 of-no-word (untested n at) e = omega (arith, e)
 
 of-no-reading : (o : ReadResult) → read_status o ≡ unknown_status → ⊥

@@ -7,5 +7,5 @@ use Rattle.step_claims.specs.declared.ReturnRules.{ReturnRules}
 pub record ReturnRulesAre (x : ReturnRules) (n i : ℕ) : Type 0 where
   pub past_is : RuleIs x.past n i
   pub own_is : RuleIs x.own (n + 1) i
-  pub future-is : RuleIs x.future (n + 2) i
-  pub due-is : RuleIs x.due (n + 3) i
+  pub future_is : RuleIs x.future (n + 2) i
+  pub due_is : RuleIs x.due (n + 3) i

@@ -4,7 +4,7 @@
 ghost use Rattle.std.specs.Prelude.{List, ◌++◌, ℕ, ◌<◌};
 ghost use Rattle.std.proofs.Math.Option.{Option};
 ghost use Rattle.sheet.specs.Sheet as sheet;
-ghost use Rattle.sheet.specs.Sheet.{Sheet, event-step, call_step, pass_step, stop_step};
+ghost use Rattle.sheet.specs.Sheet.{Sheet, event_step, call_step, pass_step, stop_step};
 ghost use Rattle.runs.specs.Rules.{if_any, return_rules, entry_asked, entry_rules, step_rules};
 ghost use Rattle.postfix.specs.Parts.{StandsAt};
 ghost use Rattle.index.specs.Indexed.{PointIs};
@@ -31,7 +31,7 @@ struct ReturnRules {
 // 7 past(p)a in past(q); 8 own(p)a in own(q); 9 a due(q) in due(p), of the event a.
 pub fn event_claim(i: usize, p: PointConditions, q: PointConditions, a: usize, k: usize) -> Asked
     ensures { (s : List ℕ) (S : Sheet) (from to : ℕ) → PointIs s S from p → PointIs s S to q → a < 64 →
-        Kth s (step_rules S i (event-step from to a)) k result }
+        Kth s (step_rules S i (event_step from to a)) k result }
 {
     let raised = Raised::Word(Part::Event(a));
     match k {
@@ -89,8 +89,8 @@ fn later_call_claim(
     k: usize,
 ) -> Asked
     ensures { (s : List ℕ) (S : Sheet) (t : sheet.CallStep) → ChannelIs t.channel channel → PointIs s S t.from p →
-        FailingIs s S t.method t.failed-to failed → EnteredIs s S (entry_asked S t.method) entered →
-        Kth s (if_any t.failed-to (return_rules S 18 i t sheet.failed) ++ if_any (entry_asked S t.method) (entry_rules S i t)) k result }
+        FailingIs s S t.method t.failed_to failed → EnteredIs s S (entry_asked S t.method) entered →
+        Kth s (if_any t.failed_to (return_rules S 18 i t sheet.failed) ++ if_any (entry_asked S t.method) (entry_rules S i t)) k result }
 {
     let rules = ReturnRules {
         past: Rule::FailedPast(i),
@@ -121,7 +121,7 @@ pub fn call_claim(
     k: usize,
 ) -> Asked
     ensures { (s : List ℕ) (S : Sheet) (t : sheet.CallStep) → StandsAt s pre (sheet.pre S t.method) → ChannelIs t.channel channel →
-        PointIs s S t.from p → WayIs s S t.method sheet.normal t.to q → FailingIs s S t.method t.failed-to failed →
+        PointIs s S t.from p → WayIs s S t.method sheet.normal t.to q → FailingIs s S t.method t.failed_to failed →
         EnteredIs s S (entry_asked S t.method) entered → Kth s (step_rules S i (call_step t)) k result }
 {
     if k == 0 {

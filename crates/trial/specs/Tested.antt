@@ -13,4 +13,4 @@ trial_of (Failed r f) = failed (rule_number r) (rule_subject r) (fault_of f)
 
 -- the answer is what testing the rules over so many events, with the certificates from an offset on, comes to
 pub record Tries (events : ℕ) (s : List ℕ) (xs : List runs.Rule) (from : ℕ) (answer : Tested) : Type 0 where
-  pub comes-to : trial_of answer ≡ try_rules events s xs from
+  pub comes_to : trial_of answer ≡ try_rules events s xs from

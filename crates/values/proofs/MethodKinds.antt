@@ -18,7 +18,7 @@ use Rattle.values.specs.Values.{declared_value, body_value, method_with, Declare
 -- a method that declares these conditions, with its failed outcome and its body
 pub built : {d : Declaration} {m : sheet.Method} {failing : Option sheet.Declared} {body : Option sheet.Body}
     → Declares d m → m.failing ≡ failing → m.body ≡ body → method_with d failing body ≡ m
-built h e f = simp (h.pre_is, h.normal-is, ← e, ← f)
+built h e f = simp (h.pre_is, h.normal_is, ← e, ← f)
 
 module _ (s : List ℕ) (at : ℕ) where
   -- The failed outcome ------------------------------------------------------------------------------------------------
@@ -39,9 +39,9 @@ module _ (s : List ℕ) (at : ℕ) where
   unfolding method_at
   not-failing a b = simp (ne_eqb (byte_at s at) 15 a, ne_eqb (byte_at s at) 16 b)
 
-  pub failing-is : {f : Declared} {x : sheet.Declared} → DeclaresFailed f (method_at s at) → (method_at s at).failing ≡ some x
+  pub failing_is : {f : Declared} {x : sheet.Declared} → DeclaresFailed f (method_at s at) → (method_at s at).failing ≡ some x
       → (method_at s at).failing ≡ some (declared_value f)
-  failing-is {x} h e = e ∙ ap some (sym (h x e))
+  failing_is {x} h e = e ∙ ap some (sym (h x e))
 
   -- two fields are what kind 15 declares of it at + 7, and what another kind declares of it at + 11
   pub declares-15 : {f : Declared} → byte_at s at ≡ 15 → declared_value f ≡ declared_at s (at + 7) → DeclaresFailed f (method_at s at)

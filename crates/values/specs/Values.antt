@@ -2,7 +2,7 @@
 use Rattle.std.specs.Prelude.{◌≡◌, ℕ}
 use Rattle.std.proofs.Math.Option.{Option, none, some}
 use Rattle.sheet.specs.Sheet as sheet
-use Rattle.sheet.specs.Sheet.{event-step, call_step, pass_step, stop_step}
+use Rattle.sheet.specs.Sheet.{event_step, call_step, pass_step, stop_step}
 use Rattle.values.specs.declared.Point.{Point}
 use Rattle.values.specs.declared.Declared.{Declared}
 use Rattle.values.specs.declared.Declaration.{Declaration}
@@ -17,14 +17,14 @@ use Rattle.values.specs.declared.Step.TheVariants.{Event, Call, TwoOutcomeCall, 
 pub record PointHas (v : Point) (p : sheet.Point) : Type 0 where
   pub past_is : v.past ≡ p.past
   pub own_is : v.own ≡ p.own
-  pub due-is : v.due ≡ p.due
+  pub due_is : v.due ≡ p.due
 
 -- what is declared of an outcome, a method, a call and a step, each by the value of the code
 abbrev pub declared_value : Declared → sheet.Declared
 declared_value x = record { trace = x.trace; future = x.future }
 
 abbrev pub body_value : Body → Option ℕ → sheet.Body
-body_value x failed-exit = record { entry = x.entry; exit = x.exit; failed-exit = failed-exit }
+body_value x failed_exit = record { entry = x.entry; exit = x.exit; failed_exit = failed_exit }
 
 abbrev pub method_with : Declaration → Option sheet.Declared → Option sheet.Body → sheet.Method
 method_with d failing body = record { pre = d.pre; normal = declared_value d.normal; failing = failing; body = body }
@@ -38,16 +38,16 @@ method_value (TwoOutcomeBody d b f) = method_with d (some (declared_value f.decl
 -- the method declares these conditions, and, if it has two outcomes, these of the failed one
 pub record Declares (d : Declaration) (m : sheet.Method) : Type 0 where
   pub pre_is : d.pre ≡ m.pre
-  pub normal-is : declared_value d.normal ≡ m.normal
+  pub normal_is : declared_value d.normal ≡ m.normal
 
 abbrev pub DeclaresFailed : Declared → sheet.Method → Type 0
 DeclaresFailed d m = (x : sheet.Declared) → m.failing ≡ some x → declared_value d ≡ x
 
-abbrev pub call_value : CallStep → (failed-to channel : Option ℕ) → sheet.CallStep
-call_value x failed-to channel = record { from = x.from; to = x.to; failed-to = failed-to; method = x.method; channel = channel }
+abbrev pub call_value : CallStep → (failed_to channel : Option ℕ) → sheet.CallStep
+call_value x failed_to channel = record { from = x.from; to = x.to; failed_to = failed_to; method = x.method; channel = channel }
 
 abbrev pub step_value : Step → sheet.Step
-step_value (Event p q a) = event-step p q a
+step_value (Event p q a) = event_step p q a
 step_value (Call c) = call_step (call_value c none none)
 step_value (TwoOutcomeCall c f) = call_step (call_value c (some f) none)
 step_value (ChannelCall c k) = call_step (call_value c none (some k))

@@ -17,9 +17,9 @@ use Rattle.sheet.specs.Reading.{Reading, ReadResult, whole, refusal, read_sheet}
 use Rattle.sheet_laws.proofs.States.{Reached}
 use Rattle.sheet_laws.proofs.Before.{WithoutKindsAbove, fewer-kinds}
 use Rattle.verdict.specs.Verdict.{Report, accepted, refused, unproved, verdict_of}
-use Rattle.verdict.specs.WordTest.{Answer, held, not-held, untested, word_test}
+use Rattle.verdict.specs.WordTest.{Answer, held, not_held, untested, word_test}
 use Rattle.verdict.specs.Reply.{Reply, ◌giving◌, reply_of, answer_reply}
-use Rattle.verdict.specs.Promise.{RefusedFor, while-reading, wrong-count, AsBefore, of-new-kind, the-same-answer, Loads, TestsWord}
+use Rattle.verdict.specs.Promise.{RefusedFor, while_reading, wrong_count, AsBefore, of_new_kind, the_same_answer, Loads, TestsWord}
 use Rattle.verdict.specs.Cases.{M, M', W}
 use Rattle.verdict.proofs.Parts.{ones, all_empty, with_primitive, method16}
 use Rattle.verdict.proofs.Reply.{IsHeld, or_zero, same_number, same-value}
@@ -71,23 +71,23 @@ as-since = refl
 -- each of the two cases is met
 at-new-kind : AsBefore reply_of 14 large (0x0F ∷ []) (verdict_of (former large) (0x0F ∷ [])) (verdict_of large (0x0F ∷ []))
 unfolding verdict_of byte_at
-at-new-kind = of-new-kind {at = 0} (omega arith) (omega arith) refl
+at-new-kind = of_new_kind {at = 0} (omega arith) (omega arith) refl
 
 at-edition : AsBefore reply_of 17 large (0x12 ∷ []) (verdict_of (with_kinds 17 large) (0x12 ∷ [])) (verdict_of large (0x12 ∷ []))
 unfolding verdict_of byte_at
-at-edition = of-new-kind {at = 0} (omega arith) (omega arith) refl
+at-edition = of_new_kind {at = 0} (omega arith) (omega arith) refl
 
 at-owned-point : AsBefore reply_of 19 large (0x14 ∷ []) (verdict_of (with_kinds 19 large) (0x14 ∷ [])) (verdict_of large (0x14 ∷ []))
 unfolding verdict_of byte_at
-at-owned-point = of-new-kind {at = 0} (omega arith) (omega arith) refl
+at-owned-point = of_new_kind {at = 0} (omega arith) (omega arith) refl
 
 at-long-leaf : AsBefore reply_of 20 four (0x15 ∷ []) (verdict_of (with_kinds 20 four) (0x15 ∷ [])) (verdict_of four (0x15 ∷ []))
 unfolding verdict_of byte_at
-at-long-leaf = of-new-kind {at = 0} (omega arith) (omega arith) refl
+at-long-leaf = of_new_kind {at = 0} (omega arith) (omega arith) refl
 
 at-call-on-channel : AsBefore reply_of 20 four (0x16 ∷ []) (verdict_of (with_kinds 20 four) (0x16 ∷ [])) (verdict_of four (0x16 ∷ []))
 unfolding verdict_of byte_at
-at-call-on-channel = of-new-kind {at = 0} (omega arith) (omega arith) refl
+at-call-on-channel = of_new_kind {at = 0} (omega arith) (omega arith) refl
 
 M-before : verdict_of (former large) M ≡ accepted 6
 unfolding verdict_of
@@ -98,7 +98,7 @@ unfolding verdict_of
 M-since = refl
 
 without-new-kinds : AsBefore reply_of 14 large M (verdict_of (former large) M) (verdict_of large M)
-without-new-kinds = the-same-answer (M-before ∙ sym M-since)
+without-new-kinds = the_same_answer (M-before ∙ sym M-since)
 
 -- Sheets without the kinds of a request ---------------------------------------------------------------------------------------
 
@@ -158,8 +158,8 @@ M-without = no-byte-above 14 large M (λ i. le_of_suc-le-suc (none_above 14 M tt
 -- "judged as before": where the instrument that took the kinds up to k gave no 2 at a record of a kind above k, this is its answer
 module _ {A : Type 0} (reply : A → Reply) (k : ℕ) (I : Model) (s : List ℕ) {before since : A} where
   pub as-then : AsBefore reply k I s before since → ((at : ℕ) → reply before ≡ 2 giving (at ∷ []) → byte_at s at ≤ k) → before ≡ since
-  as-then (of-new-kind {at} above taken e) known = absurd (omega (arith, above, known at e))
-  as-then (the-same-answer e) known = e
+  as-then (of_new_kind {at} above taken e) known = absurd (omega (arith, above, known at e))
+  as-then (the_same_answer e) known = e
 
   -- as where its answer has another number
   pub as-other : AsBefore reply k I s before since → (or_zero (reply before).number ≡ 2 → ⊥) → before ≡ since
@@ -209,7 +209,7 @@ accepts-M' n l = omega (arith, same_number (ap reply_of (keeps-M' l)))
 unknown-to-W : TestsWord large W 0 [] (untested 2 (some 0)) → ⊥
 unknown-to-W t = omega (arith, same_number (ap answer_reply (keeps-word t)))
 
-no-for-yes : (n : ℕ) → TestsWord large W 0 [] (not-held n) → ⊥
+no-for-yes : (n : ℕ) → TestsWord large W 0 [] (not_held n) → ⊥
 no-for-yes n t = subst IsHeld (keeps-word t) tt
 
 -- a loader that answers 0F as before: not by this part of the promise, but by its refusals
@@ -219,11 +219,11 @@ number_in (refusal n at r) = n
 
 former-answer : Loads large (0x0F ∷ []) (refused 2 (some 0)) → ⊥
 unfolding read_sheet
-former-answer l = go ((l.refused-iff 2 0).0 refl) refl
+former-answer l = go ((l.refused_iff 2 0).0 refl) refl
   where
     go : {n at : ℕ} → RefusedFor large (0x0F ∷ []) n at → n ≡ 2 → ⊥
-    go (while-reading e) z = omega (arith, ap number_in e, z)
-    go (wrong-count read others) z = omega (arith, z)
+    go (while_reading e) z = omega (arith, ap number_in e, z)
+    go (wrong_count read others) z = omega (arith, z)
 
 -- Two answers that are not as before ------------------------------------------------------------------------------------------------
 
@@ -234,17 +234,17 @@ only-byte kind e = ap (byte_at (kind ∷ [])) (sym (same-value 0 e))
 
 -- 2 at a record of document 01's last kind, and of a kind that the large instrument does not know
 at-former-kind : AsBefore reply_of 14 large (14 ∷ []) (refused 2 (some 0)) (accepted 6) → ⊥
-at-former-kind (of-new-kind above taken e) = omega (arith, above, only-byte 14 e)
-at-former-kind (the-same-answer e) = omega (arith, same_number (ap reply_of e))
+at-former-kind (of_new_kind above taken e) = omega (arith, above, only-byte 14 e)
+at-former-kind (the_same_answer e) = omega (arith, same_number (ap reply_of e))
 
 at-unknown-kind : AsBefore reply_of 14 large (21 ∷ []) (refused 2 (some 0)) (accepted 6) → ⊥
-at-unknown-kind (of-new-kind above taken e) = omega (arith, taken, only-byte 21 e)
-at-unknown-kind (the-same-answer e) = omega (arith, same_number (ap reply_of e))
+at-unknown-kind (of_new_kind above taken e) = omega (arith, taken, only-byte 21 e)
+at-unknown-kind (the_same_answer e) = omega (arith, same_number (ap reply_of e))
 
 -- another refusal than 2, at a record of a kind of Ask 2
 other-refusal : AsBefore reply_of 14 large (15 ∷ []) (refused 3 (some 0)) (accepted 6) → ⊥
-other-refusal (of-new-kind above taken e) = omega (arith, same_number e)
-other-refusal (the-same-answer e) = omega (arith, same_number (ap reply_of e))
+other-refusal (of_new_kind above taken e) = omega (arith, same_number e)
+other-refusal (the_same_answer e) = omega (arith, same_number (ap reply_of e))
 
 -- Request 8 -------------------------------------------------------------------------------------------------------------------------
 

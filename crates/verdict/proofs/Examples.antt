@@ -9,7 +9,7 @@ use lib.ListN.{take, replicate}
 use Rattle.condition.specs.Condition.{Word}
 use Rattle.sheet.specs.Model.{large}
 use Rattle.verdict.specs.Verdict.{refused, unproved, verdict_of}
-use Rattle.verdict.specs.WordTest.{Answer, held, not-held, untested, word_test}
+use Rattle.verdict.specs.WordTest.{Answer, held, not_held, untested, word_test}
 use Rattle.verdict.specs.Reply.{Reply, ◌giving◌, reply_of, answer_reply}
 use Rattle.verdict.specs.Line.{ascii, line, answer_line}
 use Rattle.verdict.specs.Cases.{point0, method0, start_only, three_starts, M, W}
@@ -94,14 +94,14 @@ unfolding nouns line
 nouns-print = refl
 
 -- the same as number and values, of an answer of each kind
-abbrev none-giving : List ℕ → Reply
-none-giving values = record { number = none; values = values }
+abbrev none_giving : List ℕ → Reply
+none_giving values = record { number = none; values = values }
 
 replies : map (λ (s : List ℕ). reply_of (verdict_of large s)) ([] ∷ take 40 M ∷ take 20 M ∷ M ∷ lacking ∷ [])
     ≡ (9 giving (0 ∷ []))
     ∷ (8 giving (40 ∷ []))
     ∷ (10 giving (20 ∷ []))
-    ∷ none-giving (6 ∷ [])
+    ∷ none_giving (6 ∷ [])
     ∷ (11 giving (16 ∷ 1 ∷ 4 ∷ 1 ∷ 5 ∷ 2 ∷ []))
     ∷ []
 unfolding verdict_of
@@ -132,7 +132,7 @@ words-asked =
     ∷ asked 0 (replicate 4096 32) (untested 13 (some 0))
     ∷ asked 0 (0 ∷ 32 ∷ 33 ∷ []) (untested 13 (some 1))
     ∷ asked 0 (2 ∷ 31 ∷ []) held
-    ∷ asked 0 (31 ∷ []) (not-held 0)
+    ∷ asked 0 (31 ∷ []) (not_held 0)
     ∷ []
 
 words-answered : map (λ x. word_test large W x.number x.word) words-asked ≡ map (λ x. x.answer) words-asked
@@ -142,7 +142,7 @@ words-answered = refl
 -- what the word test's program prints, and the numbers and values
 answers : List Answer
 answers =
-    held ∷ not-held 0 ∷ not-held 104 ∷ not-held 4096 ∷ untested 14 none ∷ untested 12 none ∷ untested 13 (some 104) ∷ untested 9 (some 0) ∷ []
+    held ∷ not_held 0 ∷ not_held 104 ∷ not_held 4096 ∷ untested 14 none ∷ untested 12 none ∷ untested 13 (some 104) ∷ untested 9 (some 0) ∷ []
 
 answers-print : map answer_line answers
     ≡ map ascii ("yes" ∷ "no 0" ∷ "no 104" ∷ "no 4096" ∷ "refused 14" ∷ "refused 12" ∷ "refused 13 at 104" ∷ "refused 9 at 0" ∷ [])
@@ -150,10 +150,10 @@ unfolding answers answer_line
 answers-print = refl
 
 answers-reply : map answer_reply answers
-    ≡ none-giving []
-    ∷ none-giving (0 ∷ [])
-    ∷ none-giving (104 ∷ [])
-    ∷ none-giving (4096 ∷ [])
+    ≡ none_giving []
+    ∷ none_giving (0 ∷ [])
+    ∷ none_giving (104 ∷ [])
+    ∷ none_giving (4096 ∷ [])
     ∷ (14 giving [])
     ∷ (12 giving [])
     ∷ (13 giving (104 ∷ []))
@@ -168,7 +168,7 @@ answers-reply = refl
 abbrev two : List ℕ
 two = (0x01 ∷ 0x01 ∷ 0 ∷ 0 ∷ 0 ∷ 0x06 ∷ 0x01 ∷ 0x02 ∷ 0 ∷ 0 ∷ 0 ∷ 0x06 ∷ []) ++ (point0 ++ method0 0)
 
-by_number : map (λ (c : ℕ). word_test large two c (1 ∷ [])) (0 ∷ 1 ∷ 2 ∷ []) ≡ not-held 0 ∷ held ∷ untested 14 none ∷ []
+by_number : map (λ (c : ℕ). word_test large two c (1 ∷ [])) (0 ∷ 1 ∷ 2 ∷ []) ≡ not_held 0 ∷ held ∷ untested 14 none ∷ []
 unfolding word_test
 by_number = refl
 

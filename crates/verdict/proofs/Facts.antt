@@ -12,20 +12,20 @@ use Rattle.condition.proofs.Exchange.{exchange-holds, exchange-any, exchange-zer
 use Rattle.sheet.specs.Model.{Model}
 use Rattle.sheet.specs.Decode.{sheet_of}
 use Rattle.sheet_laws.proofs.Standing.{conditions-in-postfix}
-use Rattle.sheet_laws.proofs.Named.{names-exist, events-below}
-use Rattle.sheet_laws.proofs.First.{first-has-body}
-use Rattle.sheet_laws.proofs.Outcomes.{outcomes-fit}
-use Rattle.sheet_laws.proofs.Editions.{edition, stops-fit}
-use Rattle.sheet_laws.proofs.Owners.{owners-fit, no-owners, no-owner-refused}
-use Rattle.sheet_laws.proofs.Channels.{channels-fit, no-channels, no-channel-refused}
+use Rattle.sheet_laws.proofs.Named.{names_exist, events_below}
+use Rattle.sheet_laws.proofs.First.{first_has_body}
+use Rattle.sheet_laws.proofs.Outcomes.{outcomes_fit}
+use Rattle.sheet_laws.proofs.Editions.{edition, stops_fit}
+use Rattle.sheet_laws.proofs.Owners.{owners_fit, no_owners, no_owner_refused}
+use Rattle.sheet_laws.proofs.Channels.{channels_fit, no_channels, no_channel_refused}
 use Rattle.runs.specs.Rules.{rules}
 use Rattle.runs.proofs.Count.{counted}
-use Rattle.runs.proofs.Moves.{made-by-trace}
-use Rattle.runs.proofs.Grow.{histories-grow}
+use Rattle.runs.proofs.Moves.{made_by_trace}
+use Rattle.runs.proofs.Grow.{histories_grow}
 use Rattle.verdict.specs.Facts.{FactsHold}
 use Rattle.verdict.proofs.Loads.{loads, promised-when-open}
-use Rattle.verdict.proofs.Former.{old-edition, one-outcome}
-use Rattle.verdict.proofs.Witnesses.{exact-exist}
+use Rattle.verdict.proofs.Former.{old_edition, one_outcome}
+use Rattle.verdict.proofs.Witnesses.{exact_exist}
 
 -- whether a word can be finished after a step is whether a word leads on to a place that ends one
 finishes : (r : Condition) (s e : ℕ) → T (step r s e).finishes ↔ ((v : Word) × T (some_ends r (step_all r (step r s e).set v)))
@@ -39,30 +39,30 @@ pub facts : (M : Model) → FactsHold M
 facts M wide s bytes =
     record {
       words = words;
-      empty-word = nullable-holds;
+      empty_word = nullable-holds;
       finishes = finishes;
-      longest-beginning = longest-meets;
+      longest_beginning = longest-meets;
       exchanged = exchange-holds;
-      any-stays = exchange-any;
-      channel-0 = exchange-zeroth;
-      in-postfix = conditions-in-postfix M s;
-      names-exist = names-exist M s;
-      events-below = events-below M s;
-      first-has-body = first-has-body M s;
-      outcomes-fit = outcomes-fit M s;
-      owners-fit = owners-fit M s;
-      channels-fit = channels-fit M s;
+      any_stays = exchange-any;
+      channel_0 = exchange-zeroth;
+      in_postfix = conditions-in-postfix M s;
+      names_exist = names_exist M s;
+      events_below = events_below M s;
+      first_has_body = first_has_body M s;
+      outcomes_fit = outcomes_fit M s;
+      owners_fit = owners_fit M s;
+      channels_fit = channels_fit M s;
       edition = edition M s;
-      stops-fit = stops-fit M s;
-      no-channels = no-channels M s;
-      no-channel-refused = no-channel-refused M s;
-      no-owners = no-owners M s;
-      no-owner-refused = no-owner-refused M s;
-      old-edition = λ former r read. old-edition M s r read former;
-      one-outcome = λ former r read. one-outcome M s r read former;
+      stops_fit = stops_fit M s;
+      no_channels = no_channels M s;
+      no_channel_refused = no_channel_refused M s;
+      no_owners = no_owners M s;
+      no_owner_refused = no_owner_refused M s;
+      old_edition = λ former r read. old_edition M s r read former;
+      one_outcome = λ former r read. one_outcome M s r read former;
       counted = counted (sheet_of M s);
-      made-by-trace = λ u i t o q w going found at primitive to. made-by-trace (sheet_of M s) u i o w going t found at primitive to;
-      histories-grow = histories-grow (sheet_of M s) 0;
-      exact-exist = exact-exist M.events (rules (sheet_of M s));
-      owing-when-open = promised-when-open (loads M s wide bytes);
+      made_by_trace = λ u i t o q w going found at primitive to. made_by_trace (sheet_of M s) u i o w going t found at primitive to;
+      histories_grow = histories_grow (sheet_of M s) 0;
+      exact_exist = exact_exist M.events (rules (sheet_of M s));
+      owing_when_open = promised-when-open (loads M s wide bytes);
     }

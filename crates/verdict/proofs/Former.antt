@@ -13,7 +13,7 @@ use borrow.Author.Tests.{eqb-true, ltb-false, ne_eqb}
 use Rattle.condition.specs.Condition.{Word}
 use Rattle.sheet.specs.Model.{Model}
 use Rattle.sheet.specs.Each.{Each}
-use Rattle.sheet.specs.Sheet.{Outcome, normal, failed, Body, Method, CallStep, Step, event-step, call_step, pass_step, stop_step, Sheet, body_in, body, exit_in, target_for}
+use Rattle.sheet.specs.Sheet.{Outcome, normal, failed, Body, Method, CallStep, Step, event_step, call_step, pass_step, stop_step, Sheet, body_in, body, exit_in, target_for}
 use Rattle.sheet.specs.Record.{Record, byte_at, record_at, value}
 use Rattle.sheet.specs.Reading.{Counted, Reading, is_primitive, has_two_outcomes, whole, read_sheet}
 use Rattle.sheet.specs.Decode.{method_of, step_of, sheet_of}
@@ -22,12 +22,12 @@ use Rattle.sheet_laws.proofs.Take.{or-false}
 use Rattle.sheet_laws.proofs.Own.{each-own}
 use Rattle.sheet_laws.proofs.Kind.{step-cases}
 use Rattle.sheet_laws.proofs.SheetOf.{sheet-is}
-use Rattle.sheet_laws.proofs.Editions.{NoStop, no-stops, old-edition as unmarked}
+use Rattle.sheet_laws.proofs.Editions.{NoStop, no_stops, old_edition as unmarked}
 use Rattle.verdict.specs.Facts.{OldEdition, OneOutcome}
-use Rattle.runs.specs.Runs.{Call, State, return, by-step, new_call, open_call, make_call, try_step, try_return, move}
+use Rattle.runs.specs.Runs.{Call, State, return, by_step, new_call, open_call, make_call, try_step, try_return, move}
 use Rattle.runs.specs.Rules.{how_many, failed_exits, failed_exit_count, failed_call_count, stop_count}
 use Rattle.runs.proofs.Moves.{step-without-target, return-without-exit}
-use Rattle.runs.proofs.Earlier.{twenty-four, seventeen, formula}
+use Rattle.runs.proofs.Earlier.{twenty_four, seventeen, formula}
 
 -- no method has a failed exit, and no call a failed target
 pub record NoFailing (S : Sheet) : Type 0 where
@@ -45,7 +45,7 @@ module _ (x : Record) (former : x.kind < 15) where
   no-failed-exit = go (is_primitive x) (has_two_outcomes x) not-two
     where
       go : (primitive two : Bool) → two ≡ false
-          → failed_exits (cond primitive none (some (record { entry = value x 3; exit = value x 4; failed-exit = cond two (some (value x 7)) none }))) ≡ 0
+          → failed_exits (cond primitive none (some (record { entry = value x 3; exit = value x 4; failed_exit = cond two (some (value x 7)) none }))) ≡ 0
       go true two e = refl
       go false true e = absurd (subst T e tt)
       go false false e = refl
@@ -76,28 +76,28 @@ module _ (M : Model) (s : List ℕ) (r : Reading) (read : read_sheet M s ≡ who
 
 -- a sheet that is not marked as new has no stop
 not-stopping : (t : Step) → NoStop t → stop_count t ≡ 0
-not-stopping (event-step p q a) h = refl
+not-stopping (event_step p q a) h = refl
 not-stopping (call_step t) h = refl
 not-stopping (pass_step p q) h = refl
 not-stopping (stop_step p) h = absurd h
 
 module _ (M : Model) (s : List ℕ) (r : Reading) (read : read_sheet M s ≡ whole r) where
-  pub old-edition : M.kinds < 18 → OldEdition (sheet_of M s)
-  old-edition former =
+  pub old_edition : M.kinds < 18 → OldEdition (sheet_of M s)
+  old_edition former =
       let old = unmarked M s r read former in
-      let none = each_map not-stopping (no-stops M s r read old) in
-      record { unmarked = old; no-stops = none; twenty-four = twenty-four (sheet_of M s) old none }
+      let none = each_map not-stopping (no_stops M s r read old) in
+      record { unmarked = old; no_stops = none; twenty_four = twenty_four (sheet_of M s) old none }
 
   -- and with one outcome it is a sheet of document 01
-  pub one-outcome : M.kinds < 15 → OneOutcome (sheet_of M s)
-  one-outcome former =
-      let old = old-edition (omega (arith, former)) in
+  pub one_outcome : M.kinds < 15 → OneOutcome (sheet_of M s)
+  one_outcome former =
+      let old = old_edition (omega (arith, former)) in
       let one = no-failing M s r read former in
       record {
         exits = one.exits;
         targets = one.targets;
-        seventeen = seventeen (sheet_of M s) old.unmarked old.no-stops one.exits one.targets;
-        formula = formula (sheet_of M s) old.unmarked old.no-stops one.exits one.targets;
+        seventeen = seventeen (sheet_of M s) old.unmarked old.no_stops one.exits one.targets;
+        formula = formula (sheet_of M s) old.unmarked old.no_stops one.exits one.targets;
       }
 
 -- Runs without a second outcome: a failing move changes nothing, or its outcome is not read ------------------------------------------
@@ -109,7 +109,7 @@ nothing (some a) e = absurd (omega (arith, e))
 
 no-exit : (b : Option Body) → failed_exits b ≡ 0 → exit_in failed b ≡ none
 no-exit none e = refl
-no-exit (some b) e = nothing b.failed-exit e
+no-exit (some b) e = nothing b.failed_exit e
 
 -- of the step with a number, if there is one
 abbrev NoTarget : Option Step → Type 0
@@ -126,15 +126,15 @@ module _ (S : Sheet) (one : NoFailing S) (s : State) where
 
   pub failing-return : move S s (return failed) ≡ s
   unfolding move
-  failing-return = go s.open-calls refl
+  failing-return = go s.open_calls refl
     where
-      go : (cs : List Call) → s.open-calls ≡ cs → move S s (return failed) ≡ s
+      go : (cs : List Call) → s.open_calls ≡ cs → move S s (return failed) ≡ s
       go [] e = ap (λ (cs : List Call). cond s.ended s (try_return S s failed cs)) e ∙ either_way s.ended
       go (c ∷ cs) e = return-without-exit S s failed c cs e (no-exit-of c.method)
 
   module _ (i : ℕ) (w : Word) where
     abbrev AsNormal : Type 0
-    AsNormal = (move S s (by-step i failed w) ≡ s) ⊎ (move S s (by-step i failed w) ≡ move S s (by-step i normal w))
+    AsNormal = (move S s (by_step i failed w) ≡ s) ⊎ (move S s (by_step i failed w) ≡ move S s (by_step i normal w))
 
     -- the move with an outcome, by the step that it names
     abbrev tried : Outcome → Option Step → State
@@ -144,7 +144,7 @@ module _ (S : Sheet) (one : NoFailing S) (s : State) where
     abbrev from_there : CallStep → State → State
     from_there t x = cond s.ended s (cond (eqb s.point t.from) x s)
 
-    as-found : (o : Outcome) (x : Option Step) → get_elem? S.steps i ≡ x → move S s (by-step i o w) ≡ tried o x
+    as-found : (o : Outcome) (x : Option Step) → get_elem? S.steps i ≡ x → move S s (by_step i o w) ≡ tried o x
     unfolding move
     as-found o x found = ap (tried o) found
 
@@ -156,7 +156,7 @@ module _ (S : Sheet) (one : NoFailing S) (s : State) where
       where
         call : (t : CallStep) → get_elem? S.steps i ≡ some (call_step t) → (b : Option Body) → body S t.method ≡ b → AsNormal
         call t found none is =
-            let nowhere = nothing t.failed-to (subst NoTarget found (each-get NoTarget tt one.targets i)) in
+            let nowhere = nothing t.failed_to (subst NoTarget found (each-get NoTarget tt one.targets i)) in
             inl (step-without-target S s failed i w found is nowhere)
         call t found (some b) is =
             let opens : (o : Outcome) → tried o (some (call_step t)) ≡ from_there t (open_call (new_call s i t) b.entry s)
@@ -165,7 +165,7 @@ module _ (S : Sheet) (one : NoFailing S) (s : State) where
 
         go : (x : Option Step) → get_elem? S.steps i ≡ x → AsNormal
         go none found = alike none found refl
-        go (some (event-step p q a)) found = alike (some (event-step p q a)) found refl
+        go (some (event_step p q a)) found = alike (some (event_step p q a)) found refl
         go (some (call_step t)) found = call t found (body S t.method) refl
         go (some (pass_step p q)) found = alike (some (pass_step p q)) found refl
         go (some (stop_step p)) found = alike (some (stop_step p)) found refl

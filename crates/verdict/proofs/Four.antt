@@ -17,13 +17,13 @@ use Rattle.sheet.specs.Kind.{points}
 use Rattle.sheet.specs.Record.{Bytes, byte_at}
 use Rattle.sheet.specs.Reading.{Reading, ReadResult, whole, refusal, state_of, at_end, read_sheet}
 use Rattle.sheet.proofs.Each.{each-get_or}
-use Rattle.sheet_laws.proofs.ReadOn.{Ends, too_long as ends-too-long, at-record, at-the-end, read-ends, number_of, end-number, owners-number}
-use Rattle.sheet_laws.proofs.States.{Reached, at-start, past}
+use Rattle.sheet_laws.proofs.ReadOn.{Ends, too_long as ends-too-long, at_record, at_the_end, read-ends, number_of, end-number, owners-number}
+use Rattle.sheet_laws.proofs.States.{Reached, at_start, past}
 use Rattle.verdict.specs.Verdict.{Report, accepted, refused, unproved, verdict_of}
-use Rattle.verdict.specs.WordTest.{Answer, held, not-held, untested, word_test}
+use Rattle.verdict.specs.WordTest.{Answer, held, not_held, untested, word_test}
 use Rattle.verdict.specs.Reply.{Reply, ◌giving◌, reply_of, answer_reply}
 use Rattle.verdict.specs.Line.{ascii, line}
-use Rattle.verdict.specs.Promise.{RefusedFor, while-reading, wrong-count, LikeLarger, too_long, over-limit, unknown-kind, step-above, the_same, TestsLikeLarger, as-loaded, word-above, OnLarger, Loads, WordRefusedFor, sheet-refused, no-such-condition, word-too-long, stray-event, TestsWord}
+use Rattle.verdict.specs.Promise.{RefusedFor, while_reading, wrong_count, LikeLarger, too_long, over-limit, unknown_kind, step_above, the_same, TestsLikeLarger, as_loaded, word_above, OnLarger, Loads, WordRefusedFor, sheet_refused, no_such_condition, word_too_long, stray_event, TestsWord}
 use Rattle.verdict.specs.Cases.{point0, method0, M, M', W}
 use Rattle.verdict.proofs.Parts.{record_of, ones, all_empty}
 use Rattle.verdict.proofs.Reply.{IsTested, or_zero, same_number, same-value, tested-number}
@@ -60,11 +60,11 @@ long_w =
 -- a sheet, and the lines that the two print
 record Both : Type 0 where
   bytes : List ℕ
-  on-large : String
-  on-four : String
+  on_large : String
+  on_four : String
 
 abbrev both : List ℕ → String → String → Both
-both s x y = record { bytes = s; on-large = x; on-four = y }
+both s x y = record { bytes = s; on_large = x; on_four = y }
 
 sheets : List Both
 sheets =
@@ -84,11 +84,11 @@ sheets =
     ∷ both M' "unproved rule 5 method 0 clause 3 pair 0 event 0 place 0" "unproved rule 5 method 0 clause 3 pair 0 event 0 place 0"
     ∷ []
 
-print-on-large : map (λ x. line (verdict_of large x.bytes)) sheets ≡ map (λ x. ascii x.on-large) sheets
+print-on-large : map (λ x. line (verdict_of large x.bytes)) sheets ≡ map (λ x. ascii x.on_large) sheets
 unfolding sheets verdict_of line
 print-on-large = refl
 
-print-on-four : map (λ x. line (verdict_of four x.bytes)) sheets ≡ map (λ x. ascii x.on-four) sheets
+print-on-four : map (λ x. line (verdict_of four x.bytes)) sheets ≡ map (λ x. ascii x.on_four) sheets
 unfolding sheets verdict_of line
 print-on-four = refl
 
@@ -97,7 +97,7 @@ abbrev after2 : Model → List ℕ → List Answer
 after2 I s = map (λ (e : ℕ). word_test I s 0 (2 ∷ e ∷ [])) (31 ∷ 32 ∷ 63 ∷ 64 ∷ [])
 
 words-of-W : (after2 large W ≡ held ∷ replicate 3 (untested 13 (some 1)))
-    × (after2 four W ≡ held ∷ not-held 1 ∷ not-held 1 ∷ untested 13 (some 1) ∷ [])
+    × (after2 four W ≡ held ∷ not_held 1 ∷ not_held 1 ∷ untested 13 (some 1) ∷ [])
 unfolding word_test
 words-of-W = (refl, refl)
 
@@ -112,28 +112,28 @@ words-of-long_w = (refl, refl)
 module _ {I : Model} (no-larger : NoLarger I four) {s : List ℕ} where
   -- whatever keeps the promise there: what it accepts, the four-channel one accepts with the same count
   pub accepted-by-four : {answer : Report} → Loads I s answer → (n : ℕ) → answer ≡ accepted n → verdict_of four s ≡ accepted n
-  accepted-by-four l n h = (l.on-larger four no-larger).accepted-too n h
+  accepted-by-four l n h = (l.on_larger four no-larger).accepted_too n h
 
   -- what it refuses or leaves unproved, but for 1, 6, 2 and 7, so does that one
   pub refused-by-four : {answer : Report} → Loads I s answer → (n : ℕ) (values : List ℕ) → reply_of answer ≡ n giving values
       → (n ≡ 1 → ⊥) → (n ≡ 6 → ⊥) → (n ≡ 2 → ⊥) → (n ≡ 7 → ⊥) → reply_of (verdict_of four s) ≡ n giving values
   refused-by-four l n values h not1 not6 not2 not7 =
-      (l.on-larger four no-larger).refused-too n values h not1 not6 (λ e. absurd (not2 e)) (λ e. absurd (not7 e))
+      (l.on_larger four no-larger).refused_too n values h not1 not6 (λ e. absurd (not2 e)) (λ e. absurd (not7 e))
 
   -- and where it says yes or no of a word, that one says the same, and no with the same length
   pub said-by-four : {c : ℕ} {w : Word} {answer : Answer} → IsTested answer → TestsWord I s c w answer → word_test four s c w ≡ answer
-  said-by-four {c} {w} {answer} said t = go (t.on-larger four no-larger)
+  said-by-four {c} {w} {answer} said t = go (t.on_larger four no-larger)
     where
       loaded : {x : Answer} → LikeLarger answer_reply I four s answer x → x ≡ answer
       loaded (too_long fewer e) = absurd (omega (arith, tested-number answer said, same_number e))
       loaded (over-limit fewer e) = absurd (omega (arith, tested-number answer said, same_number e))
-      loaded (unknown-kind above taken e) = absurd (omega (arith, tested-number answer said, same_number e))
-      loaded (step-above event above below e) = absurd (omega (arith, tested-number answer said, same_number e))
+      loaded (unknown_kind above taken e) = absurd (omega (arith, tested-number answer said, same_number e))
+      loaded (step_above event above below e) = absurd (omega (arith, tested-number answer said, same_number e))
       loaded (the_same e) = sym e
 
       go : {x : Answer} → TestsLikeLarger I four s w answer x → x ≡ answer
-      go (as-loaded like) = loaded like
-      go (word-above above below e) = absurd (omega (arith, tested-number answer said, same_number e))
+      go (as_loaded like) = loaded like
+      go (word_above above below e) = absurd (omega (arith, tested-number answer said, same_number e))
 
 -- Sheets of two channels ------------------------------------------------------------------------------------------------------
 
@@ -143,7 +143,7 @@ place_in (refusal n at r) = at
 
 -- a refusal that is given at a record is given at one that reading comes to
 reached : (I : Model) (s : List ℕ) (n at : ℕ) (r : Reading) → read_sheet I s ≡ refusal n at r → 2 ≤ n → n ≤ 7 → Reached I s at r
-reached I s n at r h above below = go (read-ends I s (Reached I s) (λ at r took here. past here took) at-start) h
+reached I s n at r h above below = go (read-ends I s (Reached I s) (λ at r took here. past here took) at_start) h
   where
     Late : ℕ → Type 0
     Late k = 2 ≤ k → k ≤ 7 → ⊥
@@ -155,9 +155,9 @@ reached I s n at r h above below = go (read-ends I s (Reached I s) (λ at r took
 
     go : {o : ReadResult} → Ends I s (Reached I s) o → o ≡ refusal n at r → Reached I s at r
     go ends-too-long e = absurd (omega (arith, above, ap number_of e))
-    go (at-record {at = at'} {r = u} here) e =
+    go (at_record {at = at'} {r = u} here) e =
         subst (λ (u : Reading). Reached I s at u) (ap state_of e) (subst (λ (at : ℕ). Reached I s at u) (ap place_in e) here)
-    go (at-the-end {r = u} here) e = absurd (subst Late (ap number_of e) (late u) above below)
+    go (at_the_end {r = u} here) e = absurd (subst Late (ap number_of e) (late u) above below)
 
 -- "uses neither kind 21 nor 22 nor events above 31": so of each record that reading comes to
 pub record OfTwoChannels (s : List ℕ) : Type 0 where
@@ -172,35 +172,35 @@ module _ {s : List ℕ} (two : OfTwoChannels s) where
       → LikeLarger reply large four s a b → b ≡ a
   same_answer reply read (too_long fewer e) = absurd (omega (arith, fewer))
   same_answer reply read (over-limit fewer e) = absurd (omega (arith, fewer))
-  same_answer reply read (unknown-kind {at} above taken e) =
+  same_answer reply read (unknown_kind {at} above taken e) =
       let (r, h) = read 2 at (omega arith) (omega arith) e in
       let (not21, not22) = two.kinds at r (reached large s 2 at r h (omega arith) (omega arith)) in
       absurd (⊎_elim not22 (λ below. not21 (omega (arith, above, below))) (eq-or-lt_of_le taken))
-  same_answer reply read (step-above {at} event above below e) =
+  same_answer reply read (step_above {at} event above below e) =
       let (r, h) = read 7 at (omega arith) (omega arith) e in
       absurd (omega (arith, above, two.events at r (reached large s 7 at r h (omega arith) (omega arith)) event))
   same_answer reply read (the_same e) = sym e
 
   pub judged-as-on-large : {answer : Report} → Loads large s answer → verdict_of four s ≡ answer
-  judged-as-on-large {answer} l = same_answer reply_of (λ n at above below e. go ((l.refused-iff n at).0 e) below) (l.on-larger four large-no-larger).like
+  judged-as-on-large {answer} l = same_answer reply_of (λ n at above below e. go ((l.refused_iff n at).0 e) below) (l.on_larger four large-no-larger).like
     where
       go : {n at : ℕ} → RefusedFor large s n at → n ≤ 7 → (r : Reading) × (read_sheet large s ≡ refusal n at r)
-      go (while-reading {r = r} e) below = (r, e)
-      go (wrong-count read others) below = absurd (omega (arith, below))
+      go (while_reading {r = r} e) below = (r, e)
+      go (wrong_count read others) below = absurd (omega (arith, below))
 
   pub tested-as-on-large : {c : ℕ} {w : Word} {answer : Answer} → TestsWord large s c w answer → Each (λ (e : ℕ). e ≤ 31) w → word_test four s c w ≡ answer
-  tested-as-on-large {c} {w} {answer} t small = loaded (t.on-larger four large-no-larger)
+  tested-as-on-large {c} {w} {answer} t small = loaded (t.on_larger four large-no-larger)
     where
       go : {n at : ℕ} {place : Option ℕ} → WordRefusedFor large s c w n place → place ≡ some at → n ≤ 7
           → (r : Reading) × (read_sheet large s ≡ refusal n at r)
-      go (sheet-refused {n} {r = r} e) same below = (r, subst (λ (k : ℕ). read_sheet large s ≡ refusal n k r) (ap or_zero same) e)
-      go (no-such-condition read h) same below = absurd (omega (arith, below))
-      go (word-too-long f h) same below = absurd (omega (arith, below))
-      go (stray-event f short h) same below = absurd (omega (arith, below))
+      go (sheet_refused {n} {r = r} e) same below = (r, subst (λ (k : ℕ). read_sheet large s ≡ refusal n k r) (ap or_zero same) e)
+      go (no_such_condition read h) same below = absurd (omega (arith, below))
+      go (word_too_long f h) same below = absurd (omega (arith, below))
+      go (stray_event f short h) same below = absurd (omega (arith, below))
 
       loaded : {x : Answer} → TestsLikeLarger large four s w answer x → x ≡ answer
-      loaded (as-loaded like) = same_answer answer_reply (λ n at above below e. go ((t.refused-iff n (some at)).0 e) refl below) like
-      loaded (word-above {i} above below e) = absurd (omega (arith, above, each-get_or (λ (e : ℕ). e ≤ 31) small 0 (omega arith) i))
+      loaded (as_loaded like) = same_answer answer_reply (λ n at above below e. go ((t.refused_iff n (some at)).0 e) refl below) like
+      loaded (word_above {i} above below e) = absurd (omega (arith, above, each-get_or (λ (e : ℕ). e ≤ 31) small 0 (omega arith) i))
 
 -- Answers that break it -------------------------------------------------------------------------------------------------------
 
@@ -212,29 +212,29 @@ module _ (I I' : Model) (s : List ℕ) where
   two-needs : LikeLarger reply_of I I' s (refused 2 (some 0)) (accepted 6) → (I.kinds < byte_at s 0) × (byte_at s 0 ≤ I'.kinds)
   two-needs (too_long fewer e) = absurd (omega (arith, same_number e))
   two-needs (over-limit fewer e) = absurd (omega (arith, same_number e))
-  two-needs (unknown-kind above taken e) =
+  two-needs (unknown_kind above taken e) =
       let here = ap (byte_at s) (same-value 0 e) in
       (subst (λ (b : ℕ). I.kinds < b) (sym here) above, subst (λ (b : ℕ). b ≤ I'.kinds) (sym here) taken)
-  two-needs (step-above event above below e) = absurd (omega (arith, same_number e))
+  two-needs (step_above event above below e) = absurd (omega (arith, same_number e))
   two-needs (the_same e) = absurd (omega (arith, same_number (ap reply_of e)))
 
   seven-needs : LikeLarger reply_of I I' s (refused 7 (some 0)) (accepted 6)
       → (byte_at s 0 ≡ 10) × (I.events ≤ byte_at s 5) × (byte_at s 5 < I'.events)
   seven-needs (too_long fewer e) = absurd (omega (arith, same_number e))
   seven-needs (over-limit fewer e) = absurd (omega (arith, same_number e))
-  seven-needs (unknown-kind above taken e) = absurd (omega (arith, same_number e))
-  seven-needs (step-above event above below e) =
+  seven-needs (unknown_kind above taken e) = absurd (omega (arith, same_number e))
+  seven-needs (step_above event above below e) =
       let here = same-value 0 e in
       subst (λ (at : ℕ). (byte_at s at ≡ 10) × (I.events ≤ byte_at s (at + 5)) × (byte_at s (at + 5) < I'.events)) (sym here) (event, above, below)
   seven-needs (the_same e) = absurd (omega (arith, same_number (ap reply_of e)))
 
   thirteen-needs : (w : Word) → TestsLikeLarger I I' s w (untested 13 (some 0)) held → (I.events ≤ get_or w 0 0) × (get_or w 0 0 < I'.events)
-  thirteen-needs w (as-loaded (too_long fewer e)) = absurd (omega (arith, same_number e))
-  thirteen-needs w (as-loaded (over-limit fewer e)) = absurd (omega (arith, same_number e))
-  thirteen-needs w (as-loaded (unknown-kind above taken e)) = absurd (omega (arith, same_number e))
-  thirteen-needs w (as-loaded (step-above event above below e)) = absurd (omega (arith, same_number e))
-  thirteen-needs w (as-loaded (the_same e)) = absurd (omega (arith, same_number (ap answer_reply e)))
-  thirteen-needs w (word-above above below e) =
+  thirteen-needs w (as_loaded (too_long fewer e)) = absurd (omega (arith, same_number e))
+  thirteen-needs w (as_loaded (over-limit fewer e)) = absurd (omega (arith, same_number e))
+  thirteen-needs w (as_loaded (unknown_kind above taken e)) = absurd (omega (arith, same_number e))
+  thirteen-needs w (as_loaded (step_above event above below e)) = absurd (omega (arith, same_number e))
+  thirteen-needs w (as_loaded (the_same e)) = absurd (omega (arith, same_number (ap answer_reply e)))
+  thirteen-needs w (word_above above below e) =
       subst (λ (i : ℕ). (I.events ≤ get_or w i 0) × (get_or w i 0 < I'.events)) (sym (same-value 0 e)) (above, below)
 
 -- 2 at a kind that both take, and at one that neither takes
@@ -282,14 +282,14 @@ module _ (s : List ℕ) where
 
   -- accepted with another count; unproved, where the other one names an event that the smaller one lacks
   other-count : OnLarger large four s (accepted 5) (accepted 6) → ⊥
-  other-count o = omega (arith, same-value 0 (ap reply_of (o.accepted-too 5 refl)))
+  other-count o = omega (arith, same-value 0 (ap reply_of (o.accepted_too 5 refl)))
 
   other-event : OnLarger large four s (unproved 7 0 (at_event 31)) (unproved 7 0 (at_event 32)) → ⊥
   other-event o =
       omega (
         arith,
         same-value 4
-            (o.refused-too 11 (7 ∷ 0 ∷ 4 ∷ 0 ∷ 31 ∷ 1 ∷ []) refl (λ e. omega (arith, e)) (λ e. omega (arith, e)) (λ e. omega (arith, e)) (λ e. omega (arith, e))),
+            (o.refused_too 11 (7 ∷ 0 ∷ 4 ∷ 0 ∷ 31 ∷ 1 ∷ []) refl (λ e. omega (arith, e)) (λ e. omega (arith, e)) (λ e. omega (arith, e)) (λ e. omega (arith, e))),
       )
 
   -- refused for a channel, which only the other one can
@@ -298,7 +298,7 @@ module _ (s : List ℕ) where
       omega (
         arith,
         same_number
-            (o.refused-too 26 (0 ∷ []) refl (λ e. omega (arith, e)) (λ e. omega (arith, e)) (λ e. omega (arith, e)) (λ e. omega (arith, e))),
+            (o.refused_too 26 (0 ∷ []) refl (λ e. omega (arith, e)) (λ e. omega (arith, e)) (λ e. omega (arith, e)) (λ e. omega (arith, e))),
       )
 
 -- a refusal with 7 is not the larger one's too, where that one has more events

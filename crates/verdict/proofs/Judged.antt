@@ -21,13 +21,13 @@ module _ (events : ℕ) (otherwise : Report) where
   -- what testing the rules with their certificates comes to
   pub data Tried (xs : List Rule) (cs : List Certificate) (report : Report) : Type 0 where
     all_pass : EachCertified (Passes events) xs cs → report ≡ otherwise → Tried xs cs report
-    one-fails : (r k : ℕ) (f : Fault) → FirstFault events xs cs r k f → report ≡ unproved r k f → Tried xs cs report
+    one_fails : (r k : ℕ) (f : Fault) → FirstFault events xs cs r k f → report ≡ unproved r k f → Tried xs cs report
 
-  pub first-is : (x : Rule) (xs : List Rule) (cs : List Certificate)
+  pub first_is : (x : Rule) (xs : List Rule) (cs : List Certificate)
       → first_fault events (x ∷ xs) cs otherwise
       ≡ reported x (test_of events x.claim (next_of cs)) (first_fault events xs (left_after x.claim cs) otherwise)
   unfolding first_fault
-  first-is x xs cs = refl
+  first_is x xs cs = refl
 
   -- the next rule fails
   fails-here : (n k : ℕ) (claim : Claim) (xs : List Rule) (cs : List Certificate) (f : Fault) → test_of events claim (next_of cs) ≡ found f
@@ -39,9 +39,9 @@ module _ (events : ℕ) (otherwise : Report) where
         after = xs;
         used = [];
         unused = cs;
-        rules-are = refl;
-        certificates-are = refl;
-        before-pass = done;
+        rules_are = refl;
+        certificates_are = refl;
+        before_pass = done;
         fails = h;
       }
 
@@ -57,15 +57,15 @@ module _ (events : ℕ) (otherwise : Report) where
           after = f.after;
           used = mine ++ f.used;
           unused = f.unused;
-          rules-are = ap (λ (ys : List Rule). x ∷ ys) f.rules-are;
-          certificates-are = ap (λ (ds : List Certificate). mine ++ ds) f.certificates-are ∙ sym (append_assoc mine f.used f.unused);
-          before-pass = longer f.before f.used f.before-pass;
+          rules_are = ap (λ (ys : List Rule). x ∷ ys) f.rules_are;
+          certificates_are = ap (λ (ds : List Certificate). mine ++ ds) f.certificates_are ∙ sym (append_assoc mine f.used f.unused);
+          before_pass = longer f.before f.used f.before_pass;
           fails = f.fails;
         }
 
     tried-more : (xs : List Rule) (cs : List Certificate) (report : Report) → Tried xs cs report → Tried (x ∷ xs) (mine ++ cs) report
     tried-more xs cs report (all_pass p e) = all_pass (longer xs cs p) e
-    tried-more xs cs report (one-fails r k v f h) = one-fails r k v (fails-later xs cs r k v f) h
+    tried-more xs cs report (one_fails r k v f h) = one_fails r k v (fails-later xs cs r k v f) h
 
   -- one rule, by what its test finds
   one-tried : (n k : ℕ) (claim : Claim) (mine : List Certificate) (xs : List Rule) (cs : List Certificate)
@@ -78,7 +78,7 @@ module _ (events : ℕ) (otherwise : Report) where
       go : (f : Finding) → test_of events claim (next_of (mine ++ cs)) ≡ f
           → Tried ((n of k says claim) ∷ xs) (mine ++ cs) (reported (n of k says claim) f after)
       go fine h = tried-more (n of k says claim) mine (λ ys ds p. longer ys ds h p) xs cs after t
-      go (found f) h = one-fails n k f (fails-here n k claim xs (mine ++ cs) f h) refl
+      go (found f) h = one_fails n k f (fails-here n k claim xs (mine ++ cs) f h) refl
 
   -- TRIED: with as many certificates as the rules need
   pub tried : (xs : List Rule) (cs : List Certificate) → length cs ≡ certificates_needed xs → Tried xs cs (first_fault events xs cs otherwise)
@@ -123,8 +123,8 @@ module _ (events : ℕ) (otherwise : Report) where
   pub fault-found : {xs : List Rule} {cs : List Certificate} {r k : ℕ} {v : Fault} → FirstFault events xs cs r k v
       → first_fault events xs cs otherwise ≡ unproved r k v
   fault-found {r = r} {k = k} {v = v} f =
-      ap₂ (λ (ys : List Rule) (ds : List Certificate). first_fault events ys ds otherwise) f.rules-are f.certificates-are
-      ∙ first_found f.before-pass r k f.failing f.after f.unused v f.fails
+      ap₂ (λ (ys : List Rule) (ds : List Certificate). first_fault events ys ds otherwise) f.rules_are f.certificates_are
+      ∙ first_found f.before_pass r k f.failing f.after f.unused v f.fails
 
 -- each rule that needs a certificate has one of the list
 pub enough-certified : {P : Claim → Certificate → Type 0} {xs : List Rule} {cs : List Certificate} → EachCertified P xs cs → length cs ≡ certificates_needed xs

@@ -18,25 +18,25 @@ use Rattle.sheet.specs.Reading.{Reading, ReadResult, whole, refusal, read_sheet}
 use Rattle.sheet.specs.Decode.{sheet_of}
 use Rattle.sheet_laws.specs.Names.{HasBody, ChannelsFit}
 use Rattle.sheet_laws.proofs.SheetOf.{sheet-is}
-use Rattle.sheet_laws.proofs.Named.{names-exist}
-use Rattle.sheet_laws.proofs.Channels.{channels-fit}
-use Rattle.sheet_laws.proofs.First.{first-has-body}
-use Rattle.sheet_laws.proofs.Owners.{owners-fit}
+use Rattle.sheet_laws.proofs.Named.{names_exist}
+use Rattle.sheet_laws.proofs.Channels.{channels_fit}
+use Rattle.sheet_laws.proofs.First.{first_has_body}
+use Rattle.sheet_laws.proofs.Owners.{owners_fit}
 use Rattle.runs.specs.Rules.{rules, rules_from, AllMet, count}
 use Rattle.runs.specs.Runs.{Move, run, Safe}
 use Rattle.runs.specs.Owing.{Owing, OwingWhenOpen}
-use Rattle.runs.proofs.Apart.{told-apart}
+use Rattle.runs.proofs.Apart.{told_apart}
 use Rattle.runs.proofs.Owners.{point-belongs}
-use Rattle.runs.proofs.WhenOpen.{owing-when-open}
+use Rattle.runs.proofs.WhenOpen.{owing_when_open}
 use Rattle.runs.proofs.Safe.{runs-are-safe}
 use Rattle.runs.proofs.Owing.{runs-owe}
 use Rattle.verdict.specs.Verdict.{Report, accepted, refused, unproved, certificates_needed, first_fault, judged, verdict_after, verdict_of}
 use Rattle.verdict.specs.Reply.{reply_of}
-use Rattle.verdict.specs.Promise.{WellFormed, EachCertified, Passes, FirstFault, RefusedFor, while-reading, wrong-count, AnswerForm, with-count, with-place, with-fault, Loads, LoadsAsPromised}
+use Rattle.verdict.specs.Promise.{WellFormed, EachCertified, Passes, FirstFault, RefusedFor, while_reading, wrong_count, AnswerForm, with_count, with_place, with_fault, Loads, LoadsAsPromised}
 use Rattle.verdict.proofs.Reply.{IsAccepted, IsUnproved, reply-refused, reply-unproved}
-use Rattle.verdict.proofs.Judged.{Tried, all_pass, one-fails, tried, pass_all, fault-found}
+use Rattle.verdict.proofs.Judged.{Tried, all_pass, one_fails, tried, pass_all, fault-found}
 use Rattle.verdict.proofs.RulesMet.{all-met, all_pass as exact-pass, all-below}
-use Rattle.verdict.proofs.Models.{on-larger, judged-as-before}
+use Rattle.verdict.proofs.Models.{on_larger, judged-as-before}
 
 -- Reports told apart ----------------------------------------------------------------------------------------------------
 
@@ -106,10 +106,10 @@ module _ (M : Model) (s : List ℕ) where
       by_number r read true e =
           let same = eqb→eq _ _ (subst T (sym e) tt) in
           tests (record { reading = r; read = read; enough = same }) (tried M.events (accepted (count S)) (rules S) S.certificates same)
-      by_number r read false e = refuses _ (wrong-count read (eqb-false _ _ e)) refl
+      by_number r read false e = refuses _ (wrong_count read (eqb-false _ _ e)) refl
 
       by-reading : (x : ReadResult) → read_sheet M s ≡ x → Decided (verdict_after M s x)
-      by-reading (refusal n at r) read = subst Decided (sym (after-refusal n at r)) (refuses _ (while-reading read) refl)
+      by-reading (refusal n at r) read = subst Decided (sym (after-refusal n at r)) (refuses _ (while_reading read) refl)
       by-reading (whole r) read = subst Decided (sym (after-whole r read ∙ judged-is S)) (by_number r read (enough S) refl)
 
   -- Demand 1 ------------------------------------------------------------------------------------------------------------
@@ -120,13 +120,13 @@ module _ (M : Model) (s : List ℕ) where
       refused-total : (x : Report) → RefusalIn x → AnswerForm x
       refused-total (accepted n) f = absurd f
       refused-total (refused n none) f = absurd f
-      refused-total (refused n (some at)) f = with-place n at
+      refused-total (refused n (some at)) f = with_place n at
       refused-total (unproved r k v) f = absurd f
 
       go : Decided (verdict_of M s) → AnswerForm (verdict_of M s)
       go (refuses x f e) = subst AnswerForm (sym e) (refused-total x f)
-      go (tests w (all_pass p e)) = subst AnswerForm (sym e) (with-count (count (sheet_of M s)))
-      go (tests w (one-fails r k v f e)) = subst AnswerForm (sym e) (with-fault r k v)
+      go (tests w (all_pass p e)) = subst AnswerForm (sym e) (with_count (count (sheet_of M s)))
+      go (tests w (one_fails r k v f e)) = subst AnswerForm (sym e) (with_fault r k v)
 
   -- Demand 2 ------------------------------------------------------------------------------------------------------------
 
@@ -136,7 +136,7 @@ module _ (M : Model) (s : List ℕ) where
       go : Decided (verdict_of M s) → WellFormed M s × Passing × (n ≡ count (sheet_of M s))
       go (refuses x f e) = absurd (not-both x f (subst IsAccepted (sym h ∙ e) tt))
       go (tests w (all_pass p e)) = (w, p, ap count_in (sym h ∙ e))
-      go (tests w (one-fails r k v f e)) = absurd (subst IsAccepted (sym h ∙ e) tt)
+      go (tests w (one_fails r k v f e)) = absurd (subst IsAccepted (sym h ∙ e) tt)
 
   -- of a sheet that is read whole, by whether it has as many certificates as its rules need
   whole_is : {r : Reading} → read_sheet M s ≡ whole r → (b : Bool) → enough (sheet_of M s) ≡ b
@@ -171,7 +171,7 @@ module _ (M : Model) (s : List ℕ) where
       go : Decided (verdict_of M s) → WellFormed M s × FaultIn (unproved r k v)
       go (refuses x g y) = absurd (nor-unproved x g (subst IsUnproved (sym h ∙ y) tt))
       go (tests w (all_pass p x)) = absurd (subst IsUnproved (sym h ∙ x) tt)
-      go (tests w (one-fails r' k' v' f x)) = (w, subst FaultIn (sym x ∙ h) f)
+      go (tests w (one_fails r' k' v' f x)) = (w, subst FaultIn (sym x ∙ h) f)
 
   unproved-in : (r k : ℕ) (v : Fault) → WellFormed M s → FaultIn (unproved r k v) → verdict_of M s ≡ unproved r k v
   unproved-in r k v w f = well-formed-is w ∙ fault-found M.events (accepted (count (sheet_of M s))) f
@@ -182,20 +182,20 @@ module _ (M : Model) (s : List ℕ) where
       go : Decided (verdict_of M s) → RefusedFor M s n at
       go (refuses x f e) = subst RefusalIn (sym e ∙ h) f
       go (tests w (all_pass p e)) = absurd (subst IsAccepted (sym (sym h ∙ e)) tt)
-      go (tests w (one-fails r k v f e)) = absurd (subst IsUnproved (sym (sym h ∙ e)) tt)
+      go (tests w (one_fails r k v f e)) = absurd (subst IsUnproved (sym (sym h ∙ e)) tt)
 
   refused-in : {n at : ℕ} → RefusedFor M s n at → verdict_of M s ≡ refused n (some at)
-  refused-in {n} {at} (while-reading {r = r} e) = verdict-is ∙ (ap (verdict_after M s) e ∙ after-refusal n at r)
-  refused-in (wrong-count read others) = whole_is read false (ne_eqb _ _ others)
+  refused-in {n} {at} (while_reading {r = r} e) = verdict-is ∙ (ap (verdict_after M s) e ∙ after-refusal n at r)
+  refused-in (wrong_count read others) = whole_is read false (ne_eqb _ _ others)
 
   -- Demand 3 ------------------------------------------------------------------------------------------------------------
 
   pub accepted-has-body : (n : ℕ) → verdict_of M s ≡ accepted n → HasBody (body (sheet_of M s) 0)
-  accepted-has-body n h = let (w, p, e) = accepted-out n h in first-has-body M s w.reading w.read
+  accepted-has-body n h = let (w, p, e) = accepted-out n h in first_has_body M s w.reading w.read
 
   -- what 26 leaves
   pub accepted-fits : (n : ℕ) → verdict_of M s ≡ accepted n → ChannelsFit (sheet_of M s)
-  accepted-fits n h = let (w, p, e) = accepted-out n h in channels-fit M s w.reading w.read
+  accepted-fits n h = let (w, p, e) = accepted-out n h in channels_fit M s w.reading w.read
 
   module _ (wide : set_events M ≤ M.events) (bytes : Bytes s) where
     -- the rules of an accepted sheet are true
@@ -221,17 +221,17 @@ module _ (M : Model) (s : List ℕ) where
         record {
           stated = refl;
           total = is-total;
-          accepted-iff = λ n. (accepted-out n, λ x. accepted-in x.0 x.1 ∙ ap (λ k. accepted k) (sym x.2));
-          refused-iff = λ n at. (λ e. refused-out n at (reply-refused (verdict_of M s) n at e), λ f. ap reply_of (refused-in f));
-          unproved-iff =
+          accepted_iff = λ n. (accepted-out n, λ x. accepted-in x.0 x.1 ∙ ap (λ k. accepted k) (sym x.2));
+          refused_iff = λ n at. (λ e. refused-out n at (reply-refused (verdict_of M s) n at e), λ f. ap reply_of (refused-in f));
+          unproved_iff =
               λ r k v. (λ e. unproved-out r k v (reply-unproved (verdict_of M s) r k v e), λ x. ap reply_of (unproved-in r k v x.0 x.1));
-          rules-met = accepted-met;
+          rules_met = accepted-met;
           sound = accepted-safe;
           owing = accepted-owing;
-          told-apart = told-apart (sheet_of M s) 0;
-          owned = λ r read all. point-belongs (sheet_of M s) (names-exist M s r read) all (owners-fit M s r read) 0 (first-has-body M s r read);
+          told_apart = told_apart (sheet_of M s) 0;
+          owned = λ r read all. point-belongs (sheet_of M s) (names_exist M s r read) all (owners_fit M s r read) 0 (first_has_body M s r read);
           complete = λ w h c. accepted-in w (exact-pass M.events c h);
-          on-larger = λ M' N. on-larger M M' N s bytes;
+          on_larger = λ M' N. on_larger M M' N s bytes;
           as_before = judged-as-before M s;
         }
 
@@ -241,4 +241,4 @@ loads-as-promised M wide s bytes = loads M s wide bytes
 -- what is owed, said with no numbers, follows from the promise alone
 pub promised-when-open : {M : Model} {s : List ℕ} {answer : Report} → Loads M s answer → (n : ℕ) → answer ≡ accepted n → (ms : List Move)
     → OwingWhenOpen (sheet_of M s) 0 ms
-promised-when-open {M} {s} l n h ms = (owing-when-open (sheet_of M s) 0 ms (l.told-apart ms)).0 (l.owing n h ms)
+promised-when-open {M} {s} l n h ms = (owing_when_open (sheet_of M s) 0 ms (l.told_apart ms)).0 (l.owing n h ms)

@@ -18,7 +18,7 @@ use Rattle.sheet.specs.Model.{Model, word_limit}
 use Rattle.sheet.specs.Sheet.{Sheet, condition}
 use Rattle.sheet.specs.Reading.{is_new, ReadResult, whole, refusal, read_sheet}
 use Rattle.sheet.specs.Decode.{sheet_read}
-use Rattle.verdict.specs.WordTest.{Answer, held, not-held, untested, tested, unless_stray, tested_after, word_test}
+use Rattle.verdict.specs.WordTest.{Answer, held, not_held, untested, tested, unless_stray, tested_after, word_test}
 
 -- The old test ----------------------------------------------------------------------------------------------------------
 
@@ -91,21 +91,21 @@ old-clause4 events left right c i p e = refl
 
 -- the pairs that are reachable by the old sets
 pub data OldReachable (events : ℕ) (left right : Condition) : Pair → Type 0 where
-  old-start : OldReachable events left right (pair 0 1)
-  old-onward : {l s : ℕ} (e q : ℕ) → OldReachable events left right (pair l s) → e < events → T (follows left l q) → T (leaf_holds left q e)
+  old_start : OldReachable events left right (pair 0 1)
+  old_onward : {l s : ℕ} (e q : ℕ) → OldReachable events left right (pair l s) → e < events → T (follows left l q) → T (leaf_holds left q e)
       → OldReachable events left right (pair q (old_step right s e))
 
 pub same-reachable : (events : ℕ) (left right : Condition) (p : Pair) → Reachable events left right p ↔ OldReachable events left right p
 same-reachable events left right p = (λ h. to h, λ h. from h)
   where
     to : {p : Pair} → Reachable events left right p → OldReachable events left right p
-    to start = old-start
+    to start = old_start
     to (onward {l} {s} e q h below n t) =
-        subst (λ (x : ℕ). OldReachable events left right (pair q x)) (sym (same_set right s e)) (old-onward e q (to h) below n t)
+        subst (λ (x : ℕ). OldReachable events left right (pair q x)) (sym (same_set right s e)) (old_onward e q (to h) below n t)
 
     from : {p : Pair} → OldReachable events left right p → Reachable events left right p
-    from old-start = start
-    from (old-onward {l} {s} e q h below n t) =
+    from old_start = start
+    from (old_onward {l} {s} e q h below n t) =
         subst (λ (x : ℕ). Reachable events left right (pair q x)) (same_set right s e) (onward e q (from h) below n t)
 
 -- The answers -----------------------------------------------------------------------------------------------------------
@@ -113,7 +113,7 @@ same-reachable events left right p = (λ h. to h, λ h. from h)
 -- an answer with the length left out
 abbrev pub bare : Answer → OldAnswer
 bare held = says true
-bare (not-held n) = says false
+bare (not_held n) = says false
 bare (untested n at) = refuses n at
 
 -- of one of two answers
@@ -124,7 +124,7 @@ bare-cond false x y = refl
 bare-tested : (r : Condition) (w : Word) → bare (tested r w) ≡ says (old_accepts r w)
 bare-tested r w = go (accepts r w) ∙ ap says (same-accepts r w)
   where
-    go : (b : Bool) → bare (cond b held (not-held (longest r w))) ≡ says b
+    go : (b : Bool) → bare (cond b held (not_held (longest r w))) ≡ says b
     go true = refl
     go false = refl
 

@@ -7,7 +7,7 @@ use native.Mathlib.Omega.{arith}
 use lib.ListN.{length, get_or}
 use Rattle.certificate.specs.Certificate.{Fault}
 use Rattle.verdict.specs.Verdict.{Report, accepted, refused, unproved}
-use Rattle.verdict.specs.WordTest.{Answer, held, not-held, untested}
+use Rattle.verdict.specs.WordTest.{Answer, held, not_held, untested}
 use Rattle.verdict.specs.Reply.{Reply, ◌giving◌, place_value, fault_values, reply_of, answer_reply}
 
 abbrev pub IsAccepted : Report → Type 0
@@ -23,18 +23,18 @@ IsUnproved (unproved r k f) = Unit {0}
 -- yes or no
 abbrev pub IsTested : Answer → Type 0
 IsTested held = Unit {0}
-IsTested (not-held n) = Unit {0}
+IsTested (not_held n) = Unit {0}
 IsTested (untested n at) = ⊥
 
 abbrev pub IsHeld : Answer → Type 0
 IsHeld held = Unit {0}
-IsHeld (not-held n) = ⊥
+IsHeld (not_held n) = ⊥
 IsHeld (untested n at) = ⊥
 
 -- the number that no carries
 abbrev pub length_in : Answer → ℕ
 length_in held = 0
-length_in (not-held n) = n
+length_in (not_held n) = n
 length_in (untested n at) = 0
 
 abbrev IsSome : Option ℕ → Type 0
@@ -82,11 +82,11 @@ reply-unproved (unproved r' k' f') r k f e =
 
 pub reply-untested : (x : Answer) (n : ℕ) (at : Option ℕ) → answer_reply x ≡ n giving place_value at → x ≡ untested n at
 reply-untested held n at e = absurd (has-number e tt)
-reply-untested (not-held k) n at e = absurd (has-number e tt)
+reply-untested (not_held k) n at e = absurd (has-number e tt)
 reply-untested (untested k a) n at e = ap₂ (λ m p. untested m p) (same_number e) (same_place a at (same_length e) (same-value 0 e))
 
 -- yes and no have no number of document 01
 pub tested-number : (x : Answer) → IsTested x → or_zero (answer_reply x).number ≡ 0
 tested-number held t = refl
-tested-number (not-held n) t = refl
+tested-number (not_held n) t = refl
 tested-number (untested n at) t = absurd t

@@ -21,15 +21,15 @@ use Rattle.certificate.proofs.Sound.{sound}
 use Rattle.certificate.proofs.Complete.{complete}
 use Rattle.sheet.specs.Model.{Model, set_events}
 use Rattle.sheet.specs.Each.{Each, nil, cons}
-use Rattle.sheet.specs.Sheet.{Outcome, normal, failed, Point, Declared, Body, Method, CallStep, Step, event-step, call_step, pass_step, stop_step, Sheet, condition, condition_named, past, own, due, declared_in, pre, trace, future, on_channel}
+use Rattle.sheet.specs.Sheet.{Outcome, normal, failed, Point, Declared, Body, Method, CallStep, Step, event_step, call_step, pass_step, stop_step, Sheet, condition, condition_named, past, own, due, declared_in, pre, trace, future, on_channel}
 use Rattle.sheet.specs.Record.{Bytes}
 use Rattle.sheet.specs.Reading.{Reading, whole, read_sheet}
 use Rattle.sheet.specs.Decode.{sheet_of}
 use Rattle.sheet.proofs.Each.{each-head, each_tail, each_append, each-zip}
 use Rattle.sheet_laws.specs.Names.{EventBelow, ChannelFits, StepOnChannel, NoChannel}
 use Rattle.sheet_laws.proofs.Narrow.{conditions-below}
-use Rattle.sheet_laws.proofs.Named.{events-below}
-use Rattle.sheet_laws.proofs.Channels.{channels-fit, no-channels}
+use Rattle.sheet_laws.proofs.Named.{events_below}
+use Rattle.sheet_laws.proofs.Channels.{channels_fit, no_channels}
 use Rattle.runs.specs.Rules.{Claim, ◌is_in◌, holds_empty, Met, Rule, ◌of◌says◌, is_among, if_any, exit_rules, failed_exit_rules, method_rules, return_rules, entry_asked, entry_rules, step_rules, firsts_rules, methods_rules, steps_rules, rules_from, AllMet}
 use Rattle.verdict.specs.Promise.{EachCertified, done, bare, certified, Passes, ExactFor}
 
@@ -73,7 +73,7 @@ read_below n (some c) l r h = exchange-below c n l r h
 
 -- the event of a step and the events of its channel are below n
 abbrev StepBelow : ℕ → Step → Type 0
-StepBelow n (event-step p q a) = a < n
+StepBelow n (event_step p q a) = a < n
 StepBelow n (call_step t) = ChannelBelow n t.channel
 StepBelow n (pass_step p q) = Unit {0}
 StepBelow n (stop_step p) = Unit {0}
@@ -126,7 +126,7 @@ module _ (n : ℕ) (S : Sheet) (below : (c : ℕ) → EventsBelow n (condition S
   method-below starts m none = nil
   method-below starts m (some b) =
       cons (pre-below m) (cons tt
-      (each_append (exit_below 5 m normal b.exit) (if-any b.failed-exit (failed_exit_rules S starts m) (failed-exit-below starts m))))
+      (each_append (exit_below 5 m normal b.exit) (if-any b.failed_exit (failed_exit_rules S starts m) (failed-exit-below starts m))))
 
   return-below : (k i : ℕ) (t : CallStep) → ChannelBelow n t.channel → (o : Outcome) (q : ℕ) → Below (return_rules S k i t o q)
   return-below k i t h o q =
@@ -138,7 +138,7 @@ module _ (n : ℕ) (S : Sheet) (below : (c : ℕ) → EventsBelow n (condition S
       (cons (joined T (due S q) small (due_below q)) nil)))
 
   step-below : (k : ℕ) (t : Step) → StepBelow n t → Below (step_rules S k t)
-  step-below k (event-step p q a) h =
+  step-below k (event_step p q a) h =
       cons (joined (past S p) (event a) (past-below p) (pow-lt h))
       (cons (joined (own S p) (event a) (own_below p) (pow-lt h))
       (cons (joined (event a) (due S q) (pow-lt h) (due_below q)) nil))
@@ -146,7 +146,7 @@ module _ (n : ℕ) (S : Sheet) (below : (c : ℕ) → EventsBelow n (condition S
       cons (past-below t.from)
       (each_append (return-below 11 k t h normal t.to)
       (each_append
-      (if-any t.failed-to (return_rules S 18 k t failed) (return-below 18 k t h failed))
+      (if-any t.failed_to (return_rules S 18 k t failed) (return-below 18 k t h failed))
       (if-any (entry_asked S t.method) (entry_rules S k t) (λ e. cons (due_below e) nil))))
   step-below k (pass_step p q) h = cons (past-below p) (cons (own_below p) (cons (due_below q) nil))
   -- 25 is about the empty word
@@ -179,7 +179,7 @@ module _ (M : Model) (s : List ℕ) (wide : set_events M ≤ M.events) (bytes : 
 
   -- without kind 22 no call is on a channel
   no-channel-below : (t : Step) → EventBelow n t → NoChannel t → StepBelow n t
-  no-channel-below (event-step p q a) h e = h
+  no-channel-below (event_step p q a) h e = h
   no-channel-below (call_step t) h e = rw e tt
   no-channel-below (pass_step p q) h e = tt
   no-channel-below (stop_step p) h e = tt
@@ -190,7 +190,7 @@ module _ (M : Model) (s : List ℕ) (wide : set_events M ≤ M.events) (bytes : 
   channel-below all m (some c) (plain, one, last) = omega arith
 
   fitting-below : 64 ≤ n → (t : Step) → EventBelow n t → StepOnChannel (sheet_of M s) t → StepBelow n t
-  fitting-below all (event-step p q a) h f = h
+  fitting-below all (event_step p q a) h f = h
   fitting-below all (call_step t) h f = channel-below all t.method t.channel f
   fitting-below all (pass_step p q) h f = tt
   fitting-below all (stop_step p) h f = tt
@@ -204,8 +204,8 @@ module _ (M : Model) (s : List ℕ) (wide : set_events M ≤ M.events) (bytes : 
       many e false f l = l
 
       go : (b : Bool) → ltb M.kinds 22 ≡ b → Each (StepBelow n) (sheet_of M s).steps
-      go true e = each-zip no-channel-below (events-below M s r read) (no-channels M s (ltb-true M.kinds 22 e) r read)
-      go false e = each-zip (fitting-below (many e (ltb M.kinds 21) refl wide)) (events-below M s r read) (channels-fit M s r read)
+      go true e = each-zip no-channel-below (events_below M s r read) (no_channels M s (ltb-true M.kinds 22 e) r read)
+      go false e = each-zip (fitting-below (many e (ltb M.kinds 21) refl wide)) (events_below M s r read) (channels_fit M s r read)
 
   pub all-below : (starts : List ℕ) → Each (λ x. LeftBelow n x.claim) (rules_from starts (sheet_of M s))
   all-below starts = rules-below n (sheet_of M s) (conditions-below M s wide bytes) starts each_below

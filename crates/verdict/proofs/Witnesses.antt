@@ -27,9 +27,9 @@ abbrev pub HaveExact : ℕ → List Rule → Type 0
 HaveExact events xs = (cs : List Certificate) × EachCertified (ExactFor events) xs cs
 
 -- EXACT CERTIFICATES EXIST, whether or not the rules are true. They may be more than a sheet's bytes hold.
-pub exact-exist : (events : ℕ) (xs : List Rule) → HaveExact events xs
-exact-exist events [] = ([], done)
-exact-exist events (x ∷ xs) = go x.claim (exact-exist events xs)
+pub exact_exist : (events : ℕ) (xs : List Rule) → HaveExact events xs
+exact_exist events [] = ([], done)
+exact_exist events (x ∷ xs) = go x.claim (exact_exist events xs)
   where
     go : (claim : Claim) → HaveExact events xs → HaveExact events ((x.number of x.subject says claim) ∷ xs)
     go (a is_in b) (cs, h) = let (c, e) = exact-exists events a b in (c ∷ cs, certified e h)
@@ -37,14 +37,14 @@ exact-exist events (x ∷ xs) = go x.claim (exact-exist events xs)
 
 -- so for true rules there are certificates with which each passes its test
 pub passing-exist : (events : ℕ) (xs : List Rule) → AllMet xs → (cs : List Certificate) × EachCertified (Passes events) xs cs
-passing-exist events xs met = let (cs, h) = exact-exist events xs in (cs, all_pass events h met)
+passing-exist events xs met = let (cs, h) = exact_exist events xs in (cs, all_pass events h met)
 
 -- Document 01's sheet M ---------------------------------------------------------------------------------------------------
 
 -- the premises of the second half of demand 3, of the bytes s
 pub record Premises (I : Model) (s : List ℕ) : Type 0 where
-  pub well-formed : WellFormed I s
-  pub true-rules : AllMet (rules (sheet_of I s))
+  pub well_formed : WellFormed I s
+  pub true_rules : AllMet (rules (sheet_of I s))
   pub exact : EachCertified (ExactFor I.events) (rules (sheet_of I s)) (sheet_of I s).certificates
 
 -- a condition without leaves has place 0 alone
@@ -60,8 +60,8 @@ pub start-is-exact : {n : ℕ} (a b : Condition) → leaves a ≡ 0 → Exact n 
 start-is-exact {n} a b no-leaf =
     record {
       start_first = tt;
-      only-reachable = reached;
-      all-reachable = λ p r. (0, omega arith, sym (only-start a b no-leaf r));
+      only_reachable = reached;
+      all_reachable = λ p r. (0, omega arith, sym (only-start a b no-leaf r));
     }
   where
     reached : (i : ℕ) → i < 1 → Reachable n a b (pair_of (pair 0 1 ∷ []) i)
@@ -78,8 +78,8 @@ unfolding leaves
 twice-is-exact {n} =
     record {
       start_first = tt;
-      only-reachable = reached;
-      all-reachable = λ p r. (0, omega arith, sym (only-start empty empty refl r));
+      only_reachable = reached;
+      all_reachable = λ p r. (0, omega arith, sym (only-start empty empty refl r));
     }
   where
     reached : (i : ℕ) → i < 2 → Reachable n empty empty (pair_of (pair 0 1 ∷ pair 0 1 ∷ []) i)
@@ -91,8 +91,8 @@ pub M-premises : Premises large M
 unfolding sheet_of rules certificates_needed
 M-premises =
     record {
-      well-formed = record { reading = _; read = refl; enough = refl };
-      true-rules = cons refl (cons refl (cons in_itself (cons refl (cons in_itself (cons in_itself nil)))));
+      well_formed = record { reading = _; read = refl; enough = refl };
+      true_rules = cons refl (cons refl (cons in_itself (cons refl (cons in_itself (cons in_itself nil)))));
       exact = bare tt (bare tt (certified empty-is-exact (bare tt (certified empty-is-exact (certified empty-is-exact done)))));
     }
 
@@ -104,8 +104,8 @@ pub with-pass-premises : Premises large with_pass
 unfolding sheet_of rules certificates_needed
 with-pass-premises =
     record {
-      well-formed = record { reading = _; read = refl; enough = refl };
-      true-rules =
+      well_formed = record { reading = _; read = refl; enough = refl };
+      true_rules =
           cons refl (cons refl (cons in_itself (cons refl (cons in_itself (cons in_itself
           (cons in_itself (cons in_itself (cons in_itself nil))))))));
       exact =
@@ -115,12 +115,12 @@ with-pass-premises =
 
 pub promised-with-pass : {answer : Report} → Loads large with_pass answer → answer ≡ accepted 9
 unfolding sheet_of count
-promised-with-pass l = l.complete with-pass-premises.well-formed with-pass-premises.true-rules with-pass-premises.exact
+promised-with-pass l = l.complete with-pass-premises.well_formed with-pass-premises.true_rules with-pass-premises.exact
 
 -- so whatever keeps the promise accepts M, and the definition does
 pub promised-M : {answer : Report} → Loads large M answer → answer ≡ accepted 6
 unfolding sheet_of count
-promised-M l = l.complete M-premises.well-formed M-premises.true-rules M-premises.exact
+promised-M l = l.complete M-premises.well_formed M-premises.true_rules M-premises.exact
 
 pub M-accepted : verdict_of large M ≡ accepted 6
 unfolding small

@@ -21,9 +21,9 @@ use Rattle.sheet.specs.Sheet.{condition}
 use Rattle.sheet.specs.Reading.{Reading, ReadResult, whole, refusal, read_sheet}
 use Rattle.sheet.specs.Decode.{sheet_of}
 use Rattle.sheet_laws.proofs.SheetOf.{sheet-is}
-use Rattle.verdict.specs.WordTest.{Answer, held, not-held, untested, tested, unless_stray, tested_after, word_test}
+use Rattle.verdict.specs.WordTest.{Answer, held, not_held, untested, tested, unless_stray, tested_after, word_test}
 use Rattle.verdict.specs.Reply.{answer_reply}
-use Rattle.verdict.specs.Promise.{FindsCondition, FirstStray, WordRefusedFor, sheet-refused, no-such-condition, word-too-long, stray-event, TakesWord, TestsWord, TestsAsPromised}
+use Rattle.verdict.specs.Promise.{FindsCondition, FirstStray, WordRefusedFor, sheet_refused, no_such_condition, word_too_long, stray_event, TakesWord, TestsWord, TestsAsPromised}
 use Rattle.verdict.proofs.Reply.{IsTested, IsHeld, length_in, reply-untested}
 use Rattle.verdict.proofs.Models.{word-on-larger, tested-as-before}
 
@@ -32,12 +32,12 @@ use Rattle.verdict.proofs.Models.{word-on-larger, tested-as-before}
 module _ (r : Condition) (w : Word) where
   -- yes or no, by whether the places accept the word
   abbrev saying : Bool → Answer
-  saying b = cond b held (not-held (longest r w))
+  saying b = cond b held (not_held (longest r w))
 
-  pub tested-either : (tested r w ≡ held) ⊎ ((n : ℕ) × (tested r w ≡ not-held n))
+  pub tested-either : (tested r w ≡ held) ⊎ ((n : ℕ) × (tested r w ≡ not_held n))
   tested-either = go (accepts r w)
     where
-      go : (b : Bool) → (saying b ≡ held) ⊎ ((n : ℕ) × (saying b ≡ not-held n))
+      go : (b : Bool) → (saying b ≡ held) ⊎ ((n : ℕ) × (saying b ≡ not_held n))
       go true = inl refl
       go false = inr (longest r w, refl)
 
@@ -61,17 +61,17 @@ module _ (r : Condition) (w : Word) where
       within false t = absurd t
 
   -- no exactly of the others, with the length of the longest beginning
-  pub tested-no : (n : ℕ) → (tested r w ≡ not-held n) ↔ ((Holds r w → ⊥) × Longest r w n)
+  pub tested-no : (n : ℕ) → (tested r w ≡ not_held n) ↔ ((Holds r w → ⊥) × Longest r w n)
   tested-no n = (
     λ e. let (lacks, same) = out (accepts r w) e in (λ h. lacks ((words r w).1 h), subst (Longest r w) same (longest-meets r w)),
-    λ x. within (accepts r w) (λ t. x.0 ((words r w).0 t)) ∙ ap not-held (sym (longest-only r w n x.1)),
+    λ x. within (accepts r w) (λ t. x.0 ((words r w).0 t)) ∙ ap not_held (sym (longest-only r w n x.1)),
   )
     where
-      out : (b : Bool) → saying b ≡ not-held n → (T b → ⊥) × (longest r w ≡ n)
+      out : (b : Bool) → saying b ≡ not_held n → (T b → ⊥) × (longest r w ≡ n)
       out true e = absurd (subst IsHeld e tt)
       out false e = (λ t. t, ap length_in e)
 
-      within : (b : Bool) → (T b → ⊥) → saying b ≡ not-held (longest r w)
+      within : (b : Bool) → (T b → ⊥) → saying b ≡ not_held (longest r w)
       within true f = absurd (f tt)
       within false f = refl
 
@@ -85,10 +85,10 @@ module _ (n : ℕ) (a : Answer) where
   one-past : (i e : ℕ) (w : Word) → e < n → unless_stray n i (e ∷ w) a ≡ unless_stray n (suc i) w a
   one-past i e w l = stray-is n i e w a ∙ ap (λ (b : Bool). cond b (unless_stray n (suc i) w a) (untested 13 (some i))) (lt-ltb e n l)
 
-  none-stray : (i : ℕ) {w : Word} → Each (λ e. e < n) w → unless_stray n i w a ≡ a
+  none_stray : (i : ℕ) {w : Word} → Each (λ e. e < n) w → unless_stray n i w a ≡ a
   unfolding unless_stray
-  none-stray i nil = refl
-  none-stray i (cons {x = e} {xs = w} l o) = one-past i e w l ∙ none-stray (suc i) o
+  none_stray i nil = refl
+  none_stray i (cons {x = e} {xs = w} l o) = one-past i e w l ∙ none_stray (suc i) o
 
   stray-from : (i : ℕ) (w : Word) (j : ℕ) → FirstStray n w j → unless_stray n i w a ≡ untested 13 (some (i + j))
   stray-from i [] j f = absurd (not-suc-le-zero f.inside)
@@ -106,7 +106,7 @@ module _ (n : ℕ) (a : Answer) where
 -- every event is one, or there is a first that is none
 data Strays (n : ℕ) (w : Word) : Type 0 where
   none_is : Each (λ e. e < n) w → Strays n w
-  first-is : (i : ℕ) → FirstStray n w i → Strays n w
+  first_is : (i : ℕ) → FirstStray n w i → Strays n w
 
 strays : (n : ℕ) (w : Word) → Strays n w
 strays n [] = none_is nil
@@ -121,8 +121,8 @@ strays n (e ∷ w) = go (ltb e n) refl (strays n w)
 
     go : (b : Bool) → ltb e n ≡ b → Strays n w → Strays n (e ∷ w)
     go true l (none_is o) = none_is (cons (ltb-true e n l) o)
-    go true l (first-is i f) = first-is (suc i) (later (ltb-true e n l) i f)
-    go false l rest = first-is 0 (record { inside = omega arith; before = λ j h. absurd (not-suc-le-zero h); stray = ltb-false e n l })
+    go true l (first_is i f) = first_is (suc i) (later (ltb-true e n l) i f)
+    go false l rest = first_is 0 (record { inside = omega arith; before = λ j h. absurd (not-suc-le-zero h); stray = ltb-false e n l })
 
 -- The whole -------------------------------------------------------------------------------------------------------------
 
@@ -158,15 +158,15 @@ module _ (M : Model) (s : List ℕ) (c : ℕ) (w : Word) where
       whole_is f.read false (lt-leb _ c f.exists) ∙ ap (λ (x : Bool). cond x (untested 12 none) (unless_stray M.events 0 w said)) e
 
   pub refused-in : {n : ℕ} {at : Option ℕ} → WordRefusedFor M s c w n at → word_test M s c w ≡ untested n at
-  refused-in (sheet-refused {n} {at} {r} e) = test-is ∙ (ap (tested_after M s c w) e ∙ after-refusal n at r)
-  refused-in (no-such-condition read h) = whole_is read true (le-leb _ c h)
-  refused-in (word-too-long f h) = found-is f true (lt-ltb word_limit _ h)
-  refused-in (stray-event {i} f short first) =
+  refused-in (sheet_refused {n} {at} {r} e) = test-is ∙ (ap (tested_after M s c w) e ∙ after-refusal n at r)
+  refused-in (no_such_condition read h) = whole_is read true (le-leb _ c h)
+  refused-in (word_too_long f h) = found-is f true (lt-ltb word_limit _ h)
+  refused-in (stray_event {i} f short first) =
       let here : 0 + i ≡ i = omega arith in
       found-is f false (le-ltb word_limit _ short) ∙ stray-from M.events said 0 w i first ∙ ap (λ (k : ℕ). untested 13 (some k)) here
 
   pub taken_in : TakesWord M s c w → word_test M s c w ≡ said
-  taken_in t = found-is t.found false (le-ltb word_limit _ t.short) ∙ none-stray M.events said 0 t.none-stray
+  taken_in t = found-is t.found false (le-ltb word_limit _ t.short) ∙ none_stray M.events said 0 t.none_stray
 
   -- refused for the first refusal that applies, or the word is tested
   data Decided : Type 0 where
@@ -177,19 +177,19 @@ module _ (M : Model) (s : List ℕ) (c : ℕ) (w : Word) where
   decided = by-reading (read_sheet M s) refl
     where
       by-events : FindsCondition M s c → length w ≤ word_limit → Strays M.events w → Decided
-      by-events f short (none_is o) = tests (record { found = f; short = short; none-stray = o })
-      by-events f short (first-is i x) = refuses 13 (some i) (stray-event f short x)
+      by-events f short (none_is o) = tests (record { found = f; short = short; none_stray = o })
+      by-events f short (first_is i x) = refuses 13 (some i) (stray_event f short x)
 
       by_length : FindsCondition M s c → (b : Bool) → ltb word_limit (length w) ≡ b → Decided
-      by_length f true e = refuses 12 none (word-too-long f (ltb-true word_limit (length w) e))
+      by_length f true e = refuses 12 none (word_too_long f (ltb-true word_limit (length w) e))
       by_length f false e = by-events f (ltb-false word_limit (length w) e) (strays M.events w)
 
       by_number : (r : Reading) → read_sheet M s ≡ whole r → (b : Bool) → leb (length (sheet_of M s).conditions) c ≡ b → Decided
-      by_number r read true e = refuses 14 none (no-such-condition read (leb-true _ c e))
+      by_number r read true e = refuses 14 none (no_such_condition read (leb-true _ c e))
       by_number r read false e = by_length (record { reading = r; read = read; exists = leb-false _ c e }) (ltb word_limit (length w)) refl
 
       by-reading : (x : ReadResult) → read_sheet M s ≡ x → Decided
-      by-reading (refusal n at r) e = refuses n (some at) (sheet-refused e)
+      by-reading (refusal n at r) e = refuses n (some at) (sheet_refused e)
       by-reading (whole r) e = by_number r e (leb (length (sheet_of M s).conditions) c) refl
 
   taken_out : {answer : Answer} → word_test M s c w ≡ answer → IsTested answer → TakesWord M s c w
@@ -201,7 +201,7 @@ module _ (M : Model) (s : List ℕ) (c : ℕ) (w : Word) where
 
   abbrev RefusalIn : Answer → Type 0
   RefusalIn held = ⊥
-  RefusalIn (not-held n) = ⊥
+  RefusalIn (not_held n) = ⊥
   RefusalIn (untested n at) = WordRefusedFor M s c w n at
 
   refused-out : (n : ℕ) (at : Option ℕ) → word_test M s c w ≡ untested n at → WordRefusedFor M s c w n at
@@ -214,7 +214,7 @@ module _ (M : Model) (s : List ℕ) (c : ℕ) (w : Word) where
   yes-out : TakesWord M s c w → word_test M s c w ≡ held → TakesWord M s c w × Holds (condition (sheet_of M s) c) w
   yes-out t e = (t, (tested-yes (condition (sheet_of M s) c) w).0 (sym (taken_in t) ∙ e))
 
-  no-out : (n : ℕ) → TakesWord M s c w → word_test M s c w ≡ not-held n
+  no-out : (n : ℕ) → TakesWord M s c w → word_test M s c w ≡ not_held n
       → TakesWord M s c w × (Holds (condition (sheet_of M s) c) w → ⊥) × Longest (condition (sheet_of M s) c) w n
   no-out n t e = let (lacks, most) = (tested-no (condition (sheet_of M s) c) w n).0 (sym (taken_in t) ∙ e) in (t, lacks, most)
 
@@ -225,9 +225,9 @@ module _ (M : Model) (s : List ℕ) (c : ℕ) (w : Word) where
         stated = refl;
         yes_iff = (λ e. yes-out (taken_out e tt) e, λ x. taken_in x.0 ∙ (tested-yes (condition (sheet_of M s) c) w).1 x.1);
         no_iff = λ n. (λ e. no-out n (taken_out e tt) e, λ x. taken_in x.0 ∙ (tested-no (condition (sheet_of M s) c) w n).1 (x.1, x.2));
-        tests-all = λ t. subst (λ (a : Answer). (a ≡ held) ⊎ ((n : ℕ) × (a ≡ not-held n))) (sym (taken_in t)) (tested-either (condition (sheet_of M s) c) w);
-        refused-iff = λ n at. (λ e. refused-out n at (reply-untested (word_test M s c w) n at e), λ f. ap answer_reply (refused-in f));
-        on-larger = λ M' N. word-on-larger M M' N s c w;
+        tests_all = λ t. subst (λ (a : Answer). (a ≡ held) ⊎ ((n : ℕ) × (a ≡ not_held n))) (sym (taken_in t)) (tested-either (condition (sheet_of M s) c) w);
+        refused_iff = λ n at. (λ e. refused-out n at (reply-untested (word_test M s c w) n at e), λ f. ap answer_reply (refused-in f));
+        on_larger = λ M' N. word-on-larger M M' N s c w;
         as_before = λ k l. tested-as-before M s k l c w;
       }
 

@@ -7,7 +7,7 @@ use Rattle.sheet.specs.Model.{large}
 use Rattle.sheet.specs.Sheet.{condition}
 use Rattle.sheet.specs.Decode.{sheet_of}
 use Rattle.verdict.specs.Verdict.{verdict_of}
-use Rattle.verdict.specs.WordTest.{Answer, held, not-held, untested, word_test}
+use Rattle.verdict.specs.WordTest.{Answer, held, not_held, untested, word_test}
 use Rattle.verdict.specs.Line.{ascii, line, answer_line}
 
 -- a sheet's bytes and the line that the loading program prints; or a sheet's bytes, the number of a condition of it, a word, the word test's answer and
@@ -19,7 +19,7 @@ pub data Case : Type 0 where
 -- what an answer says of a word in the language of a condition
 abbrev pub Says : Answer → Condition → Word → Type 0
 Says held r w = Holds r w
-Says (not-held n) r w = (Holds r w → ⊥) × Longest r w n
+Says (not_held n) r w = (Holds r w → ⊥) × Longest r w n
 Says (untested n at) r w = ⊥
 
 -- the definitions answer as the document says; of a word, the word test gives the answer, its line is printed, and what it says is so in the language
@@ -70,6 +70,6 @@ cases =
     ∷ word W 0 [] held "yes"
     ∷ word W 0 (2 ∷ []) held "yes"
     ∷ word W 0 (2 ∷ 0 ∷ []) held "yes"
-    ∷ word W 0 (0 ∷ []) (not-held 0) "no 0"
-    ∷ word W 0 (0 ∷ 2 ∷ []) (not-held 0) "no 0"
+    ∷ word W 0 (0 ∷ []) (not_held 0) "no 0"
+    ∷ word W 0 (0 ∷ 2 ∷ []) (not_held 0) "no 0"
     ∷ []

@@ -5,7 +5,7 @@ use Prim.Native.Char.{code}
 use Rattle.std.proofs.Math.Option.{Option}
 use Rattle.runs.specs.Rules.{of_method}
 use Rattle.verdict.specs.Verdict.{Report, accepted, refused, unproved}
-use Rattle.verdict.specs.WordTest.{Answer, held, not-held, untested}
+use Rattle.verdict.specs.WordTest.{Answer, held, not_held, untested}
 use Rattle.verdict.specs.Reply.{reply_of, answer_reply}
 
 -- the bytes of a text in ASCII
@@ -55,5 +55,5 @@ line (unproved r k f) = labelled (unproved_texts r) (reply_of (unproved r k f)).
 unfoldable pub answer_line : Answer → List ℕ
 unfolding ascii decimal
 answer_line held = ascii "yes"
-answer_line (not-held n) = labelled (ascii "no " ∷ []) (answer_reply (not-held n)).values
+answer_line (not_held n) = labelled (ascii "no " ∷ []) (answer_reply (not_held n)).values
 answer_line (untested n at) = refused_line n at

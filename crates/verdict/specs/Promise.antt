@@ -16,7 +16,7 @@ use Rattle.runs.specs.Runs.{Move, run, Safe}
 use Rattle.runs.specs.Owing.{Owing, ToldApart}
 use Rattle.runs.specs.Owners.{AllOwned, Belongs}
 use Rattle.verdict.specs.Verdict.{Report, accepted, refused, unproved, test_of, certificates_needed, next_of, verdict_of}
-use Rattle.verdict.specs.WordTest.{Answer, held, not-held, word_test}
+use Rattle.verdict.specs.WordTest.{Answer, held, not_held, word_test}
 use Rattle.verdict.specs.Reply.{Reply, ◌giving◌, place_value, fault_values, reply_of, answer_reply}
 
 -- Of a sheet's bytes ----------------------------------------------------------------------------------------------------
@@ -54,18 +54,18 @@ pub record FirstFault (events : ℕ) (xs : List Rule) (cs : List Certificate) (r
   pub after : List Rule
   pub used : List Certificate
   pub unused : List Certificate
-  pub rules-are : xs ≡ before ++ ((rule of subject says failing) ∷ after)
-  pub certificates-are : cs ≡ used ++ unused
-  pub before-pass : EachCertified (Passes events) before used
+  pub rules_are : xs ≡ before ++ ((rule of subject says failing) ∷ after)
+  pub certificates_are : cs ≡ used ++ unused
+  pub before_pass : EachCertified (Passes events) before used
   pub fails : test_of events failing (next_of unused) ≡ found f
 
 -- one of the refusals 1 to 10, 18 to 20 and 24 to 26 applies, and the first of them has this number and place; what they are but 10 is said by
 -- sheet/specs/Reading
 pub data RefusedFor (M : Model) (s : List ℕ) : ℕ → ℕ → Type 0 where
   -- 1 to 9, 18 to 20 and 24 to 26: reading ends with it
-  while-reading : {n at : ℕ} {r : Reading} → read_sheet M s ≡ refusal n at r → RefusedFor M s n at
+  while_reading : {n at : ℕ} {r : Reading} → read_sheet M s ≡ refusal n at r → RefusedFor M s n at
   -- 10, "length": "certificates are more or fewer than the rules need"
-  wrong-count : {r : Reading} → read_sheet M s ≡ whole r
+  wrong_count : {r : Reading} → read_sheet M s ≡ whole r
       → (length (sheet_of M s).certificates ≡ certificates_needed (rules (sheet_of M s)) → ⊥) → RefusedFor M s 10 (length s)
 
 -- Of two instruments ----------------------------------------------------------------------------------------------------
@@ -79,27 +79,27 @@ pub data LikeLarger {A : Type 0} (reply : A → Reply) (M M' : Model) (s : List 
   -- "6 comes at the 65th point"; what the larger one makes of the sheet is not said
   over-limit : {at : ℕ} → M.points < M'.points → reply a ≡ 6 giving (at ∷ []) → LikeLarger reply M M' s a b
   -- a record of a kind that only the larger one takes
-  unknown-kind : {at : ℕ} → M.kinds < byte_at s at → byte_at s at ≤ M'.kinds → reply a ≡ 2 giving (at ∷ []) → LikeLarger reply M M' s a b
+  unknown_kind : {at : ℕ} → M.kinds < byte_at s at → byte_at s at ≤ M'.kinds → reply a ≡ 2 giving (at ∷ []) → LikeLarger reply M M' s a b
   -- an event step, whose event only the larger one has
-  step-above : {at : ℕ} → byte_at s at ≡ 10 → M.events ≤ byte_at s (at + 5) → byte_at s (at + 5) < M'.events → reply a ≡ 7 giving (at ∷ [])
+  step_above : {at : ℕ} → byte_at s at ≡ 10 → M.events ≤ byte_at s (at + 5) → byte_at s (at + 5) < M'.events → reply a ≡ 7 giving (at ∷ [])
       → LikeLarger reply M M' s a b
   -- "accepted by the large one with an equal count", and so every other answer
   the_same : a ≡ b → LikeLarger reply M M' s a b
 
 -- The same of the word test's answers on the word w: there is 13, too, where the instrument has fewer events
 pub data TestsLikeLarger (M M' : Model) (s : List ℕ) (w : Word) (a b : Answer) : Type 0 where
-  as-loaded : LikeLarger answer_reply M M' s a b → TestsLikeLarger M M' s w a b
+  as_loaded : LikeLarger answer_reply M M' s a b → TestsLikeLarger M M' s w a b
   -- a word with an event that only the larger one has
-  word-above : {i : ℕ} → M.events ≤ get_or w i 0 → get_or w i 0 < M'.events → answer_reply a ≡ 13 giving (i ∷ []) → TestsLikeLarger M M' s w a b
+  word_above : {i : ℕ} → M.events ≤ get_or w i 0 → get_or w i 0 < M'.events → answer_reply a ≡ 13 giving (i ∷ []) → TestsLikeLarger M M' s w a b
 
 -- Request 8, of the loader
 pub record OnLarger (M M' : Model) (s : List ℕ) (a b : Report) : Type 0 where
   pub like : LikeLarger reply_of M M' s a b
   -- "A sheet that the small one accepts is accepted by the large one with an equal count"
-  pub accepted-too : (n : ℕ) → a ≡ accepted n → b ≡ accepted n
+  pub accepted_too : (n : ℕ) → a ≡ accepted n → b ≡ accepted n
   -- "a refusal there of a lone sheet by the loader, not 1 or 6, is the large one's too": its number and its values, 11 included; 2 where both take the
   -- same kinds, and 7 where both have as many events
-  pub refused-too : (n : ℕ) (values : List ℕ) → reply_of a ≡ n giving values → (n ≡ 1 → ⊥) → (n ≡ 6 → ⊥) → (n ≡ 2 → M.kinds ≡ M'.kinds)
+  pub refused_too : (n : ℕ) (values : List ℕ) → reply_of a ≡ n giving values → (n ≡ 1 → ⊥) → (n ≡ 6 → ⊥) → (n ≡ 2 → M.kinds ≡ M'.kinds)
       → (n ≡ 7 → M.events ≡ M'.events) → reply_of b ≡ n giving values
 
 -- "State it over both limits as parameters": of any two instruments, whatever their limits, and all bytes; of the word test too (proofs/Models)
@@ -111,16 +111,16 @@ ModelsAgree =
 -- "judged as before" (Ask 4, and so of each request that brings kinds): before, when an instrument M took the kinds up to k only, its answer was 2 at a
 -- record of a kind above k, or it was the present answer. A sheet without such kinds has no such record.
 pub data AsBefore {A : Type 0} (reply : A → Reply) (k : ℕ) (M : Model) (s : List ℕ) (before present : A) : Type 0 where
-  of-new-kind : {at : ℕ} → k < byte_at s at → byte_at s at ≤ M.kinds → reply before ≡ 2 giving (at ∷ []) → AsBefore reply k M s before present
-  the-same-answer : before ≡ present → AsBefore reply k M s before present
+  of_new_kind : {at : ℕ} → k < byte_at s at → byte_at s at ≤ M.kinds → reply before ≡ 2 giving (at ∷ []) → AsBefore reply k M s before present
+  the_same_answer : before ≡ present → AsBefore reply k M s before present
 
 -- Of the loader ---------------------------------------------------------------------------------------------------------
 
 -- "accepted with a count, refused with a number and place, or unproved with the first rule that fails"
 pub data AnswerForm : Report → Type 0 where
-  with-count : (n : ℕ) → AnswerForm (accepted n)
-  with-place : (n at : ℕ) → AnswerForm (refused n (some at))
-  with-fault : (r k : ℕ) (f : Fault) → AnswerForm (unproved r k f)
+  with_count : (n : ℕ) → AnswerForm (accepted n)
+  with_place : (n at : ℕ) → AnswerForm (refused n (some at))
+  with_fault : (r k : ℕ) (f : Fault) → AnswerForm (unproved r k f)
 
 -- What the loader promises of its answer to the bytes s, for every s, on an instrument that has at least the events that a leaf's set can hold
 -- (`LoadsAsPromised` below). With fewer events clause 4 would leave some events of a leaf untested.
@@ -130,21 +130,21 @@ pub record Loads (M : Model) (s : List ℕ) (answer : Report) : Type 0 where
   -- Demand 1: "The loader is total on every byte string"
   pub total : AnswerForm answer
   -- Demand 2: "A sheet is accepted exactly if it is well formed and passes all rule tests", with the count of the formula
-  pub accepted-iff : (n : ℕ) → (answer ≡ accepted n)
+  pub accepted_iff : (n : ℕ) → (answer ≡ accepted n)
       ↔ (WellFormed M s × EachCertified (Passes M.events) (rules (sheet_of M s)) (sheet_of M s).certificates × (n ≡ count (sheet_of M s)))
   -- "else the first fault is named": a refusal's number and place exactly if it is the first that applies,
-  pub refused-iff : (n at : ℕ) → (reply_of answer ≡ n giving (at ∷ [])) ↔ RefusedFor M s n at
+  pub refused_iff : (n at : ℕ) → (reply_of answer ≡ n giving (at ∷ [])) ↔ RefusedFor M s n at
   -- and "11, rule, subject, clause, pair, event, place" exactly if the sheet is "well formed, and this is the first fault"
-  pub unproved-iff : (r k : ℕ) (f : Fault) → (reply_of answer ≡ 11 giving (r ∷ k ∷ fault_values f))
+  pub unproved_iff : (r k : ℕ) (f : Fault) → (reply_of answer ≡ 11 giving (r ∷ k ∷ fault_values f))
       ↔ (WellFormed M s × FirstFault M.events (rules (sheet_of M s)) (sheet_of M s).certificates r k f)
   -- the rules of an accepted sheet are true, whoever wrote its point conditions and certificates
-  pub rules-met : (n : ℕ) → answer ≡ accepted n → AllMet (rules (sheet_of M s))
+  pub rules_met : (n : ℕ) → answer ≡ accepted n → AllMet (rules (sheet_of M s))
   -- Demand 3: "If a sheet is accepted .. then after EVERY list of moves" the state of the run is safe
   pub sound : (n : ℕ) → answer ≡ accepted n → (ms : List Move) → Safe (sheet_of M s) (run (sheet_of M s) 0 ms)
   -- Request 12: "In an accepted sheet, after a call has returned, ..", after every list of moves, also of one that stops, what is owed then holds
   pub owing : (n : ℕ) → answer ≡ accepted n → (ms : List Move) → Owing (sheet_of M s) (run (sheet_of M s) 0 ms)
   -- and the activations that it speaks of are told apart, in the runs of every sheet
-  pub told-apart : (ms : List Move) → ToldApart (sheet_of M s) 0 ms
+  pub told_apart : (ms : List Move) → ToldApart (sheet_of M s) 0 ms
   -- Request 9: "If all points have owners, the point of a run belongs to the active method as long as a call is open", at a stop too, in the runs of every
   -- sheet that is read whole
   pub owned : (r : Reading) → read_sheet M s ≡ whole r → AllOwned (sheet_of M s) → (ms : List Move) → Belongs (sheet_of M s) (run (sheet_of M s) 0 ms)
@@ -153,7 +153,7 @@ pub record Loads (M : Model) (s : List ℕ) (answer : Report) : Type 0 where
       → answer ≡ accepted (count (sheet_of M s))
   -- Request 8: the answer of an instrument that is no smaller is this one, unless this one is 1, 6, 2 at a kind that only the other takes,
   -- or 7 at an event that only the other has; so of the two-channel instruments and the four-channel one
-  pub on-larger : (M' : Model) → NoLarger M M' → OnLarger M M' s answer (verdict_of M' s)
+  pub on_larger : (M' : Model) → NoLarger M M' → OnLarger M M' s answer (verdict_of M' s)
   -- Requests 2, 4, 9 and 11: a sheet that does not use the kinds above k is judged as by an instrument that takes none of them
   pub as_before : (k : ℕ) → k ≤ M.kinds → AsBefore reply_of k M s (verdict_of (with_kinds k M) s) answer
 
@@ -177,17 +177,17 @@ pub record FirstStray (events : ℕ) (w : Word) (i : ℕ) : Type 0 where
 
 -- one of the refusals applies, and the first of them, in the order "1 to 9, then 14, 12, 13", has this number and place
 pub data WordRefusedFor (M : Model) (s : List ℕ) (c : ℕ) (w : Word) : ℕ → Option ℕ → Type 0 where
-  sheet-refused : {n at : ℕ} {r : Reading} → read_sheet M s ≡ refusal n at r → WordRefusedFor M s c w n (some at)
-  no-such-condition : {r : Reading} → read_sheet M s ≡ whole r → length (sheet_of M s).conditions ≤ c → WordRefusedFor M s c w 14 none
-  word-too-long : FindsCondition M s c → word_limit < length w → WordRefusedFor M s c w 12 none
-  stray-event : {i : ℕ} → FindsCondition M s c → length w ≤ word_limit → FirstStray M.events w i → WordRefusedFor M s c w 13 (some i)
+  sheet_refused : {n at : ℕ} {r : Reading} → read_sheet M s ≡ refusal n at r → WordRefusedFor M s c w n (some at)
+  no_such_condition : {r : Reading} → read_sheet M s ≡ whole r → length (sheet_of M s).conditions ≤ c → WordRefusedFor M s c w 14 none
+  word_too_long : FindsCondition M s c → word_limit < length w → WordRefusedFor M s c w 12 none
+  stray_event : {i : ℕ} → FindsCondition M s c → length w ≤ word_limit → FirstStray M.events w i → WordRefusedFor M s c w 13 (some i)
 
 -- the words that the test takes: no refusal applies
 pub record TakesWord (M : Model) (s : List ℕ) (c : ℕ) (w : Word) : Type 0 where
   pub found : FindsCondition M s c
   -- nor 12, 13
   pub short : length w ≤ word_limit
-  pub none-stray : Each (λ e. e < M.events) w
+  pub none_stray : Each (λ e. e < M.events) w
 
 -- What the word test promises of its answer to the bytes s, the condition's number c and the word w, for every s, c and w, on every instrument.
 pub record TestsWord (M : Model) (s : List ℕ) (c : ℕ) (w : Word) (answer : Answer) : Type 0 where
@@ -196,15 +196,15 @@ pub record TestsWord (M : Model) (s : List ℕ) (c : ℕ) (w : Word) (answer : A
   -- Demand 2: "The word test is exactly the regular language": of the words that it takes, it says yes exactly of the condition's
   pub yes_iff : (answer ≡ held) ↔ (TakesWord M s c w × Holds (condition (sheet_of M s) c) w)
   -- and no of each other. Request 3: no carries "the length of the longest beginning of the word that begins some word of the condition"
-  pub no_iff : (n : ℕ) → (answer ≡ not-held n)
+  pub no_iff : (n : ℕ) → (answer ≡ not_held n)
       ↔ (TakesWord M s c w × (Holds (condition (sheet_of M s) c) w → ⊥) × Longest (condition (sheet_of M s) c) w n)
   -- one of both of each word that it takes
-  pub tests-all : TakesWord M s c w → (answer ≡ held) ⊎ ((n : ℕ) × (answer ≡ not-held n))
+  pub tests_all : TakesWord M s c w → (answer ≡ held) ⊎ ((n : ℕ) × (answer ≡ not_held n))
   -- and else it names the first refusal that applies
-  pub refused-iff : (n : ℕ) (at : Option ℕ) → (answer_reply answer ≡ n giving place_value at) ↔ WordRefusedFor M s c w n at
+  pub refused_iff : (n : ℕ) (at : Option ℕ) → (answer_reply answer ≡ n giving place_value at) ↔ WordRefusedFor M s c w n at
   -- Request 8: the answer of an instrument that is no smaller is this one, unless this one is 1, 6, 2 at a kind that only the other takes,
   -- or 7 or 13 at an event that only the other has
-  pub on-larger : (M' : Model) → NoLarger M M' → TestsLikeLarger M M' s w answer (word_test M' s c w)
+  pub on_larger : (M' : Model) → NoLarger M M' → TestsLikeLarger M M' s w answer (word_test M' s c w)
   -- Requests 2, 4, 9 and 11: a sheet that does not use the kinds above k is tested as by an instrument that takes none of them
   pub as_before : (k : ℕ) → k ≤ M.kinds → AsBefore answer_reply k M s (word_test (with_kinds k M) s c w) answer
 

@@ -4,7 +4,7 @@ use Rattle.std.specs.Prelude.{ℕ, List, [], ◌∷◌}
 use Rattle.std.proofs.Math.Option.{Option, none, some}
 use Rattle.certificate.specs.Certificate.{Fault}
 use Rattle.verdict.specs.Verdict.{Report, accepted, refused, unproved}
-use Rattle.verdict.specs.WordTest.{Answer, held, not-held, untested}
+use Rattle.verdict.specs.WordTest.{Answer, held, not_held, untested}
 
 -- the number in the table's first column, none where the sheet is accepted or the word tested, and the values behind it
 pub record Reply : Type 0 where
@@ -34,5 +34,5 @@ reply_of (unproved r k f) = 11 giving (r ∷ k ∷ fault_values f)
 -- of the word test, yes has neither, and no has no number but the length of the longest beginning; "12", "13, index", "14", and those of reading
 abbrev pub answer_reply : Answer → Reply
 answer_reply held = record { number = none; values = [] }
-answer_reply (not-held n) = record { number = none; values = n ∷ [] }
+answer_reply (not_held n) = record { number = none; values = n ∷ [] }
 answer_reply (untested n at) = n giving place_value at

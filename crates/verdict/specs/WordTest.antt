@@ -13,7 +13,7 @@ pub data Answer : Type 0 where
   -- yes
   held : Answer
   -- no. Document 02, Ask 3: "The word test's no now carries the length of the longest beginning of the word that begins some word of the condition."
-  not-held : (longest : ℕ) → Answer
+  not_held : (longest : ℕ) → Answer
   -- a refusal's number, and its place where it has one
   untested : (number : ℕ) (at : Option ℕ) → Answer
 
@@ -21,7 +21,7 @@ pub data Answer : Type 0 where
 abbrev pub tested : Condition → Word → Answer
 tested r w =
     let n = longest r w in
-    cond (accepts r w) held (not-held n)
+    cond (accepts r w) held (not_held n)
 
 -- 13, "index": "an event above 31, first such index", from the index i on; without one, the answer `otherwise`
 unfoldable pub unless_stray : ℕ → ℕ → Word → Answer → Answer

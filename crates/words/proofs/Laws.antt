@@ -12,8 +12,8 @@ use Rattle.sheet.specs.Model.{Model}
 use Rattle.sheet.specs.Sheet.{condition}
 use Rattle.sheet.specs.Decode.{sheet_of}
 use Rattle.sheet.proofs.Each.{each_index}
-use Rattle.verdict.specs.WordTest.{Answer, held, not-held, untested, tested, word_test}
-use Rattle.verdict.specs.Promise.{TestsWord, FindsCondition, sheet-refused, no-such-condition, word-too-long, stray-event}
+use Rattle.verdict.specs.WordTest.{Answer, held, not_held, untested, tested, word_test}
+use Rattle.verdict.specs.Promise.{TestsWord, FindsCondition, sheet_refused, no_such_condition, word_too_long, stray_event}
 use Rattle.verdict.proofs.WordTest.{tests-word, refused-in, taken_in}
 use Rattle.instrument.specs.declared.Instrument.{Instrument}
 use Rattle.instrument.specs.declared.Limits.{Limits}
@@ -31,12 +31,12 @@ use Rattle.words.specs.Stray.{StrayOrEnd}
 -- what matching tells, as an answer
 abbrev pub told : Matched → Answer
 told Yes = held
-told (No n) = not-held n
+told (No n) = not_held n
 
 told_is : (r : Condition) (w : Word) → told (matched r w) ≡ tested r w
 told_is r w = go (accepts r w)
   where
-    go : (b : Bool) → told (cond b Yes (No (longest r w))) ≡ cond b held (not-held (longest r w))
+    go : (b : Bool) → told (cond b Yes (No (longest r w))) ≡ cond b held (not_held (longest r w))
     go true = refl
     go false = refl
 
@@ -46,29 +46,29 @@ module _ {M : Model} {s : List ℕ} {c : Contents} (t : ReadWhole M s c) where
 
   module _ (k : ℕ) (w : List ℕ) where
     pub condition-missing : c.tally.conditions ≤ k → untested 14 none ≡ word_test M s k w
-    condition-missing h = sym (refused-in M s k w (no-such-condition t.result (omega (arith, conditions-are t))))
+    condition-missing h = sym (refused-in M s k w (no_such_condition t.result (omega (arith, conditions-are t))))
 
     module _ (there : k < length (sheet_of M s).conditions) where
       finds : FindsCondition M s k
       finds = record { reading = _; read = t.result; exists = there }
 
       pub too_long : 4096 < length w → untested 12 none ≡ word_test M s k w
-      too_long h = sym (refused-in M s k w (word-too-long finds h))
+      too_long h = sym (refused-in M s k w (word_too_long finds h))
 
       module _ (short : length w ≤ 4096) where
         pub stray-at : (r : ℕ) → StrayOrEnd M.events w r → r < length w → untested 13 (some r) ≡ word_test M s k w
-        stray-at r f l = sym (refused-in M s k w (stray-event finds short (record { inside = l; before = f.before; stray = f.stops l })))
+        stray-at r f l = sym (refused-in M s k w (stray_event finds short (record { inside = l; before = f.before; stray = f.stops l })))
 
         pub word-tested : ((i : ℕ) → i < length w → get_or w i 0 < M.events) → (m : Matched) → m ≡ matched (condition (sheet_of M s) k) w → told m ≡ word_test M s k w
         word-tested below m e =
             ap told e
             ∙ told_is (condition (sheet_of M s) k) w
-            ∙ sym (taken_in M s k w (record { found = finds; short = short; none-stray = each_index _ 0 w below }))
+            ∙ sym (taken_in M s k w (record { found = finds; short = short; none_stray = each_index _ 0 w below }))
 
 module _ (M : Model) (s : List ℕ) (k : ℕ) (w : List ℕ) where
   -- a refusal that is met while reading
   pub untested-by : {x : Refusal} → Refuses M s x → untested (number_of x) (place_of x) ≡ word_test M s k w
-  untested-by {x} h = ap (untested (number_of x)) h.placed ∙ sym (refused-in M s k w (sheet-refused h.result))
+  untested-by {x} h = ap (untested (number_of x)) h.placed ∙ sym (refused-in M s k w (sheet_refused h.result))
 
   -- the definition's answer keeps the promise
   pub keeps : {r : Answer} → r ≡ word_test M s k w → TestsWord M s k w r

@@ -21,7 +21,7 @@ pub sides_of-question-requires : goal.sides_of-question-requires
 sides_of-question-requires c = let room = c.loop-claim.invariant.0 in (room.stack, room.left, room.right)
 
 pub test-tested-requires : goal.test-tested-requires
-test-tested-requires c = let room = c.loop-claim.invariant.0 in record { events_bound = c.requires.events_bound; missing_len = (room.missing-long, room.rows_long) }
+test-tested-requires c = let room = c.loop-claim.invariant.0 in record { events_bound = c.requires.events_bound; missing_len = (room.missing_long, room.rows_long) }
 
 pub returns-in_default-tested : goal.returns-in_default-tested
 returns-in_default-tested c =
@@ -37,7 +37,7 @@ pub loop-claim-preserved : goal.loop-claim-preserved
 loop-claim-preserved c =
     let sides = c.sides_of-question.ensures in
     let tested = c.test-tested.ensures in (
-      record { stack = sides.room; left = sides.rows.0; right = sides.rows.1; missing-long = tested.room.0; rows_long = tested.room.1 },
+      record { stack = sides.room; left = sides.rows.0; right = sides.rows.1; missing_long = tested.room.0; rows_long = tested.room.1 },
       λ S x.
           let h = c.loop-claim.invariant.1 S x in
           let g = next-claim _ S _ c.in-Claim.is (c.next_claim-next.ensures.next S h.left x h.left_at) in

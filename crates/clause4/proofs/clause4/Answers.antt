@@ -9,7 +9,7 @@ returns c =
     let a = c.args in
     let p = c.requires in record {
       finding = c.first_missing-finding.ensures
-          ∙ clause4-is a.scope.events a.scope.n a.ask.followers a.scope.alive c.below-mask.result a.lsets.now c.below-mask.ensures p.0.alive-is c.want.ensures
+          ∙ clause4-is a.scope.events a.scope.n a.ask.followers a.scope.alive c.below-mask.result a.lsets.now c.below-mask.ensures p.0.alive_is c.want.ensures
           (certificate_at a.pairs.now 0) a.ask.pair a.scope.m a.ask.onward a.rsets.now c.serve-rest.ensures.rest;
       rows = c.serve-rest.ensures.rest.long;
       hint = c.serve-rest.ensures.hint;

@@ -12,13 +12,13 @@ use Rattle.clause4.proofs.serve.Goals.{After-skip-i, Joined-looked, Then-i-to, t
 pub loop-missers-init : goal.loop-missers-init
 loop-missers-init c =
     let p = c.requires in
-    (going-none _ _ _ _ _ _ _ p.0.count-is c.start_of-start.ensures.bound.0 c.start_of-start.ensures.bound.1 p.1 (search rules), hint-none p.0.count-is)
+    (going-none _ _ _ _ _ _ _ p.0.count_is c.start_of-start.ensures.bound.0 c.start_of-start.ensures.bound.1 p.1 (search rules), hint-none p.0.count_is)
 
 pub skip-i-requires : goal.skip-i-requires
 skip-i-requires c =
     let p = c.requires in
     let g = c.loop-missers.invariant.0 in
-    (p.0, g.stands.reached, omega (arith, stands-within g.stands, p.0.count-is), g.long)
+    (p.0, g.stands.reached, omega (arith, stands-within g.stands, p.0.count_is), g.long)
 
 -- the pairs up to the next one to look at are passed over
 passed : (c : After-skip-i)
@@ -33,7 +33,7 @@ is-pair : (c : Then-i-to) → c.skip-i.result < c.args.scope.count
 is-pair c = omega (
   arith,
   going-inside _ _ _ _ _ _ _ (going-passed _ _ _ _ _ _ _ c.loop-missers.invariant.0 c.skip-i.ensures.0 c.skip-i.ensures.1) c.if-i-to.true,
-  c.requires.0.count-is,
+  c.requires.0.count_is,
 )
 
 pub look-looked-requires : goal.look-looked-requires

@@ -11,10 +11,10 @@ in_turn-requires c = (
   record {
     scoped =
         record {
-          searched = record { count-is = c.survey-count.ensures.count; few-right = omega (arith, c.places_of-m.ensures.few); kept-is = c.survey-count.ensures.rows };
-          few-events = c.requires.events_bound;
-          few-left = omega (arith, c.places_of-n.ensures.few);
-          alive-is = c.active.ensures;
+          searched = record { count_is = c.survey-count.ensures.count; few_right = omega (arith, c.places_of-m.ensures.few); kept_is = c.survey-count.ensures.rows };
+          few_events = c.requires.events_bound;
+          few_left = omega (arith, c.places_of-n.ensures.few);
+          alive_is = c.active.ensures;
         };
     lefts = c.places_of-n.ensures;
     rights = c.places_of-m.ensures;

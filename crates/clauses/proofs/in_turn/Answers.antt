@@ -22,7 +22,7 @@ loop-i-init c =
     (search rules, λ l g tl tg. refl, c.requires.1, record { bound = omega arith; served = none-served (certificate_at a.pairs.now 0) a.task.scope a.lsets.now a.rsets.now 0 })
 
 pub known_pair-requires : goal.known_pair-requires
-known_pair-requires c = omega (arith, c.requires.0.scoped.searched.count-is)
+known_pair-requires c = omega (arith, c.requires.0.scoped.searched.count_is)
 
 pub pair_fault-ended-requires : goal.pair_fault-ended-requires
 pair_fault-ended-requires c =
@@ -43,13 +43,13 @@ returns-in-Found c =
     let w = c.loop-i in record {
       finding = λ l g tl tg.
           let d = certificate_at a.pairs.now 0 in
-          first_found (length d) w.i (each_pair a.task.scope.events l g d) (omega (arith, c.loop-i-test.true, c.requires.0.scoped.searched.count-is)) (w.invariant.1 l g tl tg) (found_here (goal.at.returns-in-Found c).After-pair_fault-ended l g tl tg) c.in-Found.is;
+          first_found (length d) w.i (each_pair a.task.scope.events l g d) (omega (arith, c.loop-i-test.true, c.requires.0.scoped.searched.count_is)) (w.invariant.1 l g tl tg) (found_here (goal.at.returns-in-Found c).After-pair_fault-ended l g tl tg) c.in-Found.is;
       bytes = when-failed (λ n. n ≡ 6 * length (certificate_at a.pairs.now 0) + 1);
       rows = c.pair_fault-ended.ensures.rows;
     }
 
 pub overflow_add-i : goal.overflow_add-i
-overflow_add-i c = omega (arith, pair_inside c.args.pairs.now c.loop-i.i (omega (arith, c.loop-i-test.true, c.requires.0.scoped.searched.count-is)))
+overflow_add-i c = omega (arith, pair_inside c.args.pairs.now c.loop-i.i (omega (arith, c.loop-i-test.true, c.requires.0.scoped.searched.count_is)))
 
 pub loop-i-preserved : goal.loop-i-preserved
 loop-i-preserved c =
@@ -65,7 +65,7 @@ loop-i-preserved c =
 
 -- all pairs are seen
 all : (c : After-loop-i) → c.loop-i.i ≡ length (certificate_at c.args.pairs.now 0)
-all c = omega (arith, c.loop-i.invariant.0, c.loop-i-test.false, c.requires.0.scoped.searched.count-is)
+all c = omega (arith, c.loop-i.invariant.0, c.loop-i-test.false, c.requires.0.scoped.searched.count_is)
 
 pub bytes_of-requires : goal.bytes_of-requires
 bytes_of-requires c = omega (arith, pairs-near c.args.pairs.now c.loop-i.i (2 ^ 64 - 1) (omega (arith, all c)) (omega arith))

@@ -21,7 +21,7 @@ returns c =
     λ S x.
     let t = point-named x c.point_at-point.result c.point_at-point.ensures in
     record {
-      past-stands = c.condition_at.ensures _ _ t.first;
-      own-stands = c.condition_at-2.ensures _ _ t.second;
-      due-stands = c.condition_at-3.ensures _ _ t.third;
+      past_stands = c.condition_at.ensures _ _ t.first;
+      own_stands = c.condition_at-2.ensures _ _ t.second;
+      due_stands = c.condition_at-3.ensures _ _ t.third;
     }

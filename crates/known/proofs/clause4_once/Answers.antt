@@ -25,7 +25,7 @@ returns c =
       finding = turned.finding;
       rows = turned.rows;
       next = λ h. record {
-        bound = omega (arith, turned.hint.bound, p.scoped.0.searched.count-is);
+        bound = omega (arith, turned.hint.bound, p.scoped.0.searched.count_is);
         served = served-of (certificate_at a.pairs.now 0) a.scope a.lsets.now a.rsets.now a.ask.followers a.ask.onward a.ask.pair (sym turned.finding ∙ h);
       };
     }

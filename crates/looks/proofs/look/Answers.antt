@@ -56,8 +56,8 @@ returns-then-both c =
     let o = passed (goal.at.returns-then-both c).Then-both in
     let events = c.events_of in
     let rest = c.without-rest in
-    let hold = events.ensures (certificate_at a.pairs.now 0) p.0.kept-is (ap (λ (n : ℕ). ltb table_rows n) p.0.count-is)
-    (omega (arith, p.1, p.0.count-is)) (ap (λ (p : Pair). p.set) read.ensures) in
+    let hold = events.ensures (certificate_at a.pairs.now 0) p.0.kept_is (ap (λ (n : ℕ). ltb table_rows n) p.0.count_is)
+    (omega (arith, p.1, p.0.count_is)) (ap (λ (p : Pair). p.set) read.ensures) in
     let leaves = leaves-row read.result.set (get_or a.missing.now read.result.place 0) events.result a.scope.m a.onward a.sets.now
     rest.type_inv events.type_inv rest.ensures hold o.1 in record {
       left = left-of read.ensures (left-row _ _ _ _ _ _ _ p.2 (search rules)

@@ -5,10 +5,10 @@ use Rattle.claims.proofs.Kth.{named, kth-says, kth-upto, kth-from}
 use Rattle.method_claims.proofs.body_claim.Goals as goal
 
 pub returns-then-k-eq0 : goal.returns-then-k-eq0
-returns-then-k-eq0 c = λ s S starts b first p e x f. kth-says c.if-k-eq0.true refl (c.inclusion.ensures s _ _ p e.past-stands)
+returns-then-k-eq0 c = λ s S starts b first p e x f. kth-says c.if-k-eq0.true refl (c.inclusion.ensures s _ _ p e.past_stands)
 
 pub returns-then-k-eq1 : goal.returns-then-k-eq1
-returns-then-k-eq1 c = λ s S starts b first p e x f. kth-says c.if-k-eq1.true refl (c.holds_empty.ensures s _ e.own-stands)
+returns-then-k-eq1 c = λ s S starts b first p e x f. kth-says c.if-k-eq1.true refl (c.holds_empty.ensures s _ e.own_stands)
 
 pub returns-then-k-lt4 : goal.returns-then-k-lt4
 returns-then-k-lt4 c =
@@ -20,4 +20,4 @@ returns-then-k-lt4 c =
 pub returns : goal.returns
 returns c =
     λ s S starts b first p e x f.
-    kth-from 4 refl (omega (arith, c.if-k-lt4.false)) (c.failed_exit_claim.ensures s S starts b.failed-exit first f)
+    kth-from 4 refl (omega (arith, c.if-k-lt4.false)) (c.failed_exit_claim.ensures s S starts b.failed_exit first f)

@@ -25,7 +25,7 @@ returns-then-both c =
     let x = fails_by s S e _ c.in-By.is is in
     let (starting, known) = asks-24 a.first a.k c.both.ensures c.if-both.true in
     kth-as (failed-rules S starts _ first x.is ∙ ap (λ (first : Bool). failed_rules S first a.m x.point) starting)
-    (kth-says known refl (c.holds_empty.ensures s _ x.has.declared-is.future-stands))
+    (kth-says known refl (c.holds_empty.ensures s _ x.has.declared_is.future_stands))
 
 pub returns-in-Never : goal.returns-in-Never
 returns-in-Never c =

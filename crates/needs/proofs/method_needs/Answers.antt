@@ -12,21 +12,21 @@ unfolding certificates_needed total
 returns-in-Primitive c =
     λ S starts m first.
     needed-as (ap (λ (v : Method). method_rules S starts m (method_value v).body) c.in-Primitive.is)
-    (record { rules-are = refl; certificates-are = refl })
+    (record { rules_are = refl; certificates_are = refl })
 
 pub returns-in-TwoOutcomePrimitive : goal.returns-in-TwoOutcomePrimitive
 unfolding certificates_needed total
 returns-in-TwoOutcomePrimitive c =
     λ S starts m first.
     needed-as (ap (λ (v : Method). method_rules S starts m (method_value v).body) c.in-TwoOutcomePrimitive.is)
-    (record { rules-are = refl; certificates-are = refl })
+    (record { rules_are = refl; certificates_are = refl })
 
 pub returns-in-WithBody : goal.returns-in-WithBody
 unfolding certificates_needed total
 returns-in-WithBody c =
     λ S starts m first.
     needed-as (ap (λ (v : Method). method_rules S starts m (method_value v).body) c.in-WithBody.is)
-    (record { rules-are = refl; certificates-are = refl })
+    (record { rules_are = refl; certificates_are = refl })
 
 pub returns-then-first : goal.returns-then-first
 returns-then-first c =

@@ -14,23 +14,23 @@ use Rattle.needs.proofs.needs_at.Goals as goal
 
 pub returns-then-number-eq0 : goal.returns-then-number-eq0
 unfolding certificates_needed total
-returns-then-number-eq0 c = λ S cs ps xs x is. needed-as (first_group S _ is c.if-number-eq0.true) (record { rules-are = refl; certificates-are = refl })
+returns-then-number-eq0 c = λ S cs ps xs x is. needed-as (first_group S _ is c.if-number-eq0.true) (record { rules_are = refl; certificates_are = refl })
 
 pub overflow_cast-methods : goal.overflow_cast-methods
 overflow_cast-methods c =
     let (S, cs, ps, x) = c.requires.by_index in
-    omega (arith, (method-in x.indexes (c.args.number - 1) (omega (arith, x.methods-are, c.if-k-listed.true))).inside)
+    omega (arith, (method-in x.indexes (c.args.number - 1) (omega (arith, x.methods_are, c.if-k-listed.true))).inside)
 
 pub method_at-requires : goal.method_at-requires
 method_at-requires c =
     let (S, cs, ps, x) = c.requires.by_index in
-    (method-in x.indexes (c.args.number - 1) (omega (arith, x.methods-are, c.if-k-listed.true))).inside
+    (method-in x.indexes (c.args.number - 1) (omega (arith, x.methods_are, c.if-k-listed.true))).inside
 
 pub returns-then-k-listed : goal.returns-then-k-listed
 returns-then-k-listed c =
     λ S cs ps xs x is.
     let a = c.args in
-    let l : a.number - 1 < length S.methods = omega (arith, x.methods-are, c.if-k-listed.true) in
+    let l : a.number - 1 < length S.methods = omega (arith, x.methods_are, c.if-k-listed.true) in
     needed-as
     (method-group S a.number is (a.number - 1) (omega (arith, c.if-number-eq0.false)) _ (method-is x.indexes _ l) l
     ∙ body-rules x.indexes l {v = c.method_at.result} refl c.method_at.ensures (0 ∷ []))
@@ -41,7 +41,7 @@ overflow_cast-steps c =
     let (S, cs, ps, x) = c.requires.by_index in
     let a = c.args in
     let l : a.number - 1 - a.counts.methods < length S.steps =
-    omega (arith, x.methods-are, x.steps-are, c.requires.number_bound, c.if-k-listed.false, c.if-number-eq0.false) in
+    omega (arith, x.methods_are, x.steps_are, c.requires.number_bound, c.if-k-listed.false, c.if-number-eq0.false) in
     omega (arith, step-inside x.indexes _ l)
 
 pub step_at-requires : goal.step_at-requires
@@ -49,14 +49,14 @@ step_at-requires c =
     let (S, cs, ps, x) = c.requires.by_index in
     let a = c.args in
     step-inside x.indexes (a.number - 1 - a.counts.methods)
-    (omega (arith, x.methods-are, x.steps-are, c.requires.number_bound, c.if-k-listed.false, c.if-number-eq0.false))
+    (omega (arith, x.methods_are, x.steps_are, c.requires.number_bound, c.if-k-listed.false, c.if-number-eq0.false))
 
 pub step_needs-requires : goal.step_needs-requires
 step_needs-requires c =
     let (S, cs, ps, x) = c.requires.by_index in
     let a = c.args in
     let l : a.number - 1 - a.counts.methods < length S.steps =
-    omega (arith, x.methods-are, x.steps-are, c.requires.number_bound, c.if-k-listed.false, c.if-number-eq0.false) in
+    omega (arith, x.methods_are, x.steps_are, c.requires.number_bound, c.if-k-listed.false, c.if-number-eq0.false) in
     (S, step-called x l c.step_at.result c.step_at.ensures)
 
 pub returns : goal.returns
@@ -64,9 +64,9 @@ returns c =
     λ S cs ps xs x is.
     let a = c.args in
     let l : a.number - 1 - a.counts.methods < length S.steps =
-    omega (arith, x.methods-are, x.steps-are, c.requires.number_bound, c.if-k-listed.false, c.if-number-eq0.false) in
+    omega (arith, x.methods_are, x.steps_are, c.requires.number_bound, c.if-k-listed.false, c.if-number-eq0.false) in
     needed-as
     (step-group S a.number is (a.number - 1 - a.counts.methods)
-    (omega (arith, x.methods-are, c.if-k-listed.false, c.if-number-eq0.false)) _ (step_is x.indexes _ l)
+    (omega (arith, x.methods_are, c.if-k-listed.false, c.if-number-eq0.false)) _ (step_is x.indexes _ l)
     ∙ step-rules x.indexes l {v = c.step_at.result} refl c.step_at.ensures)
     (c.step_needs.ensures S (a.number - 1 - a.counts.methods) (step-called x l c.step_at.result c.step_at.ensures))

@@ -17,7 +17,7 @@ entry_asked-requires-in-TwoOutcomeCall c = let (S, h) = c.requires in (S, call-t
 
 pub returns-in-Event : goal.returns-in-Event
 unfolding certificates_needed total
-returns-in-Event c = λ S i h. step-needed S i c.in-Event.is (record { rules-are = refl; certificates-are = refl })
+returns-in-Event c = λ S i h. step-needed S i c.in-Event.is (record { rules_are = refl; certificates_are = refl })
 
 pub returns-in-Call : goal.returns-in-Call
 unfolding certificates_needed total
@@ -27,7 +27,7 @@ returns-in-Call c =
     let t = call_value c.in-Call.call none none in
     step-needed S i is
     (call-needed S i t (c.entry_asked.ensures S (call-told S _ _ is h))
-    (c.call_needs.ensures S i t (others S i t) (record { rules-are = refl; certificates-are = refl })))
+    (c.call_needs.ensures S i t (others S i t) (record { rules_are = refl; certificates_are = refl })))
 
 pub returns-in-ChannelCall : goal.returns-in-ChannelCall
 unfolding certificates_needed total
@@ -37,7 +37,7 @@ returns-in-ChannelCall c =
     let t = call_value c.in-ChannelCall.call none (some c.in-ChannelCall.field-1) in
     step-needed S i is
     (call-needed S i t (c.entry_asked-in-ChannelCall.ensures S (call-told S _ _ is h))
-    (c.call_needs-in-ChannelCall.ensures S i t (others S i t) (record { rules-are = refl; certificates-are = refl })))
+    (c.call_needs-in-ChannelCall.ensures S i t (others S i t) (record { rules_are = refl; certificates_are = refl })))
 
 pub returns-in-TwoOutcomeCall : goal.returns-in-TwoOutcomeCall
 unfolding certificates_needed total
@@ -47,12 +47,12 @@ returns-in-TwoOutcomeCall c =
     let t = call_value c.in-TwoOutcomeCall.call (some c.in-TwoOutcomeCall.field-1) none in
     step-needed S i is
     (call-needed S i t (c.entry_asked-in-TwoOutcomeCall.ensures S (call-told S _ _ is h))
-    (c.call_needs-in-TwoOutcomeCall.ensures S i t (others S i t) (record { rules-are = refl; certificates-are = refl })))
+    (c.call_needs-in-TwoOutcomeCall.ensures S i t (others S i t) (record { rules_are = refl; certificates_are = refl })))
 
 pub returns-in-Pass : goal.returns-in-Pass
 unfolding certificates_needed total
-returns-in-Pass c = λ S i h. step-needed S i c.in-Pass.is (record { rules-are = refl; certificates-are = refl })
+returns-in-Pass c = λ S i h. step-needed S i c.in-Pass.is (record { rules_are = refl; certificates_are = refl })
 
 pub returns-in-Stop : goal.returns-in-Stop
 unfolding certificates_needed total
-returns-in-Stop c = λ S i h. step-needed S i c.in-Stop.is (record { rules-are = refl; certificates-are = refl })
+returns-in-Stop c = λ S i h. step-needed S i c.in-Stop.is (record { rules_are = refl; certificates_are = refl })

@@ -3,4 +3,4 @@ use mathlib.Core.Path.{refl}
 use Rattle.places.proofs.settle.Goals as goal
 
 pub returns : goal.returns
-returns c = record { side-leaves = refl; side-ends = c.ends_of.ensures; row-start = refl }
+returns c = record { side_leaves = refl; side_ends = c.ends_of.ensures; row_start = refl }

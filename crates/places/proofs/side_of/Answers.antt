@@ -11,4 +11,4 @@ returns c =
     let p = c.push_part-leaves.ensures in
     let e = c.settle.ensures in
     let few = p.few in
-    let n = e.side-leaves in record { few = omega arith; room = p.room; rows = settled-rows e p.rows; tables = λ r h. tables e p.rows.rows-follow (omega arith) (p.pushed r h [] (bottom refl refl)) }
+    let n = e.side_leaves in record { few = omega arith; room = p.room; rows = settled-rows e p.rows; tables = λ r h. tables e p.rows.rows_follow (omega arith) (p.pushed r h [] (bottom refl refl)) }

@@ -11,5 +11,5 @@ returns-in-Two c =
       rows = c.joined_side.ensures.rows;
       tables = λ r h.
           let j = left-two _ r c.in-Two.is h in
-          rw j.join_is (c.joined_side.ensures.tables _ _ j.first-is j.second_is);
+          rw j.join_is (c.joined_side.ensures.tables _ _ j.first_is j.second_is);
     }

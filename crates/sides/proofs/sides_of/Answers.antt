@@ -8,7 +8,7 @@ returns-in-Inclusion c =
       rows = (c.left_side.ensures.rows, c.side_of.ensures.rows);
       asks = λ x h.
           let y = says-inclusion _ x c.in-Inclusion.is h in
-          record { left_one = _; right-one = _; left_is = c.left_side.ensures.tables _ y.left_is; right_is = c.side_of.ensures.tables _ y.right_is; rule-is = y.rule-is };
+          record { left_one = _; right_one = _; left_is = c.left_side.ensures.tables _ y.left_is; right_is = c.side_of.ensures.tables _ y.right_is; rule_is = y.rule_is };
     }
 
 pub returns-in-HoldsEmpty : goal.returns-in-HoldsEmpty
@@ -18,5 +18,5 @@ returns-in-HoldsEmpty c =
       rows = (c.side_of-in-HoldsEmpty.ensures.rows, c.requires.2);
       asks = λ x h.
           let y = says-empty _ x c.in-HoldsEmpty.is h in
-          record { part-one = _; part-is = c.side_of-in-HoldsEmpty.ensures.tables _ y.part-is; rule-is = y.rule-is };
+          record { part_one = _; part_is = c.side_of-in-HoldsEmpty.ensures.tables _ y.part_is; rule_is = y.rule_is };
     }

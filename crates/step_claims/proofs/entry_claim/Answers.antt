@@ -12,7 +12,7 @@ returns-then-k-eq0 c =
     λ s S t e p is.
     let x = enters s S e c.in-Due.is is in
     kth-as (ap (λ (e : Option ℕ). if_any e (entry_rules S c.args.i t)) x.is)
-    (kth-says c.if-k-eq0.true refl (c.inclusion.ensures s _ _ x.has p.due-stands))
+    (kth-says c.if-k-eq0.true refl (c.inclusion.ensures s _ _ x.has p.due_stands))
 
 pub returns-in-Unasked : goal.returns-in-Unasked
 returns-in-Unasked c =

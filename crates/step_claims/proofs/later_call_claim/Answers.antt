@@ -16,20 +16,20 @@ later S i t e = if_any e (return_rules S 18 i t failed) ++ if_any (entry_asked S
 pub returns-then-k-lt4 : goal.returns-then-k-lt4
 returns-then-k-lt4 c =
     λ s S t on p is e.
-    let x = fails_by s S t.failed-to _ c.in-By.is is in
+    let x = fails_by s S t.failed_to _ c.in-By.is is in
     kth-as (ap (later S c.args.i t) x.is)
     (kth-upto refl c.if-k-lt4.true
-    (c.return_claim.ensures s S 18 _ x.point t failed (record { past_is = named; own_is = named; future-is = named; due-is = named }) on p x.has))
+    (c.return_claim.ensures s S 18 _ x.point t failed (record { past_is = named; own_is = named; future_is = named; due_is = named }) on p x.has))
 
 pub returns-in-Never : goal.returns-in-Never
 returns-in-Never c =
     λ s S t on p is e.
-    kth-as (ap (later S c.args.i t) (never s S t.failed-to _ c.in-Never.is is))
+    kth-as (ap (later S c.args.i t) (never s S t.failed_to _ c.in-Never.is is))
     (c.entry_claim.ensures s S t (entry_asked S t.method) p e)
 
 pub returns-else-k-lt4 : goal.returns-else-k-lt4
 returns-else-k-lt4 c =
     λ s S t on p is e.
-    let x = fails_by s S t.failed-to _ c.in-By.is is in
+    let x = fails_by s S t.failed_to _ c.in-By.is is in
     kth-as (ap (later S c.args.i t) x.is)
     (kth-from 4 refl (omega (arith, c.if-k-lt4.false)) (c.entry_claim-in-By.ensures s S t (entry_asked S t.method) p e))

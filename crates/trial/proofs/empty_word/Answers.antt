@@ -5,9 +5,9 @@ use Rattle.trial.proofs.Laws.{trial-finds, ends-empty}
 use Rattle.trial.proofs.empty_word.Goals as goal
 
 pub returns-then-member : goal.returns-then-member
-returns-then-member c = λ events s a follow sets t. record { comes-to = trial-finds events s _ _ fine (ends-empty a _ _ _ t true (sym c.member.ensures ∙ c.if-member.true)) }
+returns-then-member c = λ events s a follow sets t. record { comes_to = trial-finds events s _ _ fine (ends-empty a _ _ _ t true (sym c.member.ensures ∙ c.if-member.true)) }
 
 pub returns : goal.returns
 returns c =
     λ events s a follow sets t.
-    record { comes-to = trial-finds events s _ _ _ (c.fault_of.ensures ∙ ends-empty a _ _ _ t false (sym c.member.ensures ∙ c.if-member.false)) }
+    record { comes_to = trial-finds events s _ _ _ (c.fault_of.ensures ∙ ends-empty a _ _ _ t false (sym c.member.ensures ∙ c.if-member.false)) }

@@ -13,8 +13,8 @@ use Rattle.trial.proofs.test.Goals as goal
 use Rattle.trial.proofs.test.Goals.{After-first_fault-found}
 
 -- the certificate of the part
-part-is : (c : After-first_fault-found) → certificate_at c.part_from-pairs.result.now 0 ≡ certificate_at c.args.s.now c.args.trial.at
-part-is c = let a = c.args in ap (λ (x : List ℕ). certificate_at x 0) c.part_from-pairs.ensures ∙ certificate-part a.s.now a.trial.at
+part_is : (c : After-first_fault-found) → certificate_at c.part_from-pairs.result.now 0 ≡ certificate_at c.args.s.now c.args.trial.at
+part_is c = let a = c.args in ap (λ (x : List ℕ). certificate_at x 0) c.part_from-pairs.ensures ∙ certificate-part a.s.now a.trial.at
 
 pub overflow_add-result : goal.overflow_add-result
 overflow_add-result c = omega (arith, (c.first_fault-found.ensures.bytes _ c.in-Passes.is).begins, (c.first_fault-found.ensures.bytes _ c.in-Passes.is).ends, ap length c.part_from-pairs.ensures, length-drop c.args.trial.at c.args.s.now)
@@ -25,13 +25,13 @@ returns-in-Passes c =
       tried = λ x q.
           let h = asks-inclusion _ _ _ _ x c.in-Inclusion.is q in
           let next : a.trial.at + c.in-Passes.bytes ≡ suc (a.trial.at + 6 * length (certificate_at a.s.now a.trial.at)) =
-          omega (arith, (c.first_fault-found.ensures.bytes _ c.in-Passes.is).bytes-are, ap length (part-is (goal.at.returns-in-Passes c).After-first_fault-found)) in
-          tries-as h.rule-is
+          omega (arith, (c.first_fault-found.ensures.bytes _ c.in-Passes.is).bytes_are, ap length (part_is (goal.at.returns-in-Passes c).After-first_fault-found)) in
+          tries-as h.rule_is
           (record {
-            comes-to =
+            comes_to =
                 ap passed next
                 ∙ trial-finds _ _ _ _ fine
-                (sym (ap checked_finding c.in-Passes.is) ∙ c.first_fault-found.ensures.finding _ _ h.left_is h.right_is ∙ ap (check _ _ _) (part-is (goal.at.returns-in-Passes c).After-first_fault-found));
+                (sym (ap checked_finding c.in-Passes.is) ∙ c.first_fault-found.ensures.finding _ _ h.left_is h.right_is ∙ ap (check _ _ _) (part_is (goal.at.returns-in-Passes c).After-first_fault-found));
           });
       room = c.first_fault-found.ensures.room;
     }
@@ -41,11 +41,11 @@ returns-in-Fails c =
     record {
       tried = λ x q.
           let h = asks-inclusion _ _ _ _ x c.in-Inclusion.is q in
-          tries-as h.rule-is
+          tries-as h.rule_is
           (record {
-            comes-to =
+            comes_to =
                 trial-finds _ _ _ _ _
-                (sym (ap checked_finding c.in-Fails.is) ∙ c.first_fault-found.ensures.finding _ _ h.left_is h.right_is ∙ ap (check _ _ _) (part-is (goal.at.returns-in-Fails c).After-first_fault-found));
+                (sym (ap checked_finding c.in-Fails.is) ∙ c.first_fault-found.ensures.finding _ _ h.left_is h.right_is ∙ ap (check _ _ _) (part_is (goal.at.returns-in-Fails c).After-first_fault-found));
           });
       room = c.first_fault-found.ensures.room;
     }
@@ -55,6 +55,6 @@ returns-in-HoldsEmpty c =
     record {
       tried = λ x q.
           let h = asks-empty _ _ _ _ x c.in-HoldsEmpty.is q in
-          tries-as h.rule-is (c.empty_word.ensures _ _ _ _ _ h.part-is);
+          tries-as h.rule_is (c.empty_word.ensures _ _ _ _ _ h.part_is);
       room = c.requires.missing_len;
     }

@@ -1,5 +1,5 @@
 use mathlib.Core.Path.{sym, ◌∙◌}
-use Rattle.values.proofs.MethodKinds.{built, failing-is, failed-primitive, failed-body, not-failing-8, not-failing, no-body-8, no-body-15, body-16, body-other}
+use Rattle.values.proofs.MethodKinds.{built, failing_is, failed-primitive, failed-body, not-failing-8, not-failing, no-body-8, no-body-15, body-16, body-other}
 use Rattle.values.proofs.method_at.Goals as goal
 
 pub returns-then-kind-eq-PRIMITIVE : goal.returns-then-kind-eq-PRIMITIVE
@@ -12,14 +12,14 @@ pub returns-then-kind-eq-TWO_OUTCOME_PRIMITIVE : goal.returns-then-kind-eq-TWO_O
 returns-then-kind-eq-TWO_OUTCOME_PRIMITIVE c =
     let a = c.args in
     let e = sym c.byte_at-kind.ensures ∙ c.if-kind-eq-TWO_OUTCOME_PRIMITIVE.true in
-    let failing = failing-is a.s.now a.at c.failed_at.ensures (failed-primitive a.s.now a.at e) in
+    let failing = failing_is a.s.now a.at c.failed_at.ensures (failed-primitive a.s.now a.at e) in
     built c.declaration_at-declaration.ensures failing (no-body-15 a.s.now a.at e)
 
 pub returns-then-kind-eq-TWO_OUTCOME_BODY : goal.returns-then-kind-eq-TWO_OUTCOME_BODY
 returns-then-kind-eq-TWO_OUTCOME_BODY c =
     let a = c.args in
     let e = sym c.byte_at-kind.ensures ∙ c.if-kind-eq-TWO_OUTCOME_BODY.true in
-    let failing = failing-is a.s.now a.at c.failed_at-declared.ensures (failed-body a.s.now a.at e) in
+    let failing = failing_is a.s.now a.at c.failed_at-declared.ensures (failed-body a.s.now a.at e) in
     built c.declaration_at-declaration.ensures failing
     (body-16 a.s.now a.at c.body_at-body.ensures.0 c.body_at-body.ensures.1 e c.short_at-exit.ensures)
 

@@ -32,7 +32,7 @@ pub overflow_cast-conditions : goal.overflow_cast-conditions
 overflow_cast-conditions c = omega (arith, (c.requires.conditions_in _ (condition-there c.requires.read_whole c.if-tally-condition.false)).inside)
 
 pub match_word-requires : goal.match_word-requires
-match_word-requires c = ((limits-fit c.args.instrument c.limits_of-limits.ensures).few-events, λ i l. c.first_stray-stray.ensures.before i (omega (arith, c.if-stray-word.false)))
+match_word-requires c = ((limits-fit c.args.instrument c.limits_of-limits.ensures).few_events, λ i l. c.first_stray-stray.ensures.before i (omega (arith, c.if-stray-word.false)))
 
 -- what matching tells is the answer
 tells : (c : After-match_word) → let x = c.args in told c.match_word.result ≡ word_test (model_of x.instrument) x.s.now x.condition x.word.now

@@ -13,5 +13,5 @@ pub returns-in-Word : goal.returns-in-Word
 returns-in-Word c =
     λ s a b t raised q p.
     let w = raised-word s t c.in-Word.is raised in
-    says-in (Two _ _) _ (raised_then t b) (record { first_one = w.raised-one; second-one = b; first-is = w.raised_is; second_is = q; join_is = refl }) p
+    says-in (Two _ _) _ (raised_then t b) (record { first_one = w.raised_one; second_one = b; first_is = w.raised_is; second_is = q; join_is = refl }) p
     (ap (λ (t : Option Condition). raised_then t b) w.some_one)

@@ -11,5 +11,5 @@ pub returns-in-Word : goal.returns-in-Word
 returns-in-Word c =
     λ s a b t p raised q.
     let w = raised-word s t c.in-Word.is raised in
-    says-in (Two _ _) _ (then_raised a t) (record { first_one = a; second-one = w.raised-one; first-is = p; second_is = w.raised_is; join_is = refl }) q
+    says-in (Two _ _) _ (then_raised a t) (record { first_one = a; second_one = w.raised_one; first_is = p; second_is = w.raised_is; join_is = refl }) q
     (ap (then_raised a) w.some_one)

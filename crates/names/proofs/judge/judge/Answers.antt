@@ -2,7 +2,7 @@
 use mathlib.Core.Path.{ap}
 use mathlib.Core.Bool.{not}
 use Rattle.format.proofs.Named.{starts-inside}
-use Rattle.names.proofs.Order.{seven, nine, eighteen, twenty-four, twenty-six, fits}
+use Rattle.names.proofs.Order.{seven, nine, eighteen, twenty_four, twenty-six, fits}
 use Rattle.names.proofs.judge.judge.Goals as goal
 
 pub returns-then-not-names_exist : goal.returns-then-not-names_exist
@@ -29,7 +29,7 @@ returns-then-not-outcomes_fit c =
 pub returns-then-not-owners_fit : goal.returns-then-not-owners_fit
 returns-then-not-owners_fit c =
     let a = c.args in
-    twenty-four a.events a.s.now a.at a.kind a.first a.tally a.points.now a.methods.now
+    twenty_four a.events a.s.now a.at a.kind a.first a.tally a.points.now a.methods.now
     c.names_exist.ensures (ap not c.if-not-names_exist.false) c.is_primitive.ensures c.both.ensures c.if-both.false
     c.outcomes_fit.ensures (ap not c.if-not-outcomes_fit.false) c.owners_fit.ensures (ap not c.if-not-owners_fit.true)
 

@@ -19,8 +19,8 @@ returns-in-Claim c =
     let left = inv.1 S xs x h in record {
       next = λ S xs x h.
           let left = inv.1 S xs x h in
-          goes_on left (claimed (c.claim_of-asked.ensures _ S left.own left.subject-is) c.in-Claim.is);
-      nearer = omega (arith, inv.0, one_more left (claimed (c.claim_of-asked.ensures _ S left.own left.subject-is) c.in-Claim.is));
+          goes_on left (claimed (c.claim_of-asked.ensures _ S left.own left.subject_is) c.in-Claim.is);
+      nearer = omega (arith, inv.0, one_more left (claimed (c.claim_of-asked.ensures _ S left.own left.subject_is) c.in-Claim.is));
     }
 
 pub returns-then-last-number : goal.returns-then-last-number
@@ -28,7 +28,7 @@ returns-then-last-number c =
     record {
       next = λ S xs x h.
           let left = c.loop-claim.invariant.1 S xs x h in
-          ends left (all-claimed (c.claim_of-asked.ensures _ S left.own left.subject-is) c.in_default.is) (omega (arith, subjects-many x, c.if-last-number.true));
+          ends left (all-claimed (c.claim_of-asked.ensures _ S left.own left.subject_is) c.in_default.is) (omega (arith, subjects-many x, c.if-last-number.true));
       nearer = tt;
     }
 
@@ -48,5 +48,5 @@ loop-claim-preserved c =
       λ S xs x h.
           let left = inv.1 S xs x h in
           let (own, nth) = a-subject x (c.loop-claim.number + 1) (omega (arith, c.if-last-number.false)) in
-          goes_to left (all-claimed (c.claim_of-asked.ensures _ S left.own left.subject-is) c.in_default.is) own (c.subject_at-subject.ensures S own x nth) nth,
+          goes_to left (all-claimed (c.claim_of-asked.ensures _ S left.own left.subject_is) c.in_default.is) own (c.subject_at-subject.ensures S own x nth) nth,
     )

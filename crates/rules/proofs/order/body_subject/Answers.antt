@@ -20,10 +20,10 @@ returns c =
     record {
       inner = body_value c.args.inner e;
       starts = starts;
-      first-is = first;
-      pre_is = declared.pre-stands;
-      entry-is = c.point_of.ensures S (point-in x _ entry);
-      exit-is = c.way_of-exit.ensures S _ normal (point-in x _ exit) declared.normal-is;
-      failing-is = failing;
-      rules-are = refl;
+      first_is = first;
+      pre_is = declared.pre_stands;
+      entry_is = c.point_of.ensures S (point-in x _ entry);
+      exit_is = c.way_of-exit.ensures S _ normal (point-in x _ exit) declared.normal_is;
+      failing_is = failing;
+      rules_are = refl;
     }

@@ -22,11 +22,11 @@ returns c =
     let declared = c.method_of-declared.ensures S (method-in x _ l) in
     record {
       call = call_value c.args.call f k;
-      pre_is = declared.pre-stands;
-      channel-is = on;
+      pre_is = declared.pre_stands;
+      channel_is = on;
       from_is = c.point_of.ensures S (point-in x _ from);
-      to_is = c.way_of-to.ensures S _ normal (point-in x _ to) declared.normal-is;
-      failing-is = failing;
-      entered-is = c.entered_by-entered.ensures S steps x l;
-      rules-are = refl;
+      to_is = c.way_of-to.ensures S _ normal (point-in x _ to) declared.normal_is;
+      failing_is = failing;
+      entered_is = c.entered_by-entered.ensures S steps x l;
+      rules_are = refl;
     }

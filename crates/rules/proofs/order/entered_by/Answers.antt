@@ -33,4 +33,4 @@ returns-in-At c =
     λ S steps x l.
     let asked = c.entry_asked.ensures S (called-in x _ l) in
     let is = sym (ap entry_value c.in-At.is) ∙ asked in
-    entered-as _ S (Due _) is (c.point_of-entry.ensures S (point-in x _ (entry_named x _ l _ (sym is)))).due-stands
+    entered-as _ S (Due _) is (c.point_of-entry.ensures S (point-in x _ (entry_named x _ l _ (sym is)))).due_stands

@@ -79,7 +79,7 @@ returns-in-Event c =
       from_is = c.point_of.ensures S (point-in x _ (named x l is read).0);
       to_is = c.point_of-in-Event.ensures S (point-in x _ (named x l is read).1);
       fits = fits x l is read;
-      rules-are = step-rules x l is read;
+      rules_are = step-rules x l is read;
     }
 
 pub returns-in-Call : goal.returns-in-Call
@@ -121,7 +121,7 @@ returns-in-Pass c =
       to = _;
       from_is = c.point_of-in-Pass.ensures S (point-in x _ (named x l is read).0);
       to_is = c.point_of-in-Pass-2.ensures S (point-in x _ (named x l is read).1);
-      rules-are = step-rules x l is read;
+      rules_are = step-rules x l is read;
     }
 
 pub returns-in-Stop : goal.returns-in-Stop
@@ -129,4 +129,4 @@ returns-in-Stop c =
     λ S x l.
     let is = c.in-Stop.is in
     let read = c.step_at-step.ensures in
-    record { from = _; due-is = (c.point_of-point.ensures S (point-in x _ (named x l is read))).due-stands; rules-are = step-rules x l is read }
+    record { from = _; due_is = (c.point_of-point.ensures S (point-in x _ (named x l is read))).due_stands; rules_are = step-rules x l is read }
