@@ -1,7 +1,6 @@
 #![tactic(auto)]
 // Doors for C and Rust: reading a sheet, the loader and the word test on lent slices, the answer as a status and eight numbers. The instrument is
-// given as a number; one that is none's gets a status of its own.
-// C passes a slice as a pointer and the number of its elements; usize is size_t.
+// given as a number; one that is none's gets a status of its own. The crate sheet_loader_c exports them.
 ghost use Rattle.std.specs.Prelude.{◌≡◌};
 ghost use Rattle.sheet.specs.Model.{entry};
 ghost use Rattle.sheet_loader.specs.Reading.{numbers_read};
@@ -37,8 +36,7 @@ fn read_numbers(read: Read) -> [usize; ROOM]
     }
 }
 
-#[unsafe(no_mangle)]
-pub extern "C" fn sheet_loader_read(instrument: usize, sheet: &[u8], out: &mut [usize]) -> usize
+pub fn sheet_loader_read(instrument: usize, sheet: &[u8], out: &mut [usize]) -> usize
     ensures { ReadsOn instrument sheet.now out.old out.new result }
 {
     let named = instrument_of(instrument);
@@ -48,8 +46,7 @@ pub extern "C" fn sheet_loader_read(instrument: usize, sheet: &[u8], out: &mut [
     }
 }
 
-#[unsafe(no_mangle)]
-pub extern "C" fn sheet_loader_load(instrument: usize, sheet: &[u8], out: &mut [usize]) -> usize
+pub fn sheet_loader_load(instrument: usize, sheet: &[u8], out: &mut [usize]) -> usize
     ensures { LoadsOn instrument sheet.now out.old out.new result }
 {
     let named = instrument_of(instrument);
@@ -61,15 +58,13 @@ pub extern "C" fn sheet_loader_load(instrument: usize, sheet: &[u8], out: &mut [
 
 // The loader of the entry instrument alone. A function has one frame, so a door that takes the instrument as a number has room on the stack for
 // the points of the large one.
-#[unsafe(no_mangle)]
-pub extern "C" fn sheet_loader_load_entry(sheet: &[u8], out: &mut [usize]) -> usize
+pub fn sheet_loader_load_entry(sheet: &[u8], out: &mut [usize]) -> usize
     ensures { LoadsInto entry sheet.now out.old out.new result }
 {
     store(verdict_numbers(load_entry(sheet)), out)
 }
 
-#[unsafe(no_mangle)]
-pub extern "C" fn sheet_loader_word_test(
+pub fn sheet_loader_word_test(
     instrument: usize,
     sheet: &[u8],
     condition: usize,
