@@ -13,7 +13,7 @@ use std::rt::Files;
 use std::{io, str};
 
 // The instrument that the arguments name, and the number of the first argument behind the option.
-#[derive(Drop)]
+#[derive(Clone, Copy)]
 pub struct Choice {
     pub named: Named,
     pub next: usize,

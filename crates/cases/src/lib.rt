@@ -9,7 +9,7 @@ use fields::short_at;
 use input::read_full;
 use std::io::Read;
 
-#[derive(Drop)]
+#[derive(Clone, Copy)]
 pub enum Number {
     Value(usize),
     End,

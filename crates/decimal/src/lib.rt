@@ -8,14 +8,14 @@ use fields::index;
 use input::{argument, argument_count};
 use std::env::Env;
 
-#[derive(Drop)]
+#[derive(Clone, Copy)]
 pub enum Argument {
     Number(usize),
     Wrong,
 }
 
 // How many events there are, or the argument that is none.
-#[derive(Drop)]
+#[derive(Clone, Copy)]
 pub enum Events {
     Count(usize),
     WrongAt(usize),
