@@ -11,7 +11,7 @@ use std::io::{Error, ErrorKind, Read};
 use std::rt::Files;
 
 // How many bytes were read, or why the input could not be opened or a read failed.
-#[derive(Drop)]
+#[derive(Clone, Copy)]
 pub enum Input {
     Bytes(usize),
     Failed(Error),
@@ -67,7 +67,7 @@ pub fn read_full<R: Read>(file: &mut R, room: &mut [u8]) -> usize
     done
 }
 
-// The bytes of the file with this name. A name that is not UTF-8 is no file's: std opens none by such a name.
+// The bytes of the file with this name. A name that is not UTF-8 opens no file: std takes a name as text.
 pub fn read_file<F: Files>(files: &F, name: &[u8], room: &mut [u8]) -> Input
     ensures { ReadInto room.old room.new result }
 {

@@ -121,11 +121,11 @@ abbrev outside : List Move
 outside = to_closed ++ (return normal ∷ by_step 4 normal [] ∷ [])
 
 -- both end, at point 1; the methods of the calls that are open and of those that returned
-record Ends (ms : List Move) (still_Open returned : List ℕ) : Type 0 where
+record Ends (ms : List Move) (still_open returned : List ℕ) : Type 0 where
   ends : (after ms).ended ≡ true
   history : (after ms).history ≡ 0 ∷ []
   point : (after ms).point ≡ 1
-  open_methods : map (λ c. c.method) (after ms).open_calls ≡ still_Open
+  open_methods : map (λ c. c.method) (after ms).open_calls ≡ still_open
   returned_methods : map (λ r. r.call.method) (after ms).returned_calls ≡ returned
 
 both_end : Ends inside (3 ∷ 0 ∷ []) (2 ∷ 1 ∷ []) × Ends outside (0 ∷ []) (3 ∷ 2 ∷ 1 ∷ [])
