@@ -1,24 +1,12 @@
-use mathlib.Core.Path.{sym, subst}
-use Rattle.instrument.specs.declared.Instrument.{Instrument}
-use Rattle.instrument.specs.Model.{model_of}
-use Rattle.verdict.specs.Promise.{TestsWord}
-use Rattle.answers.specs.Answers.{answer_of}
+-- `word_test_on` meets its contract: each arm's test is that of the arm's instrument.
+use borrow.Author.Rules.{rules}
 use Rattle.words.proofs.word_test_on.Goals as goal
 
 pub returns-in-Large : goal.returns-in-Large
-returns-in-Large c =
-    let given = c.args in
-    subst (λ (i : Instrument). TestsWord (model_of i) given.s.now given.condition given.word.now (answer_of c.word_test.result))
-    (sym c.in-Large.is) c.word_test.ensures
+returns-in-Large c = rw c.in-Large.is (search rules)
 
 pub returns-in-Entry : goal.returns-in-Entry
-returns-in-Entry c =
-    let given = c.args in
-    subst (λ (i : Instrument). TestsWord (model_of i) given.s.now given.condition given.word.now (answer_of c.word_test_entry.result))
-    (sym c.in-Entry.is) c.word_test_entry.ensures
+returns-in-Entry c = rw c.in-Entry.is (search rules)
 
 pub returns-in-Four : goal.returns-in-Four
-returns-in-Four c =
-    let given = c.args in
-    subst (λ (i : Instrument). TestsWord (model_of i) given.s.now given.condition given.word.now (answer_of c.word_test_four.result))
-    (sym c.in-Four.is) c.word_test_four.ensures
+returns-in-Four c = rw c.in-Four.is (search rules)
