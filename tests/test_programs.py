@@ -1,5 +1,5 @@
 """The programs at their edges: what they read, what they say on standard error, and that no answer is printed then.
-Skipped where the programs are not built (`rt check load word_test`)."""
+Skipped where the programs are not built (`tools/build`, at the top)."""
 import os
 import subprocess
 import tempfile
