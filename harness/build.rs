@@ -19,7 +19,7 @@ fn main() {
     if env::var("CARGO_FEATURE_LIBRARY").is_ok() {
         let made = format!("{here}/../target/staticlib/{LIBRARY}");
         println!("cargo:rerun-if-changed={made}");
-        let mut archive = fs::read(&made).expect("rt staticlib sheet_loader makes the library");
+        let mut archive = fs::read(&made).expect("tools/build sheet_loader makes the library");
         align_functions(&mut archive);
         fs::write(Path::new(&out).join(LIBRARY), archive).unwrap();
         println!("cargo:rustc-link-search=native={out}");

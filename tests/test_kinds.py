@@ -141,12 +141,14 @@ class AsBefore(test_outcomes.AsBefore):
 
 class Source(unittest.TestCase):
     """No array stands in the code of kinds and records: each bracket is behind what it
-    is an index of, or is that of a slice's type; and there is no string of bytes."""
+    is an index of, or is that of a slice's type or of an attribute, as #[derive(Copy)];
+    and there is no string of bytes."""
     ARRAY = re.compile(r'(?<![\w)\]])\[(?![a-z]\w*\])|b"')
+    ATTRIBUTE = re.compile(r"^ *#!?\[\w+\(\w+(, \w+)*\)\]")
 
     def arrays(self, text):
         """The lines of code with an array."""
-        code = (line.split("//")[0] for line in text.splitlines())
+        code = (self.ATTRIBUTE.sub("", line.split("//")[0]) for line in text.splitlines())
         return [line for line in code if self.ARRAY.search(line)]
 
     def test_arrays_are_found(self):
@@ -157,8 +159,10 @@ class Source(unittest.TestCase):
             self.assertEqual(self.arrays(line), [line])
         for line in ("pub fn record_at(s: &[u8], kinds: u8, at: usize) -> Found",
                      "fn fill(t: &mut [usize])", "place: index(s[at + 1]),",
-                     "// by a table [4, 0, 0]"):
+                     "// by a table [4, 0, 0]", "#[derive(Clone, Copy)]",
+                     "#![tactic(auto)]"):
             self.assertEqual(self.arrays(line), [])
+        self.assertTrue(self.arrays("#[derive(Copy)] const LENGTHS: [u8; 1] = [4];"))
 
     def test_no_array(self):
         files = [path for crate in ("kinds", "format", "values")
@@ -196,8 +200,15 @@ class Built(unittest.TestCase):
     """Nor does the compiler make an array of the decision: what is built holds no
     lengths in a row, of numbers of 1, 2, 4 or 8 bytes, in code or in data. So that none
     is found by chance, single bytes are looked for in rows of four, and numbers of 2
-    and of 4 bytes, which wider ones hold, in rows without 0."""
+    and of 4 bytes, which wider ones hold, in rows without 0.
+
+    Of how many rules a call has (crates/needs) the compiler makes tables, with a number
+    for each kind of the called method. The end of the one and the beginning of the other
+    make a row, 10, 5, 6, which is none of lengths: so rows are looked for in front of
+    these tables and behind them."""
     FILES = ("bin/load", "bin/word_test", "staticlib/libsheet_loader.a")
+    COUNTS = [b"".join(number.to_bytes(8, "little") for number in row)
+              for row in ((9, 10, 9, 10), (5, 6, 5, 6))]
 
     @staticmethod
     def rows():
@@ -210,8 +221,12 @@ class Built(unittest.TestCase):
 
     def found(self, data):
         """The rows that stand in the bytes."""
+        pieces = [data]
+        for table in self.COUNTS:
+            pieces = [part for piece in pieces for part in piece.split(table)]
         return [(size, row) for size, row in self.rows()
-                if b"".join(number.to_bytes(size, "little") for number in row) in data]
+                if any(b"".join(number.to_bytes(size, "little") for number in row) in piece
+                       for piece in pieces)]
 
     def test_rows_are_found(self):
         """An array of all lengths, as data and as a constant of an instruction, and
@@ -224,6 +239,21 @@ class Built(unittest.TestCase):
         self.assertTrue(self.found((0x50406050A0606).to_bytes(8, "little")))
         self.assertTrue(self.found(b"".join(n.to_bytes(8, "little") for n in (8, 0, 2))))
         self.assertEqual(self.found(bytes(range(256)) + bytes(64)), [])
+
+    def test_counts_hide_nothing(self):
+        """No array of lengths holds a table of the numbers of rules; lengths in front of
+        such tables, between them and behind them are found."""
+        first, second = self.COUNTS
+        for size in (1, 2, 4, 8):
+            data = b"".join(LENGTHS[kind].to_bytes(size, "little")
+                            for kind in sorted(LENGTHS))
+            for table in self.COUNTS:
+                self.assertNotIn(table, data)
+            found = self.found(data)
+            for more in (data + first + second, first + data + second,
+                         first + second + data):
+                self.assertEqual(self.found(more), found)
+        self.assertEqual(self.found(first + second), [])
 
     def test_no_row(self):
         files = [CRATES.parent / "target" / name for name in self.FILES]

@@ -1,5 +1,5 @@
 """The programs at their edges: what they read, what they say on standard error, and that no answer is printed then.
-Skipped where the programs are not built (`rt check load word_test`)."""
+Skipped where the programs are not built (`tools/build`, at the top)."""
 import os
 import subprocess
 import tempfile
@@ -52,6 +52,19 @@ class Programs(unittest.TestCase):
             self.says(f'{name}: argument 2 is `{word}`: {expected}', program, OPTION, word, *rest)
         self.says(f'{name}: argument 2 is too long: {expected}', program, OPTION, 'x' * 5000, *rest)
         self.says(f'{name}: argument 2 is missing: {expected}', program, OPTION)
+
+    def wants_utf_8(self, name, program, *rest):
+        """A file is named in UTF-8; another name is told as it is, and no file is opened."""
+        with tempfile.TemporaryDirectory() as folder, open(MINIMAL, 'rb') as sheet:
+            minimal = sheet.read()
+            for file, reads in [('\u00e9'.encode(), True), (b'\xe9', False), (b'x\xff', False), (b'\xed\xa0\x80', False)]:
+                path = os.fsencode(folder) + b'/' + file
+                with open(path, 'wb') as copy:
+                    copy.write(minimal)
+                done = subprocess.run([program, path, *rest], capture_output=True, timeout=60)
+                told = name.encode() + b': cannot read ' + path + b': File name is not UTF-8\n'
+                self.assertEqual(done.stderr, b'' if reads else told)
+                self.assertEqual(done.stdout != b'', reads)
 
     def written_to_full(self, name, program, *arguments, **kinds):
         with open(FULL, 'wb') as full:
@@ -141,6 +154,9 @@ class Load(Programs):
         self.says('load: cannot read : No such file or directory', LOAD, '')
         self.says('load: cannot read the file: File name too long', LOAD, 'x' * 5000)
         self.says('load: cannot read standard input: Bad file descriptor', LOAD, stdin=None, preexec_fn=lambda: os.close(0))
+
+    def test_names(self):
+        self.wants_utf_8('load', LOAD)
 
     def test_too_many_arguments(self):
         for words in OPTIONS:
@@ -256,6 +272,9 @@ class WordTest(Programs):
         with tempfile.TemporaryDirectory() as folder:
             self.says(f'word_test: cannot read {folder}: Is a directory', WORD_TEST, folder, '0')
             self.says(f'word_test: cannot read {folder}/x: No such file or directory', WORD_TEST, folder + '/x', '0')
+
+    def test_names(self):
+        self.wants_utf_8('word_test', WORD_TEST, '0')
 
     @unittest.skipUnless(os.path.exists(FULL), 'no ' + FULL)
     def test_what_cannot_be_written(self):
