@@ -157,7 +157,7 @@ class Source(unittest.TestCase):
                      "    [4, 0][index(kind) - 1]", 'let t = b"\\x04\\x00";',
                      "fn of(t: &[u8; 19]) -> u8"):
             self.assertEqual(self.arrays(line), [line])
-        for line in ("pub fn record_at(s: &[u8], kinds: u8, at: usize) -> Found",
+        for line in ("pub fn record_at(s: &[u8], kinds: u8, at: usize) -> Option<Record>",
                      "fn fill(t: &mut [usize])", "place: index(s[at + 1]),",
                      "// by a table [4, 0, 0]", "#[derive(Clone, Copy)]",
                      "#![tactic(auto)]"):

@@ -40,7 +40,10 @@ pub enum Rule {
 
 // A rule by two numbers, its own and that of its method or step.
 #[derive(Clone, Copy)]
-pub struct RuleNumbers(pub usize, pub usize);
+pub struct RuleNumbers {
+    pub number: usize,
+    pub subject: usize,
+}
 
 // What the loader returns: the count of an accepted sheet, a refusal, or the first fault of a well formed sheet.
 #[derive(Clone, Copy)]
@@ -63,49 +66,43 @@ const RULES_OF_METHODS: [usize; 9] = [1, 2, 3, 4, 5, 6, 22, 23, 24];
 
 // A rule by its number, which has at most two digits, and that of its method or step.
 pub fn rule_numbers(r: Rule) -> RuleNumbers
-    ensures value { result ≡ (rule_number r, rule_subject r) }
-    ensures result_bound { result.0 < 100 }
+    ensures value { result ≡ record { number = rule_number r; subject = rule_subject r } }
+    ensures result_bound { result.number < 100 }
 {
-    match r {
-        Rule::FirstPre(k) => RuleNumbers(1, k),
-        Rule::FirstFuture(k) => RuleNumbers(2, k),
-        Rule::EntryPast(k) => RuleNumbers(3, k),
-        Rule::EntryOwn(k) => RuleNumbers(4, k),
-        Rule::ExitOwn(k) => RuleNumbers(5, k),
-        Rule::ExitDue(k) => RuleNumbers(6, k),
-        Rule::EventPast(k) => RuleNumbers(7, k),
-        Rule::EventOwn(k) => RuleNumbers(8, k),
-        Rule::EventDue(k) => RuleNumbers(9, k),
-        Rule::CallPre(k) => RuleNumbers(10, k),
-        Rule::CallPast(k) => RuleNumbers(11, k),
-        Rule::CallOwn(k) => RuleNumbers(12, k),
-        Rule::CallFuture(k) => RuleNumbers(13, k),
-        Rule::CallDue(k) => RuleNumbers(14, k),
-        Rule::PassPast(k) => RuleNumbers(15, k),
-        Rule::PassOwn(k) => RuleNumbers(16, k),
-        Rule::PassDue(k) => RuleNumbers(17, k),
-        Rule::FailedPast(k) => RuleNumbers(18, k),
-        Rule::FailedOwn(k) => RuleNumbers(19, k),
-        Rule::FailedFuture(k) => RuleNumbers(20, k),
-        Rule::FailedDue(k) => RuleNumbers(21, k),
-        Rule::FailedExitOwn(k) => RuleNumbers(22, k),
-        Rule::FailedExitDue(k) => RuleNumbers(23, k),
-        Rule::FirstFailedFuture(k) => RuleNumbers(24, k),
-        Rule::StopDue(k) => RuleNumbers(25, k),
-        Rule::CallEntry(k) => RuleNumbers(26, k),
-    }
+    let (number, subject) = match r {
+        Rule::FirstPre(k) => (1, k),
+        Rule::FirstFuture(k) => (2, k),
+        Rule::EntryPast(k) => (3, k),
+        Rule::EntryOwn(k) => (4, k),
+        Rule::ExitOwn(k) => (5, k),
+        Rule::ExitDue(k) => (6, k),
+        Rule::EventPast(k) => (7, k),
+        Rule::EventOwn(k) => (8, k),
+        Rule::EventDue(k) => (9, k),
+        Rule::CallPre(k) => (10, k),
+        Rule::CallPast(k) => (11, k),
+        Rule::CallOwn(k) => (12, k),
+        Rule::CallFuture(k) => (13, k),
+        Rule::CallDue(k) => (14, k),
+        Rule::PassPast(k) => (15, k),
+        Rule::PassOwn(k) => (16, k),
+        Rule::PassDue(k) => (17, k),
+        Rule::FailedPast(k) => (18, k),
+        Rule::FailedOwn(k) => (19, k),
+        Rule::FailedFuture(k) => (20, k),
+        Rule::FailedDue(k) => (21, k),
+        Rule::FailedExitOwn(k) => (22, k),
+        Rule::FailedExitDue(k) => (23, k),
+        Rule::FirstFailedFuture(k) => (24, k),
+        Rule::StopDue(k) => (25, k),
+        Rule::CallEntry(k) => (26, k),
+    };
+    RuleNumbers { number, subject }
 }
 
-// Whether a rule, by its number, is about a method.
+// Whether a rule, by its number, is about a method. A number and no `Rule`: the clause answers for each number, as the definition does.
 pub fn of_method(rule: usize) -> bool
     ensures { result ≡ of_method rule }
 {
-    let mut i = 0;
-    while i < 9 {
-        if RULES_OF_METHODS[i] == rule {
-            return true;
-        }
-        i += 1;
-    }
-    false
+    RULES_OF_METHODS.contains(&rule)
 }

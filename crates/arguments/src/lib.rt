@@ -5,17 +5,17 @@ ghost use Rattle.std.specs.Prelude.{◌≡◌, true, ◌≤◌, length};
 ghost use Rattle.input.specs.Input.{ReadInto};
 ghost use Rattle.arguments.specs.Choice.{Chosen};
 
-use input::{Input, argument, first, read_all, read_file};
-use instrument::{Instrument, Named};
+use input::{argument, first, read_all, read_file};
+use instrument::Instrument;
 use std::env::{Env, FillError};
 use std::io::{Cursor, Error, ErrorKind, Write};
 use std::rt::Files;
 use std::{io, str};
 
-// The instrument that the arguments name, and the number of the first argument behind the option.
+// The instrument that the arguments name, if they name one, and the number of the first argument behind the option.
 #[derive(Clone, Copy)]
 pub struct Choice {
-    pub named: Named,
+    pub instrument: Option<Instrument>,
     pub next: usize,
 }
 
@@ -101,16 +101,15 @@ pub fn wrong_argument<E: Env, W: Write>(
 
 // The instrument, or a line on standard error that says what was expected ------------------------------------------------
 
-// The instrument that argument i names.
-fn instrument_at<E: Env>(env: &E, i: usize) -> Named {
-    if is_argument(env, i, b"large") {
-        Named::Known(Instrument::Large)
-    } else if is_argument(env, i, b"entry") {
-        Named::Known(Instrument::Entry)
-    } else if is_argument(env, i, b"four") {
-        Named::Known(Instrument::Four)
-    } else {
-        Named::Unknown
+// The instrument that argument i names. There is room for 4,096 bytes of it.
+fn instrument_at<E: Env>(env: &E, i: usize) -> Option<Instrument> {
+    let mut room = [0u8; 4096];
+    let n = argument(env, i, &mut room);
+    match &room[..n] {
+        b"large" => Some(Instrument::Large),
+        b"entry" => Some(Instrument::Entry),
+        b"four" => Some(Instrument::Four),
+        _ => None,
     }
 }
 
@@ -121,12 +120,12 @@ pub fn chosen_instrument<E: Env, W: Write>(env: &E, errors: &mut W, program: &[u
 {
     if !is_argument(env, 1, b"--instrument") {
         return Choice {
-            named: Named::Known(Instrument::Large),
+            instrument: Some(Instrument::Large),
             next: 1,
         };
     }
-    let named = instrument_at(env, 2);
-    if let Named::Unknown = named {
+    let instrument = instrument_at(env, 2);
+    if instrument.is_none() {
         wrong_argument(
             env,
             errors,
@@ -135,16 +134,24 @@ pub fn chosen_instrument<E: Env, W: Write>(env: &E, errors: &mut W, program: &[u
             b"an instrument, large, entry or four",
         );
     }
-    Choice { named, next: 3 }
+    Choice {
+        instrument,
+        next: 3,
+    }
 }
 
 // Input, or a line on standard error that says what could not be read ----------------------------------------------------
 
 // What was read; where it could not be, that is said.
-fn told<W: Write>(errors: &mut W, program: &[u8], what: &[u8], got: Input) -> Input
+fn told<W: Write>(
+    errors: &mut W,
+    program: &[u8],
+    what: &[u8],
+    got: io::Result<usize>,
+) -> io::Result<usize>
     ensures { result ≡ got }
 {
-    if let Input::Failed(why) = got {
+    if let Err(why) = got {
         cannot_read(errors, program, what, why);
     }
     got
@@ -165,13 +172,13 @@ pub fn read_named<R: Env + Files, W: Write>(
     program: &[u8],
     i: usize,
     room: &mut [u8],
-) -> Input
+) -> io::Result<usize>
     ensures { ReadInto room.old room.new result }
 {
     let mut name = [0u8; 4096];
     match rt.arg(i, &mut name) {
         Ok(n) => told(errors, program, &name[..n], read_file(rt, &name[..n], room)),
-        Err(e) => told(errors, program, b"the file", Input::Failed(no_name(e))),
+        Err(e) => told(errors, program, b"the file", Err(no_name(e))),
     }
 }
 
@@ -181,7 +188,7 @@ pub fn read_input<I: io::Input, W: Write>(
     errors: &mut W,
     program: &[u8],
     room: &mut [u8],
-) -> Input
+) -> io::Result<usize>
     ensures { ReadInto room.old room.new result }
 {
     let got = read_all(&mut rt.reader(), room);

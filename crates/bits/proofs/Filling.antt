@@ -3,14 +3,14 @@ use mathlib.Core.Path.{◌≡◌, refl, sym, ap, ap₂, ◌∙◌, subst}
 use mathlib.Core.Bool.{Bool, true, false, cond, not, ◌&&◌, ◌||◌, or-false, and-false, and-true}
 use mathlib.Core.Logic.{◌⊎◌, inl, inr}
 use mathlib.Core.List.{List}
-use Prim.Native.Nat.{ℕ, zero, suc, ◌+◌, ◌-◌, ◌*◌, ◌%◌, ◌^◌, ◌≤◌, ◌<◌}
+use Prim.Native.Nat.{ℕ, zero, suc, ◌+◌, ◌*◌, ◌%◌, ◌^◌, ◌≤◌, ◌<◌}
 use native.Mathlib.Omega.{arith}
-use native.Mathlib.Nat.{one-mul, eq-or-lt_of_le, le_of_suc-le-suc, lt_of_le_of_lt}
+use native.Mathlib.Nat.{one-mul, eq-or-lt_of_le, le_of_suc-le-suc}
 use native.Mathlib.Numerals.{add-one}
 use lib.ListN.{length, get_or, set, replicate, length-set, length-replicate, get_or-replicate}
 use lib.Seq.{get_or-set_same, get_or-set_other}
 use lib.Dec.{T, eqb, ltb, ltb→lt}
-use lib.Bits.{bit_and, bit_or, and_le_l, or_zero_r}
+use lib.Bits.{bit_and, bit_or, or_zero_r}
 use lib.Count.{count_trailing_zeros}
 use lib.Pow.{shl_exact}
 use borrow.Author.Tests.{eqb-true, eqb-false, lt-ltb, eq-eqb, ne_eqb}
@@ -18,8 +18,9 @@ use Rattle.bits.specs.Bits.{has}
 use Rattle.bits.proofs.Tests.{T_true, and-out, any-cong}
 use Rattle.bits.proofs.Sets.{has-none}
 use Rattle.bits.proofs.Masks.{has-and, has-or, has-cond, has_one}
-use Rattle.bits.specs.Rows.{in_rows, Linked, Holding, Unions}
-use Rattle.bits.proofs.Least.{Lowest, positive, lowest, lowest-lt, of-rest, any_none, any-split}
+use Rattle.std.specs.Prelude.{Some, None}
+use Rattle.bits.specs.Rows.{in_rows, TakesLowest, Linked, Holding, Unions}
+use Rattle.bits.proofs.Least.{lowest-lt, of-rest, any_none, any-split}
 
 pub one_shifted : (k : ℕ) → k < 64 → 1 * 2 ^ k % 2 ^ 64 ≡ 2 ^ k
 one_shifted k h = shl_exact 1 k 64 (omega arith) (omega arith) ∙ one-mul (2 ^ k)
@@ -39,53 +40,40 @@ abbrev pub row_linked : ℕ → List ℕ → ℕ → ℕ → ℕ
 row_linked more F x k = bit_or (get_or F k 0) (cond (has x k) more 0)
 
 pub record Linking (x more : ℕ) (F₀ F : List ℕ) (rest : ℕ) : Type 0 where
-  pub small : rest < 2 ^ 64
   pub long : length F ≡ 64
   pub whole : (k : ℕ) → row_linked more F rest k ≡ row_linked more F₀ x k
 
-pub linking-none : {x more : ℕ} {F : List ℕ} → x < 2 ^ 64 → length F ≡ 64 → Linking x more F F x
-linking-none h l = record { small = h; long = l; whole = λ k. refl }
+pub linking-none : {x more : ℕ} {F : List ℕ} → length F ≡ 64 → Linking x more F F x
+linking-none l = record { long = l; whole = λ k. refl }
 
 module _ {x more : ℕ} {F₀ F : List ℕ} {rest : ℕ} (l : Linking x more F₀ F rest) where
   -- the row of the lowest number of the rest
-  pub linking-more : (rest ≡ 0 → ⊥)
-      → Linking x more F₀ (set F (count_trailing_zeros 64 rest) (bit_or (get_or F (count_trailing_zeros 64 rest) 0) more)) (bit_and rest (rest - 1))
-  linking-more z =
-      record {
-        small = lt_of_le_of_lt (and_le_l rest (rest - 1)) l.small;
-        long = length-set F p row ∙ l.long;
-        whole = λ k. at k (eqb k p) refl ∙ l.whole k;
-      }
+  pub linking-more : {p rest' : ℕ} → TakesLowest rest (Some p) rest' → Linking x more F₀ (set F p (bit_or (get_or F p 0) more)) rest'
+  linking-more {p} {rest'} (small, taken) =
+      record { long = length-set F p row ∙ l.long; whole = λ k. at k (eqb k p) refl ∙ l.whole k }
     where
-      p : ℕ
-      p = count_trailing_zeros 64 rest
-
       row : ℕ
       row = bit_or (get_or F p 0) more
 
-      low : Lowest rest p
-      low = lowest 64 rest (positive rest z) l.small
+      left : (k : ℕ) (b : Bool) → eqb k p ≡ b → has rest' k ≡ (has rest k && not b)
+      left k b e = taken.without k ∙ ap (λ (b : Bool). has rest k && not b) e
 
-      left : (k : ℕ) (b : Bool) → eqb k p ≡ b → has (bit_and rest (rest - 1)) k ≡ (has rest k && not b)
-      left k b e = low.without k ∙ ap (λ (b : Bool). has rest k && not b) e
-
-      at : (k : ℕ) (b : Bool) → eqb k p ≡ b → row_linked more (set F p row) (bit_and rest (rest - 1)) k ≡ row_linked more F rest k
+      at : (k : ℕ) (b : Bool) → eqb k p ≡ b → row_linked more (set F p row) rest' k ≡ row_linked more F rest k
       at k true e =
-          let i = lowest-lt rest z l.small in
           let n = l.long in
           rw (eqb-true k p e)
           (ap₂ (λ (x : ℕ) (b : Bool). bit_or x (cond b more 0))
-          (get_or-set_same F p row 0 (omega arith))
+          (get_or-set_same F p row 0 (omega (arith, small, n)))
           (left p true (eq-eqb p p refl) ∙ and-false (has rest p))
           ∙ or_zero_r row
-          ∙ sym (ap (λ (b : Bool). bit_or (get_or F p 0) (cond b more 0)) (T_true (has rest p) low.here)))
+          ∙ sym (ap (λ (b : Bool). bit_or (get_or F p 0) (cond b more 0)) (T_true (has rest p) taken.here)))
       at k false e =
           ap₂ (λ (x : ℕ) (b : Bool). bit_or x (cond b more 0))
           (get_or-set_other F p k row 0 (eqb-false k p e))
           (left k false e ∙ and-true (has rest k))
 
-  pub linking-all : rest ≡ 0 → Linked x more F₀ F
-  linking-all z = record {
+  pub linking-all : {rest' : ℕ} → TakesLowest rest None rest' → Linked x more F₀ F
+  linking-all (z, _) = record {
     linked_rows = l.long;
     linked_is = λ k _.
         sym (ap (λ (b : Bool). bit_or (get_or F k 0) (cond b more 0)) (ap (λ (x : ℕ). has x k) z ∙ has-none k) ∙ or_zero_r (get_or F k 0)) ∙ l.whole k;
@@ -94,15 +82,13 @@ module _ {x more : ℕ} {F₀ F : List ℕ} {rest : ℕ} (l : Linking x more F�
 -- Gathering: `found` and the rows of the numbers of the rest make the union of the rows of the numbers of the set -------
 
 pub record Gathering (F : List ℕ) (n x found rest : ℕ) : Type 0 where
-  pub small : rest < 2 ^ 64
   pub few : (p : ℕ) → T (has rest p) → p < n
   pub whole : (q : ℕ) → in_rows F n x q ≡ (has found q || in_rows F n rest q)
 
 -- all is left: the numbers of x below n, where m are the numbers below n
-pub gathering-none : (F : List ℕ) (n x m : ℕ) → x < 2 ^ 64 → ((k : ℕ) → has m k ≡ ltb k n) → Gathering F n x 0 (bit_and x m)
-gathering-none F n x m h e =
+pub gathering-none : (F : List ℕ) (n x m : ℕ) → ((k : ℕ) → has m k ≡ ltb k n) → Gathering F n x 0 (bit_and x m)
+gathering-none F n x m e =
     record {
-      small = lt_of_le_of_lt (and_le_l x m) h;
       few = λ p t. ltb→lt p n (subst T (e p) (and-out (has x p) (has m p) (subst T (has-and x m p) t)).1);
       whole = λ q.
           sym
@@ -115,23 +101,21 @@ gathering-none F n x m h e =
 
 module _ {F : List ℕ} {n x found rest : ℕ} (g : Gathering F n x found rest) where
   -- the row of the lowest number of the rest
-  pub gathering-more : (rest ≡ 0 → ⊥) → Gathering F n x (bit_or found (get_or F (count_trailing_zeros 64 rest) 0)) (bit_and rest (rest - 1))
-  gathering-more z =
-      let low = lowest 64 rest (positive rest z) g.small in
-      let row = get_or F (count_trailing_zeros 64 rest) 0 in
+  pub gathering-more : {p rest' : ℕ} → TakesLowest rest (Some p) rest' → Gathering F n x (bit_or found (get_or F p 0)) rest'
+  gathering-more {p} {rest'} (_, taken) =
+      let row = get_or F p 0 in
       record {
-        small = lt_of_le_of_lt (and_le_l rest (rest - 1)) g.small;
-        few = λ p t. g.few p (of-rest low p t);
+        few = λ q t. g.few q (of-rest taken q t);
         whole = λ q.
             g.whole q
-            ∙ ap (λ (b : Bool). has found q || b) (any-split low n (λ p. has (get_or F p 0) q) (g.few (count_trailing_zeros 64 rest) low.here))
-            ∙ or-next (has found q) (has row q) (in_rows F n (bit_and rest (rest - 1)) q)
-            ∙ sym (ap (λ (b : Bool). b || in_rows F n (bit_and rest (rest - 1)) q) (has-or found row q));
+            ∙ ap (λ (b : Bool). has found q || b) (any-split taken n (λ p. has (get_or F p 0) q) (g.few p taken.here))
+            ∙ or-next (has found q) (has row q) (in_rows F n rest' q)
+            ∙ sym (ap (λ (b : Bool). b || in_rows F n rest' q) (has-or found row q));
       }
 
   -- no number is left
-  pub gathering-all : rest ≡ 0 → (q : ℕ) → has found q ≡ in_rows F n x q
-  gathering-all z q =
+  pub gathering-all : {rest' : ℕ} → TakesLowest rest None rest' → (q : ℕ) → has found q ≡ in_rows F n x q
+  gathering-all (z, _) q =
       sym
       (g.whole q
       ∙ ap (λ (b : Bool). has found q || b) (any_none n rest (λ p. has (get_or F p 0) q) (λ p _. ap (λ (y : ℕ). has y p) z ∙ has-none p))

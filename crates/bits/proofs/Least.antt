@@ -1,4 +1,4 @@
--- The lowest number that passes a test; the lowest number of a set, as the machine counts to it, the set without it, and tests of the numbers
+-- The lowest number of a set, as the machine counts to it, the set without it, and tests of the numbers
 -- of a set, the lowest first.
 use mathlib.Core.Path.{◌≡◌, refl, sym, ap, ap₂, ◌∙◌, subst}
 use mathlib.Core.Bool.{Bool, true, false, not, ◌&&◌, ◌||◌, and-true}
@@ -11,28 +11,17 @@ use lib.Bits.{bit_and, and_step, and_le_r}
 use lib.Count.{count_trailing_zeros, trailing_of_zero}
 use borrow.Author.Tests.{eqb-true}
 use Rattle.bits.specs.Bits.{◌⇒◌, has, any_below, all_below}
-use Rattle.bits.specs.Rows.{IsLowest}
+use Rattle.std.specs.Prelude.{Some, None}
+use Rattle.bits.specs.Rows.{IsLowest, Taken, TakesLowest}
 use Rattle.bits.proofs.Tests.{and-out, and_in, or-out, or_left, or_right, if-out, if-in, T_true, T-ext, any_out, any-in, all-out, all_in}
 use Rattle.bits.proofs.Sets.{has-suc, has-none, has-lt}
 use Rattle.bits.proofs.Masks.{has-low, zero-or-one, has-and}
 
--- The lowest number that passes a test ---------------------------------------------------------------------------------
-
--- the numbers below r fail the test, and r passes it
-pub lowest-here : (n : ℕ) (f : ℕ → Bool) (r : ℕ) → ((k : ℕ) → k < r → f k ≡ false) → r < n → f r ≡ true → IsLowest n f r
-lowest-here n f r h l t = record { bound = omega arith; before = h; stops = λ _. t }
-
--- all numbers below n fail it
-pub lowest-none : (n : ℕ) (f : ℕ → Bool) (r : ℕ) → ((k : ℕ) → k < r → f k ≡ false) → r ≤ n → n ≤ r → IsLowest n f r
-lowest-none n f r h l m = record { bound = l; before = h; stops = λ x. absurd (omega arith) }
-
 -- The lowest number of a set ------------------------------------------------------------------------------------------
 
 -- p is the lowest number of x, and `x & (x - 1)` is x without it
-pub record Lowest (x p : ℕ) : Type 0 where
-  pub here : T (has x p)
-  pub below : (i : ℕ) → i < p → has x i ≡ false
-  pub without : (i : ℕ) → has (bit_and x (x - 1)) i ≡ (has x i && not (eqb i p))
+abbrev pub Lowest : ℕ → ℕ → Type 0
+Lowest x p = Taken x p (bit_and x (x - 1))
 
 low-is : (x d : ℕ) → x % 2 ≡ d → has x 0 ≡ eqb d 1
 low-is x d e = has-low x ∙ ap (λ (d : ℕ). eqb d 1) e
@@ -115,11 +104,15 @@ zeros-here zero s l = absurd (omega (arith, l, trailing_of_zero 64))
 zeros-here (suc x) s l = T_true (has (suc x) (count_trailing_zeros 64 (suc x))) (lowest 64 (suc x) (zero-lt-suc x) s).here
 
 module _ (x n : ℕ) (s : x < 2 ^ 64) (b : n ≤ 64) where
-  pub lowest-bit : count_trailing_zeros 64 x < n → IsLowest n (λ k. has x k) (count_trailing_zeros 64 x)
-  lowest-bit l = lowest-here n (λ k. has x k) (count_trailing_zeros 64 x) (zeros-below x s) l (zeros-here x s (omega arith))
+  pub lowest-bit : count_trailing_zeros 64 x < n → IsLowest n (λ k. has x k) (Some (count_trailing_zeros 64 x))
+  lowest-bit l = record { bound = l; before = zeros-below x s; stops = zeros-here x s (omega arith) }
 
-  pub lowest-past : n ≤ count_trailing_zeros 64 x → IsLowest n (λ k. has x k) n
-  lowest-past l = lowest-none n (λ k. has x k) n (λ k h. zeros-below x s k (omega arith)) (omega arith) (omega arith)
+  pub lowest-past : n ≤ count_trailing_zeros 64 x → IsLowest n (λ k. has x k) None
+  lowest-past l = λ k h. zeros-below x s k (omega arith)
+
+-- one turn of the walk over the numbers of a set
+pub takes-lowest : (x : ℕ) → (x ≡ 0 → ⊥) → x < 2 ^ 64 → TakesLowest x (Some (count_trailing_zeros 64 x)) (bit_and x (x - 1))
+takes-lowest x z l = (lowest-lt x z l, lowest 64 x (positive x z) l)
 
 -- Tests of the numbers of a set -----------------------------------------------------------------------------------------
 
@@ -135,27 +128,27 @@ all_none zero x g h = refl
 all_none (suc n) x g h =
     ap₂ (λ (a b : Bool). a && (b ⇒ g n)) (all_none n x g (λ i l. h i (omega arith))) (h n (le_refl (suc n)))
 
-module _ {x p : ℕ} (l : Lowest x p) where
+module _ {x p y : ℕ} (l : Taken x p y) where
   -- a number of the set is the lowest, or one of the rest
-  in_rest : (i : ℕ) → T (has x i) → (i ≡ p) ⊎ T (has (bit_and x (x - 1)) i)
+  in_rest : (i : ℕ) → T (has x i) → (i ≡ p) ⊎ T (has y i)
   in_rest i t = go (eqb i p) refl
     where
-      go : (b : Bool) → eqb i p ≡ b → (i ≡ p) ⊎ T (has (bit_and x (x - 1)) i)
+      go : (b : Bool) → eqb i p ≡ b → (i ≡ p) ⊎ T (has y i)
       go true e = inl (eqb-true i p e)
       go false e = inr (subst T (sym (l.without i ∙ ap (λ (b : Bool). has x i && not b) e ∙ and-true (has x i))) t)
 
-  pub of-rest : (i : ℕ) → T (has (bit_and x (x - 1)) i) → T (has x i)
+  pub of-rest : (i : ℕ) → T (has y i) → T (has x i)
   of-rest i t = (and-out (has x i) (not (eqb i p)) (subst T (l.without i) t)).0
 
   module _ (n : ℕ) (g : ℕ → Bool) (h : p < n) where
-    pub any-split : any_below n (λ i. has x i && g i) ≡ (g p || any_below n (λ i. has (bit_and x (x - 1)) i && g i))
+    pub any-split : any_below n (λ i. has x i && g i) ≡ (g p || any_below n (λ i. has y i && g i))
     any-split = T-ext (any_below n whole) (g p || any_below n less) forth back
       where
         whole : ℕ → Bool
         whole i = has x i && g i
 
         less : ℕ → Bool
-        less i = has (bit_and x (x - 1)) i && g i
+        less i = has y i && g i
 
         forth : T (any_below n whole) → T (g p || any_below n less)
         forth t =
@@ -163,7 +156,7 @@ module _ {x p : ℕ} (l : Lowest x p) where
             let (a, b) = and-out (has x i) (g i) u in
             ⊎_elim
             (λ (z : i ≡ p). or_left (g p) (any_below n less) (subst (λ (j : ℕ). T (g j)) z b))
-            (λ v. or_right (g p) (any_below n less) (any-in n less i k (and_in (has (bit_and x (x - 1)) i) (g i) v b)))
+            (λ v. or_right (g p) (any_below n less) (any-in n less i k (and_in (has y i) (g i) v b)))
             (in_rest i a)
 
         back : T (g p || any_below n less) → T (any_below n whole)
@@ -172,24 +165,24 @@ module _ {x p : ℕ} (l : Lowest x p) where
             (λ u. any-in n whole p h (and_in (has x p) (g p) l.here u))
             (λ u.
             let (i, k, v) = any_out n less u in
-            let (a, b) = and-out (has (bit_and x (x - 1)) i) (g i) v in
+            let (a, b) = and-out (has y i) (g i) v in
             any-in n whole i k (and_in (has x i) (g i) (of-rest i a) b))
             (or-out (g p) (any_below n less) t)
 
-    pub all_split : all_below n (λ i. has x i ⇒ g i) ≡ (g p && all_below n (λ i. has (bit_and x (x - 1)) i ⇒ g i))
+    pub all_split : all_below n (λ i. has x i ⇒ g i) ≡ (g p && all_below n (λ i. has y i ⇒ g i))
     all_split = T-ext (all_below n whole) (g p && all_below n less) forth back
       where
         whole : ℕ → Bool
         whole i = has x i ⇒ g i
 
         less : ℕ → Bool
-        less i = has (bit_and x (x - 1)) i ⇒ g i
+        less i = has y i ⇒ g i
 
         forth : T (all_below n whole) → T (g p && all_below n less)
         forth t =
             and_in (g p) (all_below n less)
             (if-out (has x p) (g p) (all-out n whole t p h) l.here)
-            (all_in n less (λ i k. if-in (has (bit_and x (x - 1)) i) (g i) (λ u. if-out (has x i) (g i) (all-out n whole t i k) (of-rest i u))))
+            (all_in n less (λ i k. if-in (has y i) (g i) (λ u. if-out (has x i) (g i) (all-out n whole t i k) (of-rest i u))))
 
         back : T (g p && all_below n less) → T (all_below n whole)
         back t =
@@ -198,5 +191,5 @@ module _ {x p : ℕ} (l : Lowest x p) where
             if-in (has x i) (g i) (λ u.
             ⊎_elim
             (λ (z : i ≡ p). subst (λ (j : ℕ). T (g j)) (sym z) a)
-            (λ v. if-out (has (bit_and x (x - 1)) i) (g i) (all-out n less b i k) v)
+            (λ v. if-out (has y i) (g i) (all-out n less b i k) v)
             (in_rest i u)))

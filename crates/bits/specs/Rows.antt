@@ -1,5 +1,5 @@
 -- Tables of sets, whose rows are sets, and the lowest number that passes a test.
-use Rattle.std.specs.Prelude.{◌≡◌, Bool, true, false, cond, ◌&&◌, List, ℕ, ◌≤◌, ◌<◌, length, get_or}
+use Rattle.std.specs.Prelude.{◌≡◌, Bool, true, false, cond, not, ◌&&◌, T, Option, Some, None, List, ℕ, ◌≤◌, ◌<◌, eqb, length, get_or}
 use Rattle.std.specs.Int.Bits.{bit_or}
 use Rattle.bits.specs.Bits.{has, any_below}
 
@@ -27,8 +27,24 @@ pub record Unions (rows : List ℕ) (n : ℕ) (sets unions : List ℕ) : Type 0 
   pub unions_long : length unions ≡ 64
   pub united : (p k : ℕ) → p < 64 → row_has unions p k ≡ in_rows rows n (get_or sets p 0) k
 
--- r is the lowest number below n that passes the test f, or n where none does
-pub record IsLowest (n : ℕ) (f : ℕ → Bool) (r : ℕ) : Type 0 where
-  pub bound : r ≤ n
+-- r is the lowest number below n that passes the test f
+pub record LowestIs (n : ℕ) (f : ℕ → Bool) (r : ℕ) : Type 0 where
+  pub bound : r < n
   pub before : (k : ℕ) → k < r → f k ≡ false
-  pub stops : r < n → f r ≡ true
+  pub stops : f r ≡ true
+
+-- the lowest number below n that passes the test f, where one does
+abbrev pub IsLowest : ℕ → (ℕ → Bool) → Option ℕ → Type 0
+IsLowest n f None = (k : ℕ) → k < n → f k ≡ false
+IsLowest n f (Some r) = LowestIs n f r
+
+-- p is the lowest number of the set x, and y is x without it
+pub record Taken (x p y : ℕ) : Type 0 where
+  pub here : T (has x p)
+  pub below : (i : ℕ) → i < p → has x i ≡ false
+  pub without : (i : ℕ) → has y i ≡ (has x i && not (eqb i p))
+
+-- from the set x its lowest number is taken, and y is left; none is taken from the empty set
+abbrev pub TakesLowest : ℕ → Option ℕ → ℕ → Type 0
+TakesLowest x None y = (x ≡ 0) × (y ≡ 0)
+TakesLowest x (Some p) y = (p < 64) × Taken x p y

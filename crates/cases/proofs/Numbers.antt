@@ -1,10 +1,9 @@
 -- Two numbers of two bytes, one behind the other, as one of four.
-use Rattle.std.proofs.Common.{◌≡◌, ℕ, ◌+◌, ◌*◌, List, ◌++◌, Option, length, arith, length-append}
+use Rattle.std.proofs.Common.{◌≡◌, ℕ, ◌+◌, ◌*◌, List, ◌++◌, Option, Some, None, length, arith, length-append}
 use Rattle.std.proofs.KnownBytes.{Consumes-trans}
 use Rattle.std.proofs.lemmas.List.{get_or_append_left, get_or-append_right}
 use Rattle.sheet.specs.Record.{number_at}
 use Rattle.cases.specs.Bounds.{Reads}
-use Rattle.cases.specs.declared.Number.TheVariants.{Value, End}
 use Rattle.sheet_laws.proofs.Fields.{byte-is, short-is, set_is, short-value, set_value}
 
 module _ (low high : List ℕ) (two : length low ≡ 2) where
@@ -36,10 +35,10 @@ module _ (low high : List ℕ) (two : length low ≡ 2) where
       )
 
 module _ (a b c : Option (List ℕ)) where
-  pub then-more : {m : ℕ} → Reads 2 a b (Value m) → Reads 2 b c End → Reads 4 a c End
+  pub then-more : {m : ℕ} → Reads 2 a b (Some m) → Reads 2 b c None → Reads 4 a c None
   then-more p q = (p.0 ++ q.0, Consumes-trans a b c p.0 q.0 p.1 q.1)
 
-  pub as-one : (m n : ℕ) → Reads 2 a b (Value m) → Reads 2 b c (Value n) → Reads 4 a c (Value (m + 65536 * n))
+  pub as-one : (m n : ℕ) → Reads 2 a b (Some m) → Reads 2 b c (Some n) → Reads 4 a c (Some (m + 65536 * n))
   as-one m n p q = (
     p.0 ++ q.0,
     Consumes-trans a b c p.0 q.0 p.1 q.1,

@@ -1,5 +1,5 @@
 #![tactic(auto)]
-// Cases in a file: a number of bytes, then as many bytes.
+// Cases in a file: a number of bytes, then as many bytes. None where the file ends before a number is whole.
 ghost use Rattle.std.specs.Prelude.{◌≡◌, ◌≤◌, length, take};
 ghost use Rattle.std.specs.Io.KnownBytes.{Consumes};
 ghost use Rattle.sheet.specs.Record.{number_at};
@@ -8,12 +8,6 @@ ghost use Rattle.cases.specs.Bounds.{AtMost, Reads, ReadsSheet};
 use fields::short_at;
 use input::read_full;
 use std::io::Read;
-
-#[derive(Clone, Copy)]
-pub enum Number {
-    Value(usize),
-    End,
-}
 
 // The number in the first two bytes, low byte first.
 fn first_short(bytes: &[u8]) -> usize
@@ -24,32 +18,26 @@ fn first_short(bytes: &[u8]) -> usize
 }
 
 // The number in the next two bytes.
-pub fn next_short<R: Read>(file: &mut R) -> Number
+pub fn next_short<R: Read>(file: &mut R) -> Option<usize>
     ensures at_most { AtMost 65535 result }
     ensures bytes { Reads 2 (R.remaining file.old) (R.remaining file.new) result }
 {
     let mut bytes = [0u8; 2];
     let n = read_full(file, &mut bytes);
-    if n < 2 {
-        return Number::End;
+    if n < bytes.len() {
+        return None;
     }
-    Number::Value(first_short(&bytes))
+    Some(first_short(&bytes))
 }
 
 // The number in the next four bytes.
-pub fn next_number<R: Read>(file: &mut R) -> Number
+pub fn next_number<R: Read>(file: &mut R) -> Option<usize>
     ensures at_most { AtMost 4294967295 result }
     ensures bytes { Reads 4 (R.remaining file.old) (R.remaining file.new) result }
 {
-    let low = next_short(file);
-    let Number::Value(a) = low else {
-        return Number::End;
-    };
-    let high = next_short(file);
-    let Number::Value(b) = high else {
-        return Number::End;
-    };
-    Number::Value(a + 65536 * b)
+    let low = next_short(file)?;
+    let high = next_short(file)?;
+    Some(low + 65536 * high)
 }
 
 // The next n bytes, as many as there is room for and as there are; how many they are.
@@ -62,19 +50,15 @@ pub fn next_bytes<R: Read>(file: &mut R, n: usize, room: &mut [u8]) -> usize
     if room.len() < n {
         return 0;
     }
-    let got = read_full(file, &mut room[..n]);
-    if got <= n { got } else { n }
+    read_full(file, &mut room[..n])
 }
 
 // The next sheet: a number of four bytes and as many bytes; how many they are.
-pub fn next_sheet<R: Read>(file: &mut R, room: &mut [u8]) -> Number
+pub fn next_sheet<R: Read>(file: &mut R, room: &mut [u8]) -> Option<usize>
     ensures at_most { AtMost (length room.old) result }
     ensures room_len_unchanged { length room.new ≡ length room.old }
     ensures bytes { ReadsSheet (R.remaining file.old) (R.remaining file.new) room.new result }
 {
-    let size = next_number(file);
-    let Number::Value(n) = size else {
-        return Number::End;
-    };
-    Number::Value(next_bytes(file, n, room))
+    let size = next_number(file)?;
+    Some(next_bytes(file, size, room))
 }

@@ -1,61 +1,49 @@
 -- Rules tested one after the other.
 use mathlib.Core.Path.{◌≡◌, sym, ap, ◌∙◌, subst}
-use mathlib.Core.Bool.{Bool}
 use mathlib.Core.List.{List, [], ◌∷◌}
-use Prim.Native.Nat.{ℕ, ◌<◌}
-use lib.ListN.{length}
+use Prim.Native.Nat.{ℕ}
+use Rattle.std.specs.Prelude.{Option, Some, None, Result, Ok, Err}
 use Rattle.sheet.specs.Sheet.{Sheet}
 use Rattle.runs.specs.Rules as runs
 use Rattle.runs.specs.Rules.{rules}
-use Rattle.faults.specs.declared.Fault.{Fault}
-use Rattle.items.specs.Stack.{Roomy, Rows}
-use Rattle.meets.specs.Meets.{table_rows}
-use Rattle.answers.specs.declared.Rule.{Rule}
 use Rattle.index.specs.Trial.{Trial, try_rules}
 use Rattle.index.proofs.Trial.{onward, no-rules, trial-append}
 use Rattle.claims.specs.declared.Claim.{Claim}
 use Rattle.claims.specs.Claims.{Says}
-use Rattle.rules.specs.declared.order.Counts.{Counts}
 use Rattle.rules.specs.declared.cursor.Cursor.{Cursor}
-use Rattle.rules.specs.declared.cursor.Next.{Next}
-use Rattle.rules.specs.declared.cursor.Next.TheVariants.{Claim as NextClaim, End}
-use Rattle.rules.specs.Cursor.{LeftAt, GoesOn, NextIs, weight, Nearer}
-use Rattle.trial.specs.declared.Tested.{Tested}
-use Rattle.trial.specs.declared.Tested.TheVariants.{Passed, Failed}
+use Rattle.rules.specs.Cursor.{LeftAt, GoesOn, NextIs}
+use Rattle.trial.specs.declared.Failure.{Failure}
 use Rattle.trial.specs.Tested.{trial_of, Tries}
 
--- What comes next, by its variants --------------------------------------------------------------------------------------
+-- What comes next -------------------------------------------------------------------------------------------------------
 
-module _ (s : List ℕ) (S : Sheet) (xs : List runs.Rule) {n : Next} where
-  pub next-claim : {claim : Claim} {after : Cursor} → n ≡ NextClaim claim after → NextIs s S xs n → GoesOn s S xs claim after
-  next-claim e h = subst (NextIs s S xs) e h
+module _ (s : List ℕ) (S : Sheet) (xs : List runs.Rule) (after : Cursor) {n : Option Claim} where
+  pub next-claim : {claim : Claim} → n ≡ Some claim → NextIs s S xs after n → GoesOn s S xs claim after
+  next-claim e h = subst (NextIs s S xs after) e h
 
-  pub next-end : n ≡ End → NextIs s S xs n → xs ≡ []
-  next-end e h = subst (NextIs s S xs) e h
-
-pub next-nearer : (k : Counts) (c : Cursor) {n : Next} {claim : Claim} {after : Cursor} → n ≡ NextClaim claim after → Nearer k c n → weight k after < weight k c
-next-nearer k c e h = subst (Nearer k c) e h
+  pub next-end : n ≡ None → NextIs s S xs after n → xs ≡ []
+  next-end e h = let done = subst (NextIs s S xs after) e h in done.0
 
 -- Rules one after the other ---------------------------------------------------------------------------------------------
 
 -- no rules are left
-pub none_left : {events : ℕ} {s : List ℕ} {xs : List runs.Rule} (at : ℕ) → xs ≡ [] → Tries events s xs at (Passed at)
+pub none_left : {events : ℕ} {s : List ℕ} {xs : List runs.Rule} (at : ℕ) → xs ≡ [] → Tries events s xs at (Ok at)
 none_left {events} {s} at none = record { comes_to = sym (ap (λ (xs : List runs.Rule). try_rules events s xs at) none ∙ no-rules events s at) }
 
 -- the rules xs are x and then ys
-module _ {events : ℕ} {s : List ℕ} {x : runs.Rule} {xs ys : List runs.Rule} (are : xs ≡ x ∷ ys) {at : ℕ} {t : Tested} (tries : Tries events s (x ∷ []) at t) where
-  led : (u : Tested) → t ≡ u → onward (trial_of u) (try_rules events s ys) ≡ try_rules events s xs at
+module _ {events : ℕ} {s : List ℕ} {x : runs.Rule} {xs ys : List runs.Rule} (are : xs ≡ x ∷ ys) {at : ℕ} {t : Result ℕ Failure} (tries : Tries events s (x ∷ []) at t) where
+  led : (u : Result ℕ Failure) → t ≡ u → onward (trial_of u) (try_rules events s ys) ≡ try_rules events s xs at
   led u e =
-      sym (ap (λ (x : Tested). onward (trial_of x) (try_rules events s ys)) e)
+      sym (ap (λ (x : Result ℕ Failure). onward (trial_of x) (try_rules events s ys)) e)
       ∙ ap (λ (x : Trial). onward x (try_rules events s ys)) tries.comes_to
       ∙ sym (ap (λ (xs : List runs.Rule). try_rules events s xs at) are ∙ trial-append events s (x ∷ []) ys at)
 
   -- the fault of the first rule is that of all
-  pub first_stops : {r : Rule} {f : Fault} → t ≡ Failed r f → Tries events s xs at t
+  pub first_stops : {f : Failure} → t ≡ Err f → Tries events s xs at t
   first_stops fails = record { comes_to = ap trial_of fails ∙ led _ fails }
 
   -- where the first rule passes, the others are left
-  pub first_passes : {next : ℕ} {u : Tested} → t ≡ Passed next → Tries events s ys next u → Tries events s xs at u
+  pub first_passes : {next : ℕ} {u : Result ℕ Failure} → t ≡ Ok next → Tries events s ys next u → Tries events s xs at u
   first_passes passes rest = record { comes_to = rest.comes_to ∙ led _ passes }
 
 -- The walk --------------------------------------------------------------------------------------------------------------
@@ -64,29 +52,20 @@ module _ {events : ℕ} {s : List ℕ} {x : runs.Rule} {xs ys : List runs.Rule} 
 pub record Onward (events : ℕ) (s : List ℕ) (S : Sheet) (from at : ℕ) (cursor : Cursor) : Type 0 where
   pub left : List runs.Rule
   pub left_at : LeftAt s S cursor left
-  pub leads : (u : Tested) → Tries events s left at u → Tries events s (rules S) from u
+  pub leads : (u : Result ℕ Failure) → Tries events s left at u → Tries events s (rules S) from u
 
 module _ {events : ℕ} {s : List ℕ} {S : Sheet} {from at : ℕ} {cursor : Cursor} (h : Onward events s S from at cursor) where
-  pub walk_ends : h.left ≡ [] → Tries events s (rules S) from (Passed at)
+  pub walk_ends : h.left ≡ [] → Tries events s (rules S) from (Ok at)
   walk_ends none = h.leads _ (none_left at none)
 
-  module _ {claim : Claim} {after : Cursor} (g : GoesOn s S h.left claim after) {t : Tested} (tries : (x : runs.Rule) → Says s claim x → Tries events s (x ∷ []) at t) where
-    pub walk-stops : {r : Rule} {f : Fault} → t ≡ Failed r f → Tries events s (rules S) from t
+  module _ {claim : Claim} {after : Cursor} (g : GoesOn s S h.left claim after) {t : Result ℕ Failure} (tries : (x : runs.Rule) → Says s claim x → Tries events s (x ∷ []) at t) where
+    pub walk-stops : {f : Failure} → t ≡ Err f → Tries events s (rules S) from t
     walk-stops fails = h.leads t (first_stops g.rules_are (tries g.first g.says) fails)
 
-    pub walk-on : {next : ℕ} → t ≡ Passed next → Onward events s S from next after
+    pub walk-on : {next : ℕ} → t ≡ Ok next → Onward events s S from next after
     walk-on passes =
         record {
           left = g.others;
           left_at = g.others_left;
           leads = λ u rest. h.leads u (first_passes g.rules_are (tries g.first g.says) passes rest);
         }
-
--- The tables that a test is lent: the stack on which a side's places are found, the rows of the left side and of the right, and room for the
--- search of a certificate's faults.
-pub record RoomToTest (nulls : List Bool) (firsts lasts lfollow lsets rfollow rsets missing rows : List ℕ) : Type 0 where
-  pub stack : Roomy nulls firsts lasts
-  pub left : Rows lfollow lsets
-  pub right : Rows rfollow rsets
-  pub missing_long : length missing ≡ 64
-  pub rows_long : length rows ≡ table_rows

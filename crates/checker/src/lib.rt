@@ -3,69 +3,41 @@
 ghost use Rattle.std.specs.Prelude.{◌≤◌};
 ghost use Rattle.sheet.specs.Sheet.{Sheet};
 ghost use Rattle.runs.specs.Rules.{rules};
-ghost use Rattle.rules.specs.Order.{SheetIn};
+ghost use Rattle.rules.specs.Order.{IndexOf};
 ghost use Rattle.trial.specs.Tested.{Tries};
 
+use clauses::Room;
+use index::Index;
+use items::{Places, Stack};
 use meets::ROWS;
-use rules::cursor::{Next, next_claim, start};
-use rules::order::Counts;
+use rules::cursor::Cursor;
 use sides::sides_of;
-use trial::{Tested, Trial, test};
+use trial::{Failure, Trial, test};
 
-// All rules of a sheet over so many events, with the certificates from an offset on. The tables that the tests need are made once, here.
-pub fn test_rules(
-    s: &[u8],
-    conditions: &[u32; 256],
-    points: &[u32],
-    methods: &[u32; 64],
-    steps: &[u32; 512],
-    counts: Counts,
-    events: usize,
-    from: usize,
-) -> Tested
-    requires sheet_in { (S : Sheet) × SheetIn S s.now conditions.now points.now methods.now steps.now counts }
+// All rules of a sheet over so many events, with the certificates from an offset on: where the last of them ends, or the first rule that fails. The
+// tables that the tests need are made once, here.
+pub fn test_rules(x: Index, events: usize, from: usize) -> Result<usize, Failure>
+    requires sheet_in { (S : Sheet) × IndexOf S x }
     requires events_bound { events ≤ 64 }
-    ensures { (S : Sheet) → SheetIn S s.now conditions.now points.now methods.now steps.now counts →
-        Tries events s.now (rules S) from result }
+    ensures { (S : Sheet) → IndexOf S x.entry → Tries events x.entry.sheet.now (rules S) from result }
 {
-    let mut nulls = [false; 50];
-    let mut firsts = [0; 50];
-    let mut lasts = [0; 50];
-    // followers and sets of the places on the left and on the right
-    let mut lf = [0; 64];
-    let mut ls = [0; 64];
-    let mut rf = [0; 64];
-    let mut rs = [0; 64];
-    let mut missing = [0; 64];
-    let mut rows = [0; ROWS];
+    let mut stack = Stack::EMPTY;
+    let mut left = Places::EMPTY;
+    let mut right = Places::EMPTY;
+    let mut room = Room {
+        rows: [0; ROWS],
+        missing: [0; 64],
+    };
     let mut at = from;
-    let mut cursor = start(s, conditions, points, methods, steps, counts);
-    loop {
-        let next = next_claim(s, conditions, points, methods, steps, counts, cursor);
-        let Next::Claim { claim, after } = next else {
-            return Tested::Passed(at);
-        };
-        let question = sides_of(
-            s,
-            claim,
-            &mut nulls,
-            &mut firsts,
-            &mut lasts,
-            &mut lf,
-            &mut ls,
-            &mut rf,
-            &mut rs,
-        );
+    let mut cursor = Cursor::start(x);
+    while let Some(claim) = cursor.next_claim(x) {
+        let question = sides_of(x.sheet, claim, &mut stack, &mut left, &mut right);
         let trial = Trial {
             at,
             events,
             question,
         };
-        let tested = test(s, trial, &lf, &ls, &rf, &rs, &mut missing, &mut rows);
-        let Tested::Passed(behind) = tested else {
-            return tested;
-        };
-        at = behind;
-        cursor = after;
+        at = test(x.sheet, trial, &left, &right, &mut room)?;
     }
+    Ok(at)
 }

@@ -1,6 +1,6 @@
 -- The rule that a claim of the code stands for, and the claims of a list of rules by their numbers.
-use Rattle.std.specs.Prelude.{ℕ, suc, ◌≤◌, ◌≡◌, List, [], ◌∷◌, drop}
-use Rattle.std.proofs.Math.Option.{Option, none, some}
+use Rattle.std.specs.Prelude.{ℕ, suc, ◌≤◌, ◌≡◌, List, [], ◌∷◌, drop, Option, Some, None}
+use Rattle.std.proofs.Math.Option as math
 use Rattle.condition.specs.Condition.{Condition, join}
 use Rattle.sheet.specs.Reading.{last_channel}
 use Rattle.runs.specs.Rules as runs
@@ -13,10 +13,6 @@ use Rattle.claims.specs.declared.Left.{Left}
 use Rattle.claims.specs.declared.Left.TheVariants.{One, Two}
 use Rattle.claims.specs.declared.Claim.{Claim}
 use Rattle.claims.specs.declared.Claim.TheVariants.{Inclusion, HoldsEmpty}
-use Rattle.claims.specs.declared.Asked.{Asked}
-use Rattle.claims.specs.declared.Asked.TheVariants.{Claim as AClaim, NoMore}
-use Rattle.claims.specs.declared.forms.Raised.{Raised}
-use Rattle.claims.specs.declared.forms.Raised.TheVariants.{Nothing, Word}
 
 -- the name is that of rule n about the method or step k
 pub record RuleIs (x : Rule) (n k : ℕ) : Type 0 where
@@ -58,40 +54,40 @@ Says s (Inclusion r left right) x = SaysInclusion s r left right x
 Says s (HoldsEmpty r part) x = SaysEmpty s r part x
 
 -- what is asked is a claim that stands for the rule x
-abbrev pub Asks : List ℕ → Asked → runs.Rule → Type 0
-Asks s (AClaim c) x = Says s c x
-Asks s NoMore x = ⊥
+abbrev pub Asks : List ℕ → Option Claim → runs.Rule → Type 0
+Asks s (Some c) x = Says s c x
+Asks s None x = ⊥
 
 -- element n is x
 abbrev pub NthIs : {A : Type 0} → List A → ℕ → A → Type 0
 NthIs xs n x = drop n xs ≡ x ∷ drop (suc n) xs
 
 -- what is asked by the number k of a list of rules: rule k, or nothing where there is none
-pub data Kth (s : List ℕ) (xs : List runs.Rule) (k : ℕ) (a : Asked) : Type 0 where
+pub data Kth (s : List ℕ) (xs : List runs.Rule) (k : ℕ) (a : Option Claim) : Type 0 where
   rule : (x : runs.Rule) → Asks s a x → NthIs xs k x → Kth s xs k a
-  none_left : a ≡ NoMore → drop k xs ≡ [] → Kth s xs k a
+  none_left : a ≡ None → drop k xs ≡ [] → Kth s xs k a
 
 -- What a step raises: nothing, or a word of a condition t ---------------------------------------------------------------
 
-pub record WordOf (s : List ℕ) (part : Part) (t : Option Condition) : Type 0 where
+pub record WordOf (s : List ℕ) (part : Part) (t : math.Option Condition) : Type 0 where
   pub raised_one : Condition
   pub raised_is : PartIs s part raised_one
-  pub some_one : t ≡ some raised_one
+  pub some_one : t ≡ math.some raised_one
 
-abbrev pub RaisedIs : List ℕ → Raised → Option Condition → Type 0
-RaisedIs s Nothing t = t ≡ none
-RaisedIs s (Word part) t = WordOf s part t
+abbrev pub RaisedIs : List ℕ → Option Part → math.Option Condition → Type 0
+RaisedIs s None t = t ≡ math.none
+RaisedIs s (Some part) t = WordOf s part t
 
 -- the words of a, then what is raised; and what is raised, then the words of a
-abbrev pub then_raised : Condition → Option Condition → Condition
-then_raised a none = a
-then_raised a (some t) = join a t
+abbrev pub then_raised : Condition → math.Option Condition → Condition
+then_raised a math.none = a
+then_raised a (math.some t) = join a t
 
-abbrev pub raised_then : Option Condition → Condition → Condition
-raised_then none a = a
-raised_then (some t) a = join t a
+abbrev pub raised_then : math.Option Condition → Condition → Condition
+raised_then math.none a = a
+raised_then (math.some t) a = join t a
 
 -- the channel on which a call reads what its method declares, as the code has it: 0 where the call names none
-abbrev pub ChannelIs : Option ℕ → ℕ → Type 0
-ChannelIs none k = k ≡ 0
-ChannelIs (some c) k = (k ≡ c) × (c ≤ last_channel)
+abbrev pub ChannelIs : math.Option ℕ → ℕ → Type 0
+ChannelIs math.none k = k ≡ 0
+ChannelIs (math.some c) k = (k ≡ c) × (c ≤ last_channel)

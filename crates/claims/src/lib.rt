@@ -18,10 +18,3 @@ pub enum Claim {
     Inclusion { rule: Rule, left: Left, right: Part },
     HoldsEmpty { rule: Rule, part: Part },
 }
-
-// What is asked by the number of a rule: a claim, or nothing behind the last one.
-#[derive(Clone, Copy)]
-pub enum Asked {
-    Claim(Claim),
-    NoMore,
-}

@@ -2,19 +2,18 @@
 use mathlib.Core.Path.{◌≡◌, refl, sym, ap, ◌∙◌, subst}
 use mathlib.Core.Bool.{Bool, true, false, not, ◌&&◌}
 use mathlib.Core.List.{List}
-use Prim.Native.Nat.{ℕ, ◌≤◌, ◌<◌}
-use native.Mathlib.Omega.{arith}
+use Prim.Native.Nat.{ℕ, ◌<◌}
 use lib.ListN.{length, get_or}
 use lib.Dec.{T, ltb, lt→ltb}
 use lib.Bits.{bit_and}
-use borrow.Author.Tests.{ltb-true, ltb-false}
 use Rattle.bits.specs.Bits.{◌⇒◌, has, any_below}
 use Rattle.bits.proofs.Tests.{T_true, T-ext, and-out, and_in, any-in, any_out}
 use Rattle.bits.proofs.Sets.{has-none}
 use Rattle.bits.proofs.Masks.{has-and}
 use Rattle.certificate.specs.Certificate.{Certificate, fine, fault, in_order, unless}
 use Rattle.certificate.proofs.Findings.{Fine, fine-is, unless-in, in_order-in, in_order-stops, in_order-cong}
-use Rattle.bits.specs.Rows.{row_has, in_rows, IsLowest}
+use Rattle.std.specs.Prelude.{None}
+use Rattle.bits.specs.Rows.{row_has, in_rows, LowestIs, IsLowest}
 use Rattle.looks.specs.Looks.{misses}
 use Rattle.clause4.specs.Clause4.{served_by, Active, Wanted, Served, missing_at, clause4_by_tables}
 use Rattle.clause4.proofs.Serving.{served-is}
@@ -43,34 +42,31 @@ module _ (missers : ℕ) (rows : List ℕ) (n i all : ℕ) (all-is : (k : ℕ) �
       in_order-in n (λ l. unless (not (misses missers rows l e)) (fault 4 i e l))
       (λ l k. unless-in (not (misses missers rows l e)) (fault 4 i e l) (fails (no_place e h l k)))
 
-  pub missing-none : (events e : ℕ) → IsLowest events (λ k. has all k) e → events ≤ e → fine ≡ in_order events (missing_at n i missers rows)
-  missing-none events e low h =
-      sym (fine-is _ (in_order-in events (missing_at n i missers rows) (λ k l. event-fine k (low.before k (omega arith)))))
+  pub missing-none : (events : ℕ) → IsLowest events (λ k. has all k) None → fine ≡ in_order events (missing_at n i missers rows)
+  missing-none events none = sym (fine-is _ (in_order-in events (missing_at n i missers rows) (λ k l. event-fine k (none k l))))
 
-  module _ (e l : ℕ) (at_place : IsLowest n (λ q. misses missers rows q e) l) where
-    on-side : has all e ≡ true → l < n
-    on-side h =
-        let (p, a, x) = any_out n (λ p. misses missers rows p e) (T_of (sym (all-is e) ∙ h)) in
-        go (ltb l n) refl p a x
-      where
-        go : (b : Bool) → ltb l n ≡ b → (p : ℕ) → p < n → T (misses missers rows p e) → l < n
-        go true y p a x = ltb-true l n y
-        go false y p a x = let z = ltb-false l n y in absurd (rw (at_place.before p (omega arith)) at x)
+  module _ (events e : ℕ) (low : LowestIs events (λ k. has all k) e) where
+    -- some place misses the event
+    pub no_place-misses : IsLowest n (λ q. misses missers rows q e) None → ⊥
+    no_place-misses none =
+        let (p, a, x) = any_out n (λ p. misses missers rows p e) (T_of (sym (all-is e) ∙ low.stops)) in
+        rw (none p a) at x
 
-    event-fault : has all e ≡ true → missing_at n i missers rows e ≡ fault 4 i e l
-    event-fault h =
-        in_order-stops n (λ l. unless (not (misses missers rows l e)) (fault 4 i e l)) l (on-side h)
+  module _ (e l : ℕ) (at_place : LowestIs n (λ q. misses missers rows q e) l) where
+    event-fault : missing_at n i missers rows e ≡ fault 4 i e l
+    event-fault =
+        in_order-stops n (λ l. unless (not (misses missers rows l e)) (fault 4 i e l)) l at_place.bound
         (in_order-in l (λ l. unless (not (misses missers rows l e)) (fault 4 i e l))
         (λ k a. unless-in (not (misses missers rows k e)) (fault 4 i e k) (fails (at_place.before k a))))
         _
-        (ap (λ (b : Bool). unless (not b) (fault 4 i e l)) (at_place.stops (on-side h)))
+        (ap (λ (b : Bool). unless (not b) (fault 4 i e l)) at_place.stops)
 
-    pub missing-first : (events : ℕ) → IsLowest events (λ k. has all k) e → e < events → fault 4 i e l ≡ in_order events (missing_at n i missers rows)
-    missing-first events low h =
-        sym (in_order-stops events (missing_at n i missers rows) e h
+    pub missing-first : (events : ℕ) → LowestIs events (λ k. has all k) e → fault 4 i e l ≡ in_order events (missing_at n i missers rows)
+    missing-first events low =
+        sym (in_order-stops events (missing_at n i missers rows) e low.bound
         (in_order-in e (missing_at n i missers rows) (λ k a. event-fine k (low.before k a)))
         _
-        (event-fault (low.stops h)))
+        event-fault)
 
 -- no place misses an event
 pub missing-nothing : {missers : ℕ} (rows : List ℕ) (n i events : ℕ) → missers ≡ 0 → fine ≡ in_order events (missing_at n i missers rows)

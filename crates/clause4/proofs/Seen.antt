@@ -1,11 +1,11 @@
 -- The pairs that a search has seen: first those from `start` to the last, then those from the first to `start`. It stands at number i, on the way to `to`.
-use mathlib.Core.Path.{◌≡◌, refl, ap}
+use mathlib.Core.Path.{◌≡◌, refl}
 use mathlib.Core.Bool.{Bool, true, false, cond}
 use mathlib.Core.Logic.{◌⊎◌, inl, inr, ⊎_elim}
 use Prim.Native.Nat.{ℕ, suc, ◌+◌, ◌-◌, ◌≤◌, ◌<◌}
 use native.Mathlib.Omega.{arith}
 use lib.Dec.{eqb, ltb}
-use borrow.Author.Tests.{eq-eqb, ne_eqb, ltb-true, ltb-false}
+use borrow.Author.Tests.{ltb-true, ltb-false}
 
 -- where a search stands: on the way to the last pair, or to the one at which it started
 pub record Stands (start count i to : ℕ) : Type 0 where
@@ -20,9 +20,6 @@ pub record Seen (P : ℕ → Type 0) (start count i to : ℕ) : Type 0 where
   pub behind : to ≡ start → (j : ℕ) → j < i → P j
 
 module _ {start count : ℕ} where
-  pub stands-first : start ≤ count → Stands start count start count
-  stands-first l = record { inside = l; reached = l; way = inl (refl, omega arith) }
-
   module _ {i to : ℕ} (s : Stands start count i to) where
     pub stands-within : to ≤ count
     stands-within = let l = s.inside in ⊎_elim (λ u. let e = u.0 in omega arith) (λ e. omega arith) s.way
@@ -30,17 +27,7 @@ module _ {start count : ℕ} where
     pub stands_on : {k : ℕ} → i ≤ k → k ≤ to → Stands start count k to
     stands_on {k} h l = record { inside = s.inside; reached = l; way = ⊎_elim (λ u. inl (u.0, let b = u.1 in omega arith)) (λ e. inr e) s.way }
 
-    pub stands-turned : Stands start count 0 start
-    stands-turned = record { inside = s.inside; reached = omega arith; way = inr refl }
-
 module _ {P : ℕ → Type 0} {start count : ℕ} where
-  pub seen_none : (0 < count → start < count) → Seen P start count start count
-  seen_none n = record {
-    ahead = λ j h l. absurd (omega arith);
-    turned = λ e j h l. absurd (omega arith);
-    behind = λ e j l. absurd (let h = n (omega arith) in omega arith);
-  }
-
   module _ {i to : ℕ} (s : Seen P start count i to) where
     -- the pairs from i on, below k
     pub seen-on : {k : ℕ} → ((j : ℕ) → i ≤ j → j < k → P j) → Seen P start count k to
@@ -57,14 +44,6 @@ module _ {P : ℕ → Type 0} {start count : ℕ} where
             by true y = known (ltb-true j i y)
             by false y = more j (ltb-false j i y) l
 
-    -- the last pair is reached
-    pub seen_turned : Stands start count i to → to ≤ i → (to ≡ start → ⊥) → Seen P start count 0 start
-    seen_turned p l n = record {
-      ahead = λ j h l. absurd (omega arith);
-      turned = λ _ j h k. s.ahead j h (⊎_elim (λ u. let e = u.0 in omega arith) (λ e. absurd (n e)) p.way);
-      behind = λ _ j l. absurd (omega arith);
-    }
-
     -- the pair at which it started is reached again
     pub seen_all : to ≡ start → to ≤ i → (j : ℕ) → j < count → P j
     seen_all e l j h = by (ltb j start) refl
@@ -76,13 +55,3 @@ module _ {P : ℕ → Type 0} {start count : ℕ} where
 -- how many steps of the search are left: the pairs on the way, and, where it has not turned, those before `start` and the turn
 abbrev pub to_see : ℕ → ℕ → ℕ → ℕ
 to_see start i to = to - i + cond (eqb to start) 0 (suc start)
-
-module _ (start : ℕ) where
-  pub to-see-on : {i to k : ℕ} → i ≤ k → k < to → to_see start (k + 1) to < to_see start i to
-  to-see-on {to = to} h l = let r = cond (eqb to start) 0 (suc start) in omega arith
-
-  pub to-see-turned : (i : ℕ) {to : ℕ} → (to ≡ start → ⊥) → to_see start 0 start < to_see start i to
-  to-see-turned i {to} n =
-      let here : cond (eqb start start) 0 (suc start) ≡ 0 = ap (λ (b : Bool). cond b 0 (suc start)) (eq-eqb start start refl) in
-      let left : cond (eqb to start) 0 (suc start) ≡ suc start = ap (λ (b : Bool). cond b 0 (suc start)) (ne_eqb to start n) in
-      omega arith

@@ -16,7 +16,7 @@ use Rattle.bits.specs.Rows.{row_has}
 use Rattle.looks.proofs.Leaving.{fails-not}
 use Rattle.looks.specs.Looks.{serves, misses, Passed, Takes, Left}
 use Rattle.clause4.specs.Clause4.{served_by, Served, Hint}
-use Rattle.clause4.proofs.Seen.{Stands, stands-first, stands-within, stands_on, stands-turned, Seen, seen_none, seen-on, seen_turned, seen_all}
+use Rattle.clause4.proofs.Seen.{Stands, stands-within, stands_on, Seen, seen-on, seen_all}
 
 -- Pair after pair ------------------------------------------------------------------------------------------------------
 
@@ -34,17 +34,6 @@ module _ (c : Certificate) (start m onward : ℕ) (sets : List ℕ) (missers : �
     pub was : (q e : ℕ) → T (misses missers' rows' q e) → T (misses missers rows q e)
     pub unmet : (q e : ℕ) → T (misses missers' rows' q e) → Seen (λ j. serves m onward sets q e (pair_of c j) ≡ false) start (length c) i to
     pub met : (q e : ℕ) → T (misses missers rows q e) → T (misses missers' rows' q e) ⊎ T (served_by c m onward sets (length c) q e)
-
-  pub going-none : {to : ℕ} → to ≡ length c → start ≤ to → (0 < to → start < to) → length rows ≡ 64 → missers < 2 ^ 64 → Going start to missers rows
-  going-none {to} is h k l s = subst (λ (n : ℕ). Going start n missers rows) (sym is) (record {
-    stands = stands-first (omega arith);
-    long = l;
-    small = s;
-    among = λ q t. t;
-    was = λ q e t. t;
-    unmet = λ q e t. seen_none (λ z. let y = k (omega arith) in omega arith);
-    met = λ q e t. inl t;
-  })
 
   module _ {i to missers' : ℕ} {rows' : List ℕ} (g : Going i to missers' rows') where
     -- what is on the way is a pair
@@ -85,18 +74,6 @@ module _ (c : Certificate) (start m onward : ℕ) (sets : List ℕ) (missers : �
         here q e u false y =
             inl (subst T (sym (f.left_is q e)) (and_in (misses missers' rows' q e) (not (serves m onward sets q e (pair_of c i))) u (rw y tt)))
 
-    -- the last pair is seen, and the search goes on from the first
-    pub going-turned : to ≤ i → (to ≡ start → ⊥) → Going 0 start missers' rows'
-    going-turned l n = record {
-      stands = stands-turned g.stands;
-      long = g.long;
-      small = g.small;
-      among = g.among;
-      was = g.was;
-      unmet = λ q e t. seen_turned (g.unmet q e t) g.stands l n;
-      met = g.met;
-    }
-
     served-when : ((q e : ℕ) → T (misses missers' rows' q e) → served_by c m onward sets (length c) q e ≡ false)
         → Served c m onward sets missers rows missers' rows'
     served-when h = record { long = g.long; was = g.was; unmet = h; met = g.met }
@@ -115,9 +92,6 @@ module _ (c : Certificate) (start m onward : ℕ) (sets : List ℕ) (missers : �
 -- Where the next search may start ---------------------------------------------------------------------------------------
 
 module _ {c : Certificate} {onward wanted : ℕ} where
-  pub hint-none : {k : ℕ} → k ≡ length c → Hint c onward wanted k
-  hint-none e = record { bound = omega arith; wants = λ l. absurd (omega arith); lies = λ l. absurd (omega arith) }
-
   -- a pair that serves
   pub hint-at : {missers i : ℕ} → i < length c → ((q : ℕ) → T (has missers q) → T (has wanted q)) → Takes onward missers (pair_of c i) → Hint c onward wanted i
   hint-at {missers} {i} l among p = record { bound = omega arith; wants = λ _. among (pair_of c i).place p.wants; lies = λ _. p.lies }

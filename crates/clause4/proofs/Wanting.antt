@@ -3,22 +3,20 @@ use mathlib.Core.Path.{◌≡◌, refl, sym, ap, ◌∙◌, subst}
 use mathlib.Core.Bool.{Bool, true, false, cond, not, ◌&&◌, and-true}
 use mathlib.Core.Logic.{⊎_elim}
 use mathlib.Core.List.{List}
-use Prim.Native.Nat.{ℕ, ◌+◌, ◌-◌, ◌^◌, ◌<◌}
-use native.Mathlib.Nat.{lt_of_le_of_lt}
+use Prim.Native.Nat.{ℕ, ◌+◌, ◌^◌, ◌<◌}
 use native.Mathlib.Omega.{arith}
 use lib.ListN.{length, get_or, set, length-set}
 use lib.Seq.{get_or-set_same, get_or-set_other}
 use lib.Dec.{T, eqb, ltb, eqb→eq, lt→ltb}
-use lib.Bits.{bit_and, bit_or, and_le_l}
-use lib.Count.{count_trailing_zeros}
+use lib.Bits.{bit_and, bit_or}
 use borrow.Author.Count.{below_more}
 use borrow.Author.Tests.{eq-eqb, eqb-true, eqb-false}
 use Rattle.bits.specs.Bits.{has}
 use Rattle.bits.proofs.Tests.{and-out, and_in, or-out, or_left, or_right}
 use Rattle.bits.proofs.Sets.{has-none}
 use Rattle.bits.proofs.Masks.{has-and, has-or, nonzero-in}
-use Rattle.bits.proofs.Least.{Lowest, positive, lowest, lowest-lt}
-use Rattle.bits.specs.Rows.{row_has}
+use Rattle.std.specs.Prelude.{Some, None}
+use Rattle.bits.specs.Rows.{row_has, TakesLowest}
 use Rattle.clause4.specs.Clause4.{Active, Wanted}
 use Rattle.looks.proofs.Rows.{chosen-has}
 
@@ -62,39 +60,24 @@ module _ (sets : List ℕ) (events : ℕ) where
 
 -- each of the places but those of the rest has its row
 pub record Wanting (missers : ℕ) (sets : List ℕ) (mask : ℕ) (rows : List ℕ) (rest : ℕ) : Type 0 where
-  pub small : rest < 2 ^ 64
   pub long : length rows ≡ 64
   pub row : (q : ℕ) → T (has missers q) → has rest q ≡ false → get_or rows q 0 ≡ bit_and (get_or sets q 0) mask
 
 module _ (missers : ℕ) (sets : List ℕ) (mask : ℕ) where
-  pub wanting-none : {rows : List ℕ} → missers < 2 ^ 64 → length rows ≡ 64 → Wanting missers sets mask rows missers
-  wanting-none s l = record { small = s; long = l; row = λ q t n. absurd (rw n at t) }
-
   module _ {rows : List ℕ} {rest : ℕ} (w : Wanting missers sets mask rows rest) where
-    pub wanting-all : rest ≡ 0 → Wanted missers sets mask rows
-    wanting-all z = record { long = w.long; row = λ q t. w.row q t (ap (λ (x : ℕ). has x q) z ∙ has-none q) }
+    pub wanting-all : {rest' : ℕ} → TakesLowest rest None rest' → Wanted missers sets mask rows
+    wanting-all (z, _) = record { long = w.long; row = λ q t. w.row q t (ap (λ (x : ℕ). has x q) z ∙ has-none q) }
 
     -- the lowest place of the rest
-    pub wanting-more : (rest ≡ 0 → ⊥)
-        → Wanting missers sets mask (set rows (count_trailing_zeros 64 rest) (bit_and (get_or sets (count_trailing_zeros 64 rest) 0) mask)) (bit_and rest (rest - 1))
-    wanting-more z =
-        record {
-          small = lt_of_le_of_lt (and_le_l rest (rest - 1)) w.small;
-          long = length-set rows p events ∙ w.long;
-          row = λ q t n. by q t (sym (low.without q) ∙ n) (eqb q p) refl;
-        }
+    pub wanting-more : {p rest' : ℕ} → TakesLowest rest (Some p) rest' → Wanting missers sets mask (set rows p (bit_and (get_or sets p 0) mask)) rest'
+    wanting-more {p} {rest'} (small, taken) =
+        record { long = length-set rows p events ∙ w.long; row = λ q t n. by q t (sym (taken.without q) ∙ n) (eqb q p) refl }
       where
-        p : ℕ
-        p = count_trailing_zeros 64 rest
-
         events : ℕ
         events = bit_and (get_or sets p 0) mask
 
-        low : Lowest rest p
-        low = lowest 64 rest (positive rest z) w.small
-
         inside : p < length rows
-        inside = let l = w.long in let h = lowest-lt rest z w.small in omega arith
+        inside = omega (arith, w.long, small)
 
         by : (q : ℕ) → T (has missers q) → (has rest q && not (eqb q p)) ≡ false → (b : Bool) → eqb q p ≡ b
             → get_or (set rows p events) q 0 ≡ bit_and (get_or sets q 0) mask

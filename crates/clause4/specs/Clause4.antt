@@ -4,8 +4,8 @@ use Rattle.std.specs.Int.Bits.{bit_and}
 use Rattle.bits.specs.Bits.{◌⇒◌, has, any_below}
 use Rattle.certificate.specs.Certificate.{Certificate, pair_of, Finding, fault, in_order, unless}
 use Rattle.bits.specs.Rows.{row_has}
-use Rattle.looks.specs.declared.Scope.{Scope}
-use Rattle.looks.specs.Looks.{Searched, serves, misses}
+use Rattle.looks.specs.declared.Search.{Search}
+use Rattle.looks.specs.Looks.{IsReady, serves, misses}
 
 -- Pairs that serve ------------------------------------------------------------------------------------------------------
 
@@ -25,12 +25,12 @@ pub record Active (sets : List ℕ) (n events set : ℕ) : Type 0 where
   pub is : (q : ℕ) → T (has set q) → q < n
   pub holds : (q e : ℕ) → q < n → e < events → T (row_has sets q e) → T (has set q)
 
--- what is the same for all pairs of a certificate c, with the tables of the two sides and the rows that are kept of c
-pub record Scoped (c : Certificate) (x : Scope) (lsets rsets rows : List ℕ) : Type 0 where
-  pub searched : Searched c x rsets rows
-  pub few_events : x.events ≤ 64
-  pub few_left : x.n ≤ 64
-  pub alive_is : Active lsets x.n x.events x.alive
+-- a search is made ready for all pairs of a certificate, with the sets of the left side
+pub record Scoped (x : Search) (lsets : List ℕ) : Type 0 where
+  pub searched : IsReady x
+  pub few_events : x.scope.events ≤ 64
+  pub few_left : x.scope.n ≤ 64
+  pub alive_is : Active lsets x.scope.n x.scope.events x.scope.alive
 
 -- the rows of the places `missers` are the events of the mask that each holds
 pub record Wanted (missers : ℕ) (sets : List ℕ) (mask : ℕ) (rows : List ℕ) : Type 0 where

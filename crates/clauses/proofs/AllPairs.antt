@@ -1,5 +1,5 @@
 -- Clause 1, and then the pairs in order.
-use mathlib.Core.Path.{◌≡◌, refl, sym, ap, ◌∙◌, subst}
+use mathlib.Core.Path.{◌≡◌, refl, sym, ap, ◌∙◌}
 use mathlib.Core.Bool.{Bool, true, false, ◌&&◌, false≢true}
 use mathlib.Core.List.{List, [], ◌∷◌}
 use Prim.Native.Nat.{ℕ, ◌+◌, ◌*◌, ◌<◌, zero-le}
@@ -7,21 +7,18 @@ use native.Mathlib.Omega.{arith}
 use native.Mathlib.Numerals.{add-one}
 use lib.ListN.{length}
 use lib.Dec.{eqb}
+use Rattle.std.specs.Prelude.{Result, Err, Some, None}
 use Rattle.condition.specs.Condition.{Condition}
 use Rattle.certificate.specs.Certificate.{Pair, Certificate, pair_of, Finding, fine, found, fault, ◌then◌, in_order, unless, starts_right, pair_finding, check}
 use Rattle.certificate.proofs.Findings.{is-fine, in_order-stops}
 use Rattle.sheet_laws.specs.AtOffset.{certificate_at}
 use Rattle.faults.specs.Fault.{fault_of, finding_of}
 use Rattle.faults.specs.declared.Fault.{Fault}
-use Rattle.faults.specs.declared.Finding as code
-use Rattle.faults.specs.declared.Finding.TheVariants.{Found}
 use Rattle.pairs.specs.Found.{pair_found}
-use Rattle.pairs.specs.declared.Entry.TheVariants as entry
 use Rattle.pairs.proofs.Laws.{found-pair, found-end, last-inside}
 use Rattle.format.specs.Pairs.{pair_is}
 use Rattle.format.specs.declared.listing.Pair as format
 use Rattle.clauses.specs.Clauses.{Spans, each_pair}
-use Rattle.clauses.specs.declared.Checked.TheVariants.{Passes, Fails}
 
 -- Tests in order --------------------------------------------------------------------------------------------------------
 
@@ -29,18 +26,9 @@ pub fine_more : (i : ℕ) (f : ℕ → Finding) → in_order i f ≡ fine → f 
 unfolding in_order
 fine_more i f h e = rw (add-one i, h, e)
 
-pub first_found : {r : code.Finding} {x : Fault} (n i : ℕ) (f : ℕ → Finding) → i < n → in_order i f ≡ fine → finding_of r ≡ f i → r ≡ Found x
+pub first_found : {A : Type 0} {r : Result A Fault} {x : Fault} (n i : ℕ) (f : ℕ → Finding) → i < n → in_order i f ≡ fine → finding_of r ≡ f i → r ≡ Err x
     → found (fault_of x) ≡ in_order n f
-first_found {r} {x} n i f a h g e = sym (in_order-stops n f i a (is-fine (in_order i f) h) (fault_of x) (sym g ∙ ap finding_of e))
-
--- Answers ---------------------------------------------------------------------------------------------------------------
-
--- what is said of an answer that passes, by its bytes; a fault is no such answer
-pub when-passed : (A : ℕ → Type 0) {n : ℕ} → A n → (k : ℕ) → Passes n ≡ Passes k → A k
-when-passed A {n} h k p = let y : n ≡ k = cc in subst A y h
-
-pub when-failed : (A : ℕ → Type 0) {f : Fault} (k : ℕ) → Fails f ≡ Passes k → A k
-when-failed A k p = let z : ◌≡◌ {A = ℕ} 0 1 = cc in absurd (omega arith)
+first_found {r = r} {x} n i f a h g e = sym (in_order-stops n f i a (is-fine (in_order i f) h) (fault_of x) (sym g ∙ ap finding_of e))
 
 -- Clause 1 --------------------------------------------------------------------------------------------------------------
 
@@ -58,10 +46,10 @@ starts-some (p ∷ c) h = omega arith
 
 module _ (c : Certificate) where
   -- by what stands first
-  pub no_pair : pair_found c 0 ≡ entry.End → false ≡ starts_right c
+  pub no_pair : pair_found c 0 ≡ None → false ≡ starts_right c
   no_pair h = sym (starts_none c (found-end c 0 zero-le h))
 
-  pub first-pair : {p : format.Pair} → pair_found c 0 ≡ entry.Pair p → (eqb p.place 0 && eqb p.set 1) ≡ starts_right c
+  pub first-pair : {p : format.Pair} → pair_found c 0 ≡ Some p → (eqb p.place 0 && eqb p.set 1) ≡ starts_right c
   first-pair h = let (a, b) = found-pair c 0 h in sym (starts_with c a b)
 
 -- a certificate that starts right has a pair

@@ -1,5 +1,5 @@
 -- The clauses as they are tested with the tables of the two sides are document 01's.
-use mathlib.Core.Path.{◌≡◌, refl, sym, ap, ap₂, ◌∙◌}
+use mathlib.Core.Path.{◌≡◌, refl, sym, ap, ap₂, ◌∙◌, subst}
 use mathlib.Core.Bool.{Bool, true, false, not, ◌&&◌}
 use mathlib.Core.List.{List}
 use Prim.Native.Nat.{ℕ, suc, ◌^◌, ◌≤◌, ◌<◌, suc-le-suc}
@@ -23,12 +23,12 @@ use Rattle.places.specs.Tables.{Tables}
 use Rattle.places.specs.declared.Side.{Side}
 use Rattle.bits.specs.Rows.{row_has, in_rows}
 use Rattle.meets.specs.Meets.{all_hold}
-use Rattle.looks.specs.Looks.{serving}
+use Rattle.looks.specs.Looks.{certificate_of, serving}
 use Rattle.clause4.specs.Clause4.{served_by, clause4_by_tables}
 use Rattle.format.specs.Pairs.{pair_is}
 use Rattle.format.specs.declared.listing.Pair as format
 use Rattle.clauses.specs.declared.Task.{Task}
-use Rattle.clauses.specs.Clauses.{PlacesOf, Ready}
+use Rattle.clauses.specs.Clauses.{PlacesOf, SidesAre, Ready}
 
 and-cong : (a b d : Bool) → (T a → b ≡ d) → (a && b) ≡ (a && d)
 and-cong true b d h = h tt
@@ -140,30 +140,50 @@ module _ (g : Condition) (side : Side) (follow sets : List ℕ) (tg : Tables g s
 
 -- Two sides -------------------------------------------------------------------------------------------------------------
 
-module _ (x : Task) (l g : Condition) {lfollow lsets rfollow rsets rows : List ℕ} (c : Certificate) (ready : Ready c x lsets rsets rows)
-    (tl : Tables l x.left lfollow lsets) (tg : Tables g x.right rfollow rsets) (i : ℕ) (p : format.Pair) where
+module _ (x : Task) (l g : Condition) (ready : Ready x) (sides : SidesAre x l g) (i : ℕ) (p : format.Pair) where
+  abbrev c : Certificate
+  c = certificate_of x.search
+
+  abbrev lfollow : List ℕ
+  lfollow = x.left.now.follow
+
+  abbrev lsets : List ℕ
+  lsets = x.left.now.sets
+
+  abbrev rfollow : List ℕ
+  rfollow = x.right.now.follow
+
+  abbrev rsets : List ℕ
+  rsets = x.search.sets.now
+
+  tl : Tables l x.left_side lfollow lsets
+  tl = sides.left_is
+
+  tg : Tables g x.right_side rfollow rsets
+  tg = sides.right_is
+
   abbrev events : ℕ
-  events = x.scope.events
+  events = x.search.scope.events
 
-  left-places : x.scope.n ≡ places l
-  left-places = places-are l x.left lfollow lsets tl x.scope.n ready.lefts
+  left-places : x.search.scope.n ≡ places l
+  left-places = places-are l x.left_side lfollow lsets tl x.search.scope.n ready.lefts
 
-  right-places : x.scope.m ≡ places g
-  right-places = places-are g x.right rfollow rsets tg x.scope.m ready.rights
+  right-places : x.search.scope.m ≡ places g
+  right-places = places-are g x.right_side rfollow rsets tg x.search.scope.m ready.rights
 
   -- the tests of clauses 2 and 3
   abbrev test2 : Bool
-  test2 = ltb p.place x.scope.n && ltb p.set (2 ^ x.scope.m)
+  test2 = ltb p.place x.search.scope.n && ltb p.set (2 ^ x.search.scope.m)
 
   abbrev test3 : Bool
-  test3 = has x.left.ends p.place ⇒ not (eqb (bit_and p.set x.right.ends) 0)
+  test3 = has x.left_side.ends p.place ⇒ not (eqb (bit_and p.set x.right_side.ends) 0)
 
   test2-is : test2 ≡ (ltb p.place (places l) && only_places g p.set)
   unfolding only_places
   test2-is = ap₂ (λ (j k : ℕ). ltb p.place j && ltb p.set (2 ^ k)) left-places right-places
 
   test3-is : test3 ≡ (ends l p.place ⇒ some_ends g p.set)
-  test3-is = ap₂ (λ (a b : Bool). a ⇒ b) (tl.ends_is p.place) (ends-mask g p.set x.right.ends tg.ends_is)
+  test3-is = ap₂ (λ (a b : Bool). a ⇒ b) (tl.ends_is p.place) (ends-mask g p.set x.right_side.ends tg.ends_is)
 
   abbrev clause4 : Finding
   clause4 = in_order events (λ e. clause4_at events l g c i (pair_is p) e)
@@ -184,24 +204,24 @@ module _ (x : Task) (l g : Condition) {lfollow lsets rfollow rsets rows : List �
   at-clause3 t f = pair-is true false clause4 t f refl
 
   -- clause 4, with the followers of the place and `onward`, those of the set
-  module _ (onward : ℕ) (onward-is : (q : ℕ) → has onward q ≡ in_rows rfollow x.scope.m p.set q) (t : test2 ≡ true) where
+  module _ (onward : ℕ) (onward-is : (q : ℕ) → has onward q ≡ in_rows rfollow x.search.scope.m p.set q) (t : test2 ≡ true) where
     on-side : p.place ≤ leaves l
     on-side =
-        place-le l x.left lfollow lsets tl p.place
-        (rw left-places at (inside-place p.place x.scope.n (ltb p.set (2 ^ x.scope.m)) t))
+        place-le l x.left_side lfollow lsets tl p.place
+        (rw left-places at (inside-place p.place x.search.scope.n (ltb p.set (2 ^ x.search.scope.m)) t))
 
     wanted-is : (e q : ℕ) → (row_has lfollow p.place q && row_has lsets q e) ≡ (follows l p.place q && leaf_holds l q e)
     wanted-is e q =
         ap (λ (b : Bool). b && row_has lsets q e) (tl.follow_is p.place q on-side)
         ∙ and-cong (follows l p.place q) (row_has lsets q e) (leaf_holds l q e)
-        (λ f. let (a, b) = follows-leaf l p.place q f in leaf-row l x.left lfollow lsets tl q e a b)
+        (λ f. let (a, b) = follows-leaf l p.place q f in leaf-row l x.left_side lfollow lsets tl q e a b)
 
     -- clause 4 at the event e, by the tables
     abbrev by_tables : ℕ → Finding
-    by_tables e = clause4_by_tables c x.scope.n i (get_or lfollow p.place 0) lsets x.scope.m onward rsets e
+    by_tables e = clause4_by_tables c x.search.scope.n i (get_or lfollow p.place 0) lsets x.search.scope.m onward rsets e
 
     abbrev test4 : ℕ → ℕ → Bool
-    test4 e q = (row_has lfollow p.place q && row_has lsets q e) ⇒ served_by c x.scope.m onward rsets (length c) q e
+    test4 e q = (row_has lfollow p.place q && row_has lsets q e) ⇒ served_by c x.search.scope.m onward rsets (length c) q e
 
     event-is : (e : ℕ) → by_tables e ≡ clause4_at events l g c i (pair_is p) e
     unfolding clause4_at
@@ -209,7 +229,7 @@ module _ (x : Task) (l g : Condition) {lfollow lsets rfollow rsets rows : List �
         ap (λ (k : ℕ). in_order k (λ q. unless (test4 e q) (fault 4 i e q))) left-places
         ∙ in_order-cong (places l) _ _
         (λ q _. ap₂ (λ (a b : Bool). unless (a ⇒ b) (fault 4 i e q)) (wanted-is e q)
-        (listed-is g x.right rfollow rsets tg x.scope.m ready.rights p.set onward onward-is e c q))
+        (listed-is g x.right_side rfollow rsets tg x.search.scope.m ready.rights p.set onward onward-is e c q))
 
     pub at-clause4 : test3 ≡ true → in_order events by_tables ≡ pair_finding events l g c i (pair_is p)
     at-clause4 u = pair-is true true (in_order events by_tables) t u (in_order-cong events _ _ (λ e _. event-is e))

@@ -1,18 +1,11 @@
--- The clauses of a certificate as they are tested with the tables of two sides, and what an answer stands for.
+-- The clauses of a certificate as they are tested with the tables of two sides.
 use Rattle.std.specs.Prelude.{◌≡◌, List, ℕ, suc, ◌+◌, ◌*◌, ◌≤◌, ◌<◌, length}
 use Rattle.condition.specs.Condition.{Condition}
-use Rattle.certificate.specs.Certificate.{Certificate, pair_of, Finding, fine, found, pair_finding}
+use Rattle.certificate.specs.Certificate.{Certificate, pair_of, Finding, pair_finding}
 use Rattle.sheet_laws.specs.AtOffset.{certificate_at}
-use Rattle.faults.specs.Fault.{fault_of}
+use Rattle.places.specs.Tables.{Tables}
 use Rattle.clause4.specs.Clause4.{Scoped}
 use Rattle.clauses.specs.declared.Task.{Task}
-use Rattle.clauses.specs.declared.Checked.{Checked}
-use Rattle.clauses.specs.declared.Checked.TheVariants.{Passes, Fails}
-
--- the finding that an answer stands for
-abbrev pub checked_finding : Checked → Finding
-checked_finding (Passes n) = fine
-checked_finding (Fails f) = found (fault_of f)
 
 -- The bytes of a certificate that passes, with its end: a pair is six, the end one. It has a pair, so it starts inside its part; all its pairs stand
 -- there, and its end may be the end of the part.
@@ -31,8 +24,13 @@ pub record PlacesOf (leaves r : ℕ) : Type 0 where
   pub places_is : leaves ≤ 62 → r ≡ suc leaves
   pub most : 62 < leaves → r ≡ 63
 
--- a search through the certificate c is made ready: its scope is that of c and of the two sides
-pub record Ready (c : Certificate) (x : Task) (lsets rsets rows : List ℕ) : Type 0 where
-  pub scoped : Scoped c x.scope lsets rsets rows
-  pub lefts : PlacesOf x.left.leaves x.scope.n
-  pub rights : PlacesOf x.right.leaves x.scope.m
+-- l and g are the two sides of a task
+pub record SidesAre (x : Task) (l g : Condition) : Type 0 where
+  pub left_is : Tables l x.left_side x.left.now.follow x.left.now.sets
+  pub right_is : Tables g x.right_side x.right.now.follow x.search.sets.now
+
+-- the search of a task is made ready: its scope is that of the certificate and of the two sides
+pub record Ready (x : Task) : Type 0 where
+  pub scoped : Scoped x.search x.left.now.sets
+  pub lefts : PlacesOf x.left_side.leaves x.search.scope.n
+  pub rights : PlacesOf x.right_side.leaves x.search.scope.m

@@ -1,60 +1,62 @@
 #![tactic(auto)]
 // The clauses of a certificate: its first fault, found in its part of the sheet with the tables of the two sides.
-ghost use Rattle.std.specs.Prelude.{◌≡◌, ℕ, ◌+◌, ◌*◌, ◌≤◌, ◌<◌, ◌^◌, not, ◌&&◌, eqb, ltb, length};
+ghost use Rattle.std.specs.Prelude.{◌≡◌, ℕ, ◌+◌, ◌*◌, ◌≤◌, ◌<◌, ◌^◌, not, ◌&&◌, eqb, ltb, length, IfOk};
 ghost use Rattle.std.specs.Int.Bits.{bit_and};
 ghost use Rattle.bits.specs.Bits.{has, ◌⇒◌};
 ghost use Rattle.condition.specs.Condition.{Condition};
-ghost use Rattle.certificate.specs.Certificate.{fine, starts_right, pair_finding, in_order, check};
+ghost use Rattle.certificate.specs.Certificate.{starts_right, pair_finding, in_order, check};
 ghost use Rattle.sheet_laws.specs.AtOffset.{certificate_at};
 ghost use Rattle.faults.specs.Fault.{finding_of};
 ghost use Rattle.format.specs.Pairs.{pair_is};
 ghost use Rattle.places.specs.Tables.{Tables};
-ghost use Rattle.meets.specs.Meets.{table_rows};
-ghost use Rattle.clauses.specs.declared.Checked.TheVariants.{Passes};
+ghost use Rattle.looks.specs.Looks.{certificate_of};
 ghost use Rattle.known.specs.Known.{Next};
-ghost use Rattle.clauses.specs.Clauses.{checked_finding, Spans, each_pair, PlacesOf, Ready};
+ghost use Rattle.clauses.specs.Clauses.{Spans, each_pair, PlacesOf, SidesAre, Ready};
 
+use bits::member;
 use bits::rows::gather;
-use bits::{both, member};
 use clause4::{Ask, active};
-use faults::{Fault, Finding, fault_of};
+use faults::{Fault, fault_of};
 use format::listing::Pair;
-use known::{Ended, Known, clause4_once};
-use looks::Scope;
+use items::Places;
+use known::{Known, Onward, clause4_once};
+use looks::{Scope, Search};
 use meets::{ROWS, survey};
-use pairs::{Entry, bytes_of, known_pair, pair_in};
+use pairs::{bytes_of, known_pair, pair_in};
 use places::Side;
-
-// The certificate passes, and takes so many bytes with its end; or its first fault.
-#[derive(Clone, Copy)]
-pub enum Checked {
-    Passes(usize),
-    Fails(Fault),
-}
 
 // An inclusion that a certificate is to show: over how many events, and the two sides.
 #[derive(Clone, Copy)]
 pub struct Inclusion {
     pub events: usize,
-    pub left: Side,
-    pub right: Side,
+    pub left_side: Side,
+    pub right_side: Side,
 }
 
-// The search for the first fault: what is the same for all pairs, and the two sides.
+// Room for the search of faults: the rows that are kept of a certificate, and what is missing at each place.
 #[derive(Clone, Copy)]
-pub struct Task {
-    pub scope: Scope,
-    pub left: Side,
-    pub right: Side,
+pub struct Room {
+    pub rows: [u64; ROWS],
+    pub missing: [u64; 64],
 }
 
-// The pair in turn: its number, its place and set, the pair at which the search for what it needs is to start, and what is known to be served.
+// The search for the first fault: what it goes by, the same for all pairs, and the two sides, each with the rows of its places; of the right one the followers
+// are read here, and the sets by the search.
+#[derive(Clone, Copy)]
+pub struct Task<'a> {
+    pub search: Search<'a>,
+    pub left_side: Side,
+    pub right_side: Side,
+    pub left: &'a Places,
+    pub right: &'a Places,
+}
+
+// The pair in turn: its number, its place and set, and what the pair before it leaves for its search.
 #[derive(Clone, Copy)]
 pub struct Turn {
     pub number: usize,
     pub pair: Pair,
-    pub start: usize,
-    pub known: Known,
+    pub begin: Onward,
 }
 
 // The number of a side's places, which is at most 63.
@@ -69,11 +71,10 @@ pub fn places_of(side: Side) -> usize
 pub fn clause1(pairs: &[u8]) -> bool
     ensures { result ≡ starts_right (certificate_at pairs.now 0) }
 {
-    let first = pair_in(pairs, 0);
-    let Entry::Pair(pair) = first else {
+    let Some(pair) = pair_in(pairs, 0) else {
         return false;
     };
-    both(pair.place == 0, pair.set == 1)
+    pair.place == 0 && pair.set == 1
 }
 
 // Clause 2: the place is one of n, and the set has only numbers below m.
@@ -81,11 +82,7 @@ pub fn clause2(n: usize, m: usize, pair: Pair) -> bool
     requires { m < 64 }
     ensures { result ≡ (ltb pair.place n && ltb pair.set (2 ^ m)) }
 {
-    if pair.place < n {
-        pair.set < 1 << m
-    } else {
-        false
-    }
+    pair.place < n && pair.set < 1 << m
 }
 
 // Clause 3: if the place ends a word, so does one of the set.
@@ -93,141 +90,103 @@ pub fn clause3(lends: u64, rends: u64, pair: Pair) -> bool
     requires { pair.place < 64 }
     ensures { result ≡ (has lends pair.place ⇒ not (eqb (bit_and pair.set rends) 0)) }
 {
-    if member(lends, pair.place) {
-        pair.set & rends != 0
-    } else {
-        true
-    }
+    !member(lends, pair.place) || pair.set & rends != 0
 }
 
-// Clauses 2 to 4 of one pair. What is found is the same wherever the search starts.
-pub fn pair_fault(
-    pairs: &[u8],
-    task: Task,
-    turn: Turn,
-    lfollow: &[u64; 64],
-    lsets: &[u64; 64],
-    rfollow: &[u64; 64],
-    rsets: &[u64; 64],
-    rows: &[u64; ROWS],
-    missing: &mut [u64; 64],
-) -> Ended
-    requires ready { Ready (certificate_at pairs.now 0) task lsets.now rsets.now rows.now × (length missing.old ≡ 64) }
-    requires next_2 { Next (certificate_at pairs.now 0) task.scope lsets.now rsets.now turn.start turn.known }
-    ensures finding { (l g : Condition) → Tables l task.left lfollow.now lsets.now → Tables g task.right rfollow.now rsets.now → finding_of result.finding ≡ pair_finding task.scope.events l g (certificate_at pairs.now 0) turn.number (pair_is turn.pair) }
-    ensures rows { length missing.new ≡ 64 }
-    ensures next { finding_of result.finding ≡ fine → Next (certificate_at pairs.now 0) task.scope lsets.now rsets.now result.start result.known }
+// Clauses 2 to 4 of one pair: its fault, or what it leaves for the next one. What is found is the same wherever the search starts.
+pub fn pair_fault(task: &Task, turn: Turn, missing: &mut [u64; 64]) -> Result<Onward, Fault>
+    requires ready { Ready task.now }
+    requires next_2 { Next task.now.search task.now.left.now.sets turn.begin }
+    ensures finding { (l g : Condition) → SidesAre task.now l g → finding_of result ≡ pair_finding task.now.search.scope.events l g (certificate_of task.now.search) turn.number (pair_is turn.pair) }
+    ensures next { IfOk result (Next task.now.search task.now.left.now.sets) }
 {
-    let scope = task.scope;
-    let left = task.left;
-    let right = task.right;
     let number = turn.number;
     let pair = turn.pair;
-    let start = turn.start;
-    let known = turn.known;
-    let place = pair.place;
-    if clause2(scope.n, scope.m, pair) {
-        if clause3(left.ends, right.ends, pair) {
-            let ask = Ask {
-                pair: number,
-                followers: lfollow[place],
-                onward: gather(rfollow, scope.m, pair.set),
-                start,
-            };
-            return clause4_once(pairs, scope, ask, known, lsets, rsets, rows, missing);
-        }
-        return Ended {
-            finding: Finding::Found(fault_of(3, number)),
-            start,
-            known,
-        };
+    let m = task.search.scope.m;
+    if !clause2(task.search.scope.n, m, pair) {
+        return Err(fault_of(2, number));
     }
-    Ended {
-        finding: Finding::Found(fault_of(2, number)),
-        start,
-        known,
+    if !clause3(task.left_side.ends, task.right_side.ends, pair) {
+        return Err(fault_of(3, number));
     }
+    let ask = Ask {
+        pair: number,
+        followers: task.left.follow[pair.place],
+        onward: gather(&task.right.follow, m, pair.set),
+        start: turn.begin.start,
+    };
+    clause4_once(
+        &task.search,
+        ask,
+        turn.begin.known,
+        &task.left.sets,
+        missing,
+    )
 }
 
-// Clauses 2 to 4 of all pairs, in order.
-pub fn in_turn(
-    pairs: &[u8],
-    task: Task,
-    lfollow: &[u64; 64],
-    lsets: &[u64; 64],
-    rfollow: &[u64; 64],
-    rsets: &[u64; 64],
-    rows: &[u64; ROWS],
-    missing: &mut [u64; 64],
-) -> Checked
-    requires { Ready (certificate_at pairs.now 0) task lsets.now rsets.now rows.now × (length missing.old ≡ 64) }
-    ensures finding { (l g : Condition) → Tables l task.left lfollow.now lsets.now → Tables g task.right rfollow.now rsets.now → checked_finding result ≡ in_order (length (certificate_at pairs.now 0)) (each_pair task.scope.events l g (certificate_at pairs.now 0)) }
-    ensures bytes { (n : ℕ) → result ≡ Passes n → n ≡ 6 * length (certificate_at pairs.now 0) + 1 }
-    ensures rows { length missing.new ≡ 64 }
+// Clauses 2 to 4 of all pairs, in order: the first fault, or how many bytes the certificate takes with its end.
+pub fn in_turn(task: &Task, missing: &mut [u64; 64]) -> Result<usize, Fault>
+    requires { Ready task.now }
+    ensures finding { (l g : Condition) → SidesAre task.now l g → finding_of result ≡ in_order (length (certificate_of task.now.search)) (each_pair task.now.search.scope.events l g (certificate_of task.now.search)) }
+    ensures bytes { IfOk result (λ n. n ≡ 6 * length (certificate_of task.now.search) + 1) }
 {
-    let scope = task.scope;
-    let count = scope.count;
-    let mut start: usize = 0;
-    let mut known = Known {
-        followers: 0,
-        onward: 0,
+    let count = task.search.scope.count;
+    let mut begin = Onward {
+        start: 0,
+        known: Known {
+            followers: 0,
+            onward: 0,
+        },
     };
-    let mut i: usize = 0;
-    while i < count {
+    for i in 0..count {
         let turn = Turn {
             number: i,
-            pair: known_pair(pairs, i),
-            start,
-            known,
+            pair: known_pair(task.search.pairs, i),
+            begin,
         };
-        let ended = pair_fault(
-            pairs, task, turn, lfollow, lsets, rfollow, rsets, rows, missing,
-        );
-        let finding = ended.finding;
-        if let Finding::Found(fault) = finding {
-            return Checked::Fails(fault);
-        }
-        start = ended.start;
-        known = ended.known;
-        i += 1;
+        begin = pair_fault(task, turn, missing)?;
     }
-    Checked::Passes(bytes_of(i))
+    Ok(bytes_of(count))
 }
 
-// The first fault of a certificate that is to show an inclusion, with the tables of the two sides. `missing` and `rows` are room for the search.
+// A certificate that is to show an inclusion, with the rows of the places of the two sides: its first fault, or how many bytes it takes with its end.
 // With n pairs it takes at most n * n looks at a pair, each of which reads at most six rows for the set of a sheet's pair.
-pub fn first_fault(
-    pairs: &[u8],
+pub fn first_fault<'a>(
+    pairs: &'a [u8],
     t: Inclusion,
-    lfollow: &[u64; 64],
-    lsets: &[u64; 64],
-    rfollow: &[u64; 64],
-    rsets: &[u64; 64],
-    missing: &mut [u64; 64],
-    rows: &mut [u64; ROWS],
-) -> Checked
-    requires events_bound { t.events ≤ 64 }
-    requires missing_len { (length missing.old ≡ 64) × (length rows.old ≡ table_rows) }
-    ensures finding { (l g : Condition) → Tables l t.left lfollow.now lsets.now → Tables g t.right rfollow.now rsets.now → checked_finding result ≡ check t.events l g (certificate_at pairs.now 0) }
-    ensures bytes { (n : ℕ) → result ≡ Passes n → Spans pairs.now n }
-    ensures room { (length missing.new ≡ 64) × (length rows.new ≡ table_rows) }
+    left: &'a Places,
+    right: &'a Places,
+    room: &'a mut Room,
+) -> Result<usize, Fault>
+    requires { t.events ≤ 64 }
+    ensures finding { (l g : Condition) → Tables l t.left_side left.now.follow left.now.sets → Tables g t.right_side right.now.follow right.now.sets → finding_of result ≡ check t.events l g (certificate_at pairs.now 0) }
+    ensures bytes { IfOk result (Spans pairs.now) }
 {
-    if clause1(pairs) {
-        let left = t.left;
-        let right = t.right;
-        let events = t.events;
-        let n = places_of(left);
-        let m = places_of(right);
-        let count = survey(pairs, m, rsets, rows);
-        let scope = Scope {
-            count,
-            events,
-            n,
-            m,
-            alive: active(lsets, n, events),
-        };
-        let task = Task { scope, left, right };
-        return in_turn(pairs, task, lfollow, lsets, rfollow, rsets, rows, missing);
+    if !clause1(pairs) {
+        return Err(fault_of(1, 0));
     }
-    Checked::Fails(fault_of(1, 0))
+    let events = t.events;
+    let n = places_of(t.left_side);
+    let m = places_of(t.right_side);
+    let count = survey(pairs, m, &right.sets, &mut room.rows);
+    let scope = Scope {
+        count,
+        events,
+        n,
+        m,
+        alive: active(&left.sets, n, events),
+    };
+    let task = Task {
+        search: Search {
+            pairs,
+            scope,
+            sets: &right.sets,
+            rows: &room.rows,
+        },
+        left_side: t.left_side,
+        right_side: t.right_side,
+        left,
+        right,
+    };
+    in_turn(&task, &mut room.missing)
 }

@@ -17,14 +17,13 @@ use Rattle.refusals.specs.declared.Begun.{Begun}
 use Rattle.refusals.specs.Step.{nothing_begun}
 use Rattle.refusals.specs.Editions.{past_mark}
 use Rattle.tally.specs.declared.Tally.{Tally}
-use Rattle.sections.specs.declared.Section.TheVariants.{Done}
-use Rattle.sections.specs.Sections.{Told}
+use Rattle.sections.specs.Sections.{Told, done}
 use Rattle.sections.proofs.Comes.{taken-on}
 use Rattle.sections.proofs.Counted.{counts_same, grown-same}
 use Rattle.sections.proofs.Alone as alone
 use Rattle.condition_section.proofs.Opening.{Matches, nothing-matches, Opening}
 
-module _ {M : Model} {s : List ℕ} {o : ReadResult} {r : Reading} {t : Tally} (table : List ℕ) (told : Told M s o 0 (Done 0 t) r) (none : r.own 1 ≡ []) where
+module _ {M : Model} {s : List ℕ} {o : ReadResult} {r : Reading} {t : Tally} (table : List ℕ) (told : Told M s o 0 (done 0 t) r) (none : r.own 1 ≡ []) where
   abbrev Starts : ℕ → Type 0
   Starts at = Opening M s o r at at nothing_begun t table table
 

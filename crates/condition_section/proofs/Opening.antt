@@ -21,14 +21,13 @@ use Rattle.kinds.specs.Kinds.{last_kind, counts_one, takes_items, leaf_kind}
 use Rattle.kinds.proofs.Table.{past-conditions, Suits, suits, names-nothing}
 use Rattle.format.proofs.Laws.{cond-by, kind-there, Stood, Refuses}
 use Rattle.refusals.specs.declared.Begun.{Begun}
-use Rattle.refusals.specs.declared.Stepped.{Stepped}
-use Rattle.refusals.specs.declared.Stepped.TheVariants as stepped
 use Rattle.refusals.specs.Step.{nothing_begun, items_of_kind, leaves_of_kind, symbol_step, end_step, ends_one, condition_step}
 use Rattle.refusals.specs.Editions.{past_mark}
 use Rattle.tally.specs.declared.Tally.{Tally}
 use Rattle.tally.specs.Tally.{count_of, tally_after}
-use Rattle.sections.specs.declared.Section.TheVariants.{Done, Refused}
-use Rattle.sections.specs.Sections.{Counts, Comes, Extended, Filled}
+use Rattle.std.specs.Prelude.{Result, Ok, Err}
+use Rattle.sections.specs.declared.Reached.{Reached}
+use Rattle.sections.specs.Sections.{Counts, Comes, done, Extended, Filled}
 use Rattle.sections.proofs.Comes.{ended, refuses, taken-on}
 use Rattle.sections.proofs.Counted.{at-is, counts_same, grown-same, closed, counts-more, grown-more}
 use Rattle.sections.proofs.Tests.{or_right, and_right, section-is, not-3, in_order, no-mark, no_stop, no-method, no_call, no_join, no_channel}
@@ -62,8 +61,8 @@ module _ {M : Model} {s : List ℕ} {o : ReadResult} {r : Reading} {at start : �
   u = h.state
 
   -- nothing is begun, and no record of the section is left
-  done : b.symbols ≤ 0 → (at < length s → 2 ≤ section_of (byte_at s at)) → Filled M s o 2 (Done at t) 1 r table₀ table
-  done none above =
+  complete : b.symbols ≤ 0 → (at < length s → 2 ≤ section_of (byte_at s at)) → Filled M s o 2 (done at t) 1 r table₀ table
+  complete none above =
       record {
         state = u;
         told = (
@@ -74,11 +73,11 @@ module _ {M : Model} {s : List ℕ} {o : ReadResult} {r : Reading} {at start : �
         listed = λ low. absurd (omega arith);
       }
 
-  pub all_read : b.symbols ≤ 0 → length s ≤ at → Filled M s o 2 (Done at t) 1 r table₀ table
-  all_read none over = done none (λ before. absurd (omega arith))
+  pub all_read : b.symbols ≤ 0 → length s ≤ at → Filled M s o 2 (done at t) 1 r table₀ table
+  all_read none over = complete none (λ before. absurd (omega arith))
 
   -- 8
-  pub unfinished : 0 < b.symbols → length s ≤ at → Filled M s o 2 (Refused (Unfinished (length s))) 1 r table₀ table
+  pub unfinished : 0 < b.symbols → length s ≤ at → Filled M s o 2 (Err (Unfinished (length s))) 1 r table₀ table
   unfinished some over =
       record {
         state = u;
@@ -96,13 +95,13 @@ module _ {M : Model} {s : List ℕ} {o : ReadResult} {r : Reading} {at start : �
 
   module _ (before : at < length s) where
     -- a record that is refused
-    pub ends : (x : Refusal) → Refuses M s at u x → Filled M s o 2 (Refused x) 1 r table₀ table
+    pub ends : (x : Refusal) → Refuses M s at u x → Filled M s o 2 (Err x) 1 r table₀ table
     ends x e = record { state = u; told = refuses h.comes before e; grown = h.grown; listed = λ low. absurd (omega arith) }
 
     module _ {kind q : ℕ} (w : Stood M s at kind q) where
       module _ (outside : in_condition (section_of kind) (kind_of kind).role ≡ false) where
         -- 4
-        pub still_open : 0 < b.symbols → Filled M s o 2 (Refused (WrongSection at)) 1 r table₀ table
+        pub still_open : 0 < b.symbols → Filled M s o 2 (Err (WrongSection at)) 1 r table₀ table
         still_open some =
             let cannot-stand = ap (λ (k : ℕ). not (in_condition (section_of k) (kind_of k).role)) w.kind ∙ ap not outside in
             let is_open : (eqb u.opened.section 1 && not (in_condition (section_of (byte_at s at)) (kind_of (byte_at s at)).role)) ≡ true =
@@ -111,7 +110,7 @@ module _ {M : Model} {s : List ℕ} {o : ReadResult} {r : Reading} {at start : �
 
         module _ (none : b.symbols ≤ 0) where
           -- 19
-          pub second-mark : kind ≡ 18 → Filled M s o 2 (Refused (EditionNotFirst at)) 1 r table₀ table
+          pub second-mark : kind ≡ 18 → Filled M s o 2 (Err (EditionNotFirst at)) 1 r table₀ table
           second-mark is =
               let here : byte_at s at ≡ 18 = w.kind ∙ is in
               let order = in_order w u (omega (arith, h.section, ap section_of is))
@@ -124,9 +123,9 @@ module _ {M : Model} {s : List ℕ} {o : ReadResult} {r : Reading} {at start : �
                   absurd (omega arith)
               behind (suc i) here marked = omega arith
 
-          pub later-section : M.kinds ≤ last_kind → (kind ≡ 18 → ⊥) → Filled M s o 2 (Done at t) 1 r table₀ table
+          pub later-section : M.kinds ≤ last_kind → (kind ≡ 18 → ⊥) → Filled M s o 2 (done at t) 1 r table₀ table
           later-section highest ne =
-              done none (λ before. omega (arith, section-is w, past-conditions kind w.low (omega (arith, w.high)) outside ne))
+              complete none (λ before. omega (arith, section-is w, past-conditions kind w.low (omega (arith, w.high)) outside ne))
 
       -- a record of a condition
       module _ (stands : in_condition (section_of kind) (kind_of kind).role ≡ true) where
@@ -181,9 +180,9 @@ module _ {M : Model} {s : List ℕ} {o : ReadResult} {r : Reading} {at start : �
             × (ends_one (byte_at s at) ≡ true → ((kind_of (byte_at s at)).role ≡ counts) × (b' ≡ nothing_begun))
             × (ends_one (byte_at s at) ≡ false → Matches (past_at s at u).opened q start b')
 
-        abbrev Tells : Stepped → Type 0
-        Tells (stepped.On b') = Goes b'
-        Tells (stepped.Refused x) = Refuses M s at u x
+        abbrev Tells : Result Begun Refusal → Type 0
+        Tells (Ok b') = Goes b'
+        Tells (Err x) = Refuses M s at u x
 
         module _ (takes-n : ℕ) (make : ℕ → Condition → Condition → Condition) (role : (kind_of (byte_at s at)).role ≡ symbol takes-n make) where
           taken_is : takes_items (kind_of (byte_at s at)).role ≡ takes-n
@@ -258,7 +257,7 @@ module _ {M : Model} {s : List ℕ} {o : ReadResult} {r : Reading} {at start : �
               )))
               (λ e. (five M s at u w.not_2 (not-3 w u) not-4 not-19 not-20 (one-item-is ∙ ap not e), refl))
 
-        abbrev step : Bool → Stepped
+        abbrev step : Bool → Result Begun Refusal
         step ends = cond ends (end_step b (count_of t 1) at) (symbol_step b (byte_at s at) at)
 
         tells : Tells (condition_step b (byte_at s at) (count_of t 1) at)
@@ -270,15 +269,15 @@ module _ {M : Model} {s : List ℕ} {o : ReadResult} {r : Reading} {at start : �
             go counts e suit = subst Tells (sym (ap step (ap counts_one e))) (end-tells e)
             go edition e suit = absurd (subst T (sym stands_here ∙ ap (in_condition (section_of (byte_at s at))) e) tt)
 
-        module _ {g : Stepped} (is : g ≡ condition_step b kind (count_of t 1) at) where
+        module _ {g : Result Begun Refusal} (is : g ≡ condition_step b kind (count_of t 1) at) where
           by_code : Tells g
           by_code = subst Tells (sym (is ∙ ap (λ (k : ℕ). condition_step b k (count_of t 1) at) (sym w.kind))) tells
 
           -- 5 and 6
-          pub no_step : {x : Refusal} → g ≡ stepped.Refused x → Filled M s o 2 (Refused x) 1 r table₀ table
-          no_step {x} e = ends x (subst Tells e by_code)
+          pub no_step : {a : Result Reached Refusal} {x : Refusal} → a ≡ Err x → g ≡ Err x → Filled M s o 2 a 1 r table₀ table
+          no_step {x = x} told e = subst (λ (a : Result Reached Refusal). Filled M s o 2 a 1 r table₀ table) (sym told) (ends x (subst Tells e by_code))
 
-          module _ {b' : Begun} (e : g ≡ stepped.On b') where
+          module _ {b' : Begun} (e : g ≡ Ok b') where
             goes : Goes b'
             goes = subst Tells e by_code
 

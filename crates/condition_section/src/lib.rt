@@ -5,54 +5,56 @@ ghost use Rattle.sheet.specs.Kind.{conditions, points};
 ghost use Rattle.sheet.specs.Reading.{Reading, ReadResult};
 ghost use Rattle.kinds.specs.Kinds.{last_kind};
 ghost use Rattle.instrument.specs.Model.{model_with};
-ghost use Rattle.sections.specs.Sections.{addressable, Told, Filled};
+ghost use Rattle.sections.specs.Sections.{addressable, Told, done, Filled};
 
-use format::{Found, Refusal, record_at, refusal_at};
+use format::{Record, Refusal, record_at, refusal_at};
 use instrument::Limits;
-use kinds::{CONDITIONS, EDITION, counts, in_condition};
+use kinds::{Kind, Section};
 use refusals::editions::past_mark;
-use refusals::{Stepped, condition_step, nothing_begun};
-use sections::Section;
+use refusals::{condition_step, nothing_begun};
+use sections::Reached;
 use tally::{Tally, past};
 
 // The conditions, behind the mark of the edition. One is stored with its start, when its end comes.
-pub fn read_conditions(s: &[u8], limits: Limits, given: Tally, table: &mut [u32; 256]) -> Section
+pub fn read_conditions(
+    s: &[u8],
+    limits: Limits,
+    given: Tally,
+    table: &mut [u32; 256],
+) -> Result<Reached, Refusal>
     requires { (limits.kinds ≤ last_kind) × (length s.now ≤ addressable) }
-    ensures { (o : ReadResult) (u : Reading) → Told (model_with limits) s.now o 0 (Section.Done 0 given) u → u.own conditions ≡ []
+    ensures { (o : ReadResult) (u : Reading) → Told (model_with limits) s.now o 0 (done 0 given) u → u.own conditions ≡ []
         → Filled (model_with limits) s.now o points result conditions u table.old table.new }
 {
     let mut at = past_mark(s, limits.kinds);
     let mut start = at;
     let mut begun = nothing_begun();
     let mut tally = given;
+    // by records, whose lengths differ: no `for` counts them
     while at < s.len() {
-        let got = record_at(s, limits.kinds, at);
-        let Found::Record { kind, next } = got else {
-            return Section::Refused(refusal_at(s, limits.kinds, at));
+        let Some(Record { kind, next }) = record_at(s, limits.kinds, at) else {
+            return Err(refusal_at(s, limits.kinds, at));
         };
-        if !in_condition(kind) {
+        if !kind.in_condition() {
             if 0 < begun.symbols {
-                return Section::Refused(Refusal::WrongSection(at));
+                return Err(Refusal::WrongSection(at));
             }
-            if kind == EDITION {
-                return Section::Refused(Refusal::EditionNotFirst(at));
+            if let Kind::Edition = kind {
+                return Err(Refusal::EditionNotFirst(at));
             }
-            return Section::Done { at, tally };
+            return Ok(Reached { at, tally });
         }
         let n = tally.conditions;
-        match condition_step(begun, kind, n, at) {
-            Stepped::Refused(x) => return Section::Refused(x),
-            Stepped::On(more) => begun = more,
-        }
-        if counts(kind) {
+        begun = condition_step(begun, kind, n, at)?;
+        if kind.counts() {
             table[n] = start as u32;
-            tally = past(tally, CONDITIONS);
+            tally = past(tally, Section::Conditions);
             start = next;
         }
         at = next;
     }
     if 0 < begun.symbols {
-        return Section::Refused(Refusal::Unfinished(s.len()));
+        return Err(Refusal::Unfinished(s.len()));
     }
-    Section::Done { at, tally }
+    Ok(Reached { at, tally })
 }

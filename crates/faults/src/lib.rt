@@ -13,14 +13,8 @@ pub struct Fault {
     pub place: usize,
 }
 
-// Nothing wrong, or a fault.
-#[derive(Clone, Copy)]
-pub enum Finding {
-    Fine,
-    Found(Fault),
-}
-
-// A fault without event and place, as clauses 1, 2, 3 and 5 give it.
+// A fault without event and place, as clauses 1, 2, 3 and 5 give it. A clause has no name but its number, which answers print, so an enum would only be
+// turned into the number.
 pub fn fault_of(clause: usize, pair: usize) -> Fault
     ensures { found (fault_of result) ≡ fault clause pair 0 0 }
 {

@@ -2,11 +2,12 @@
 use mathlib.Core.Path.{◌≡◌, refl, sym, ap, ◌∙◌, subst}
 use mathlib.Core.Bool.{Bool, true, false, cond, ◌&&◌, ◌||◌}
 use mathlib.Core.Option.{some}
+use Rattle.std.specs.Prelude.{Option, Some, None}
 use mathlib.Core.List.{List}
 use Prim.Native.Nat.{ℕ, ◌+◌, ◌≤◌, ◌<◌}
 use native.Mathlib.Omega.{arith}
 use lib.ListN.{length}
-use lib.Dec.{ltb, leb, eqb}
+use lib.Dec.{T, ltb, leb, eqb}
 use borrow.Author.Tests.{ltb-true, ltb-false, leb-true, leb-false, lt-ltb, le-ltb, lt-leb, ne_eqb, eq-eqb}
 use Rattle.sheet.specs.Model.{Model}
 use Rattle.sheet.specs.Kind.{body_length}
@@ -14,18 +15,23 @@ use Rattle.sheet.specs.Record.{byte_at, record_at, next_at}
 use Rattle.sheet.specs.Reading.{Reading, refusal_of}
 use Rattle.sheet_laws.proofs.Take.{next_is}
 use Rattle.sheet_laws.proofs.Order.{two, three}
-use Rattle.kinds.specs.declared.lengths.Length.TheVariants.{Of, Nothing}
+use Rattle.kinds.specs.declared.Kind.{Kind}
 use Rattle.kinds.specs.Kinds.{last_kind, is_known}
+use Rattle.kinds.specs.Numbers.{kind_number}
+use Rattle.kinds.proofs.Numbers.{other-kind, kind-is}
+use Rattle.std.specs.Option.{unwrap_or}
 use Rattle.kinds.specs.Lengths.{length_of}
 use Rattle.kinds.proofs.Table.{body-le}
 use Rattle.kinds.proofs.EachByte.{known_out, known_in, length-out, nothing-out}
 use Rattle.fields.proofs.Laws.{byte_past}
 use Rattle.format.specs.declared.Refusal.{Refusal}
 use Rattle.format.specs.declared.Refusal.TheVariants.{UnknownKind, BodyPastEnd}
-use Rattle.format.specs.declared.Found.{Found}
-use Rattle.format.specs.declared.Found.TheVariants as found
 use Rattle.format.specs.Refusal.{number_of, place_of}
-use Rattle.format.specs.Found.{found_at, refusal_at}
+use Rattle.format.specs.Found.{IsKindAt, Numbered, found_at, refusal_at}
+
+-- a record of a kind, with the offset after it
+abbrev pub a_record : (kind next : ℕ) → Numbered
+a_record kind next = record { kind = kind; next = next }
 
 pub cond-by : {A : Type 0} (P : A → Type 0) (b : Bool) {x y : A} → (b ≡ true → P x) → (b ≡ false → P y) → P (cond b x y)
 cond-by P true f g = f refl
@@ -62,24 +68,24 @@ unknown-2 kinds k e = go (ltb 0 k) refl e
 
 module _ (kinds : ℕ) (s : List ℕ) (at : ℕ) where
   found-is : found_at kinds s at
-      ≡ cond (is_known kinds (byte_at s at)) (cond (ltb (length s) (next_at s at)) found.NoRecord (found.Record (byte_at s at) (next_at s at))) found.NoRecord
+      ≡ cond (is_known kinds (byte_at s at)) (cond (ltb (length s) (next_at s at)) None (Some (a_record (byte_at s at) (next_at s at)))) None
   unfolding found_at
   found-is = refl
 
   -- what the code has: the byte of kind
   module _ {k : ℕ} (is : k ≡ byte_at s at) where
-    unknown : is_known kinds k ≡ false → found.NoRecord ≡ found_at kinds s at
+    unknown : is_known kinds k ≡ false → None ≡ found_at kinds s at
     unknown e = sym (found-is ∙ simp (ap (is_known kinds) (sym is) ∙ e))
 
-    pub above-kinds : kinds < k → found.NoRecord ≡ found_at kinds s at
+    pub above-kinds : kinds < k → None ≡ found_at kinds s at
     above-kinds h = unknown (simp (lt-leb k kinds h, lt-ltb 0 k (omega arith)))
 
     module _ (high : k ≤ kinds) where
-      pub no_length : kinds ≤ last_kind → length_of k ≡ Nothing → found.NoRecord ≡ found_at kinds s at
+      pub no_length : kinds ≤ last_kind → length_of k ≡ None → None ≡ found_at kinds s at
       no_length all e = unknown (ap (is_known kinds) (nothing-out k e (omega arith)))
 
       -- .. and its length
-      module _ {n : ℕ} (has : length_of k ≡ Of n) where
+      module _ {n : ℕ} (has : length_of k ≡ Some n) where
         known : is_known kinds (byte_at s at) ≡ true
         known = ap (is_known kinds) (sym is) ∙ known_in kinds k (length-out k n has).0 high
 
@@ -91,12 +97,12 @@ module _ (kinds : ℕ) (s : List ℕ) (at : ℕ) where
         next-found : at + 1 + n ≡ next_at s at
         next-found = ap (λ (n : ℕ). at + 1 + n) ((length-out k n has).2 ∙ ap body_length is) ∙ sym (next_is s at)
 
-        pub body-past-end : length s < at + 1 + n → found.NoRecord ≡ found_at kinds s at
+        pub body-past-end : length s < at + 1 + n → None ≡ found_at kinds s at
         body-past-end h = sym (found-is ∙ simp (known, lt-ltb (length s) (next_at s at) (omega (arith, next-found))))
 
-        pub whole-record : at + 1 + n ≤ length s → found.Record k (at + 1 + n) ≡ found_at kinds s at
+        pub whole-record : at + 1 + n ≤ length s → Some (a_record k (at + 1 + n)) ≡ found_at kinds s at
         whole-record h =
-            ap (λ (k : ℕ). found.Record k (at + 1 + n)) is ∙ ap (found.Record (byte_at s at)) next-found
+            ap (λ (k : ℕ). Some (a_record k (at + 1 + n))) is ∙ ap (λ (q : ℕ). Some (a_record (byte_at s at) q)) next-found
             ∙ sym (found-is ∙ simp (known, le-ltb (length s) (next_at s at) (omega (arith, next-found))))
 
 -- To a reader of sections ---------------------------------------------------------------------------------------------
@@ -116,9 +122,9 @@ module _ (M : Model) (s : List ℕ) (at : ℕ) where
     pub not_2 : (eqb (byte_at s at) 0 || ltb M.kinds (byte_at s at)) ≡ false
 
   -- by the tests that `found_at` makes
-  by_tests : (P : Found → Type 0) → (is_known M.kinds (byte_at s at) ≡ false → P found.NoRecord)
-      → (is_known M.kinds (byte_at s at) ≡ true → length s < next_at s at → P found.NoRecord)
-      → (Stood (byte_at s at) (next_at s at) → P (found.Record (byte_at s at) (next_at s at))) → P (found_at M.kinds s at)
+  by_tests : (P : Option Numbered → Type 0) → (is_known M.kinds (byte_at s at) ≡ false → P None)
+      → (is_known M.kinds (byte_at s at) ≡ true → length s < next_at s at → P None)
+      → (Stood (byte_at s at) (next_at s at) → P (Some (a_record (byte_at s at) (next_at s at)))) → P (found_at M.kinds s at)
   by_tests P unknown past_end stands =
       subst P (sym (found-is M.kinds s at))
       (cond-by P (is_known M.kinds (byte_at s at))
@@ -134,14 +140,15 @@ module _ (M : Model) (s : List ℕ) (at : ℕ) where
       })))
       unknown)
 
-  pub stood : {k q : ℕ} → found_at M.kinds s at ≡ found.Record k q → Stood k q
+  pub stood : {k q : ℕ} → found_at M.kinds s at ≡ Some (a_record k q) → Stood k q
   stood {k} {q} e =
-      by_tests (λ (f : Found). f ≡ found.Record k q → Stood k q)
+      by_tests (λ (f : Option Numbered). f ≡ Some (a_record k q) → Stood k q)
       (λ a e. let z : ◌≡◌ {A = ℕ} 0 1 = cc in absurd (omega arith))
       (λ a b e. let z : ◌≡◌ {A = ℕ} 0 1 = cc in absurd (omega arith))
       (λ w e.
-      let kind : byte_at s at ≡ k = cc in
-      let next : next_at s at ≡ q = cc in
+      let same : a_record (byte_at s at) (next_at s at) ≡ a_record k q = cc in
+      let kind : byte_at s at ≡ k = ap (λ (r : Numbered). r.kind) same in
+      let next : next_at s at ≡ q = ap (λ (r : Numbered). r.next) same in
       record { kind = kind; next = next; low = omega (arith, w.low); high = omega (arith, w.high); inside = w.inside; not_2 = w.not_2 })
       e
 
@@ -150,9 +157,9 @@ module _ (M : Model) (s : List ℕ) (at : ℕ) where
   Refuses r y = (refusal_of M s at r ≡ number_of y) × (place_of y ≡ some at)
 
   -- no record stands there
-  pub refused : (r : Reading) → found_at M.kinds s at ≡ found.NoRecord → Refuses r (refusal_at M.kinds s at)
+  pub refused : (r : Reading) → found_at M.kinds s at ≡ None → Refuses r (refusal_at M.kinds s at)
   refused r e =
-      by_tests (λ (f : Found). f ≡ found.NoRecord → Refuses r (refusal_at M.kinds s at))
+      by_tests (λ (f : Option Numbered). f ≡ None → Refuses r (refusal_at M.kinds s at))
       (λ a e. subst (Refuses r) (sym (ap why a)) (two M s at r (unknown-2 M.kinds (byte_at s at) a), refl))
       (λ a b e. subst (Refuses r) (sym (ap why a))
       (three M s at r (known-not-2 M.kinds (byte_at s at) a) (lt-ltb (length s) (next_at s at) b), refl))
@@ -161,3 +168,15 @@ module _ (M : Model) (s : List ℕ) (at : ℕ) where
     where
       why : Bool → Refusal
       why b = cond b (BodyPastEnd at) (UnknownKind at)
+
+-- The kind at an offset, or another where there is none -----------------------------------------------------------------
+
+module _ (s : List ℕ) (at : ℕ) (d : Kind) (o : Option Kind) (is : IsKindAt s at o) {x : Kind} (chosen : x ≡ unwrap_or o d) where
+  pub not-kind : (k : Kind) → (x ≡ k → ⊥) → byte_at s at ≡ kind_number k → ⊥
+  not-kind k other =
+      other-kind d (λ e. subst (IsKindAt s at) e is) (λ j e. subst (IsKindAt s at) e is) k (λ e. other (chosen ∙ e))
+
+  pub byte-of : (k : Kind) → x ≡ k → eqb (kind_number d) (kind_number k) ≡ false → byte_at s at ≡ kind_number k
+  byte-of k e other =
+      kind-is d (λ e. subst (IsKindAt s at) e is) (λ j e. subst (IsKindAt s at) e is) k (sym chosen ∙ e)
+      (λ same. absurd (subst T (sym (eq-eqb (kind_number d) (kind_number k) (ap kind_number same)) ∙ other) tt))

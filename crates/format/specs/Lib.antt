@@ -3,3 +3,4 @@ pub mod Found
 pub mod Pairs
 pub mod Symbols
 pub mod Named
+pub mod Options

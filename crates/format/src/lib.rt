@@ -3,12 +3,11 @@
 ghost use Rattle.std.specs.Prelude.{◌≡◌, ◌≤◌};
 ghost use Rattle.sheet.specs.Reading.{is_new};
 ghost use Rattle.kinds.specs.Kinds.{last_kind};
-ghost use Rattle.format.specs.Found.{found_at, refusal_at};
+ghost use Rattle.format.specs.Found.{IsKindAt, numbered, found_at, refusal_at};
 
-use bits::both;
 use fields::byte_at;
-use kinds::EDITION;
-use kinds::lengths::{Length, body_length};
+use kinds::Kind;
+use kinds::lengths::body_length;
 
 pub mod listing; // listing.rt: the pairs of a certificate
 pub mod symbols; // symbols.rt: the symbols of a condition
@@ -37,46 +36,51 @@ pub enum Refusal {
     WrongChannel(usize),
 }
 
-// A record with the offset after it. Where there is none, `refusal_at` says why.
+// A record, by its kind and the offset after it.
 #[derive(Clone, Copy)]
-pub enum Found {
-    Record { kind: u8, next: usize },
-    NoRecord,
+pub struct Record {
+    pub kind: Kind,
+    pub next: usize,
+}
+
+// The kind whose byte stands at an offset, if it is one.
+pub fn kind_at(s: &[u8], at: usize) -> Option<Kind>
+    ensures { IsKindAt s.now at result }
+{
+    Kind::try_from(byte_at(s, at)).ok()
 }
 
 // A sheet of the new edition: its first byte says so.
 pub fn is_new(s: &[u8]) -> bool
     ensures { result ≡ is_new s.now }
 {
-    byte_at(s, 0) == EDITION
+    byte_at(s, 0) == Kind::Edition as u8
 }
 
-// The record at an offset, of the kinds 1 to `kinds`.
-pub fn record_at(s: &[u8], kinds: u8, at: usize) -> Found
+// The record at an offset, of the kinds 1 to `kinds`. Where there is none, `refusal_at` says why.
+pub fn record_at(s: &[u8], kinds: u8, at: usize) -> Option<Record>
     requires { kinds ≤ last_kind }
-    ensures { result ≡ found_at kinds s.now at }
+    ensures { numbered result ≡ found_at kinds s.now at }
 {
-    let kind = byte_at(s, at);
-    if kinds < kind {
-        return Found::NoRecord;
+    let byte = byte_at(s, at);
+    if kinds < byte {
+        return None;
     }
-    let got = body_length(kind);
-    let Length::Of(length) = got else {
-        return Found::NoRecord;
-    };
+    let length = body_length(byte)?;
     let next = at + 1 + length;
     if s.len() < next {
-        return Found::NoRecord;
+        return None;
     }
-    Found::Record { kind, next }
+    let kind = kind_at(s, at)?;
+    Some(Record { kind, next })
 }
 
 // The refusal that ends reading at an offset where no record stands.
 pub fn refusal_at(s: &[u8], kinds: u8, at: usize) -> Refusal
     ensures { result ≡ refusal_at kinds s.now at }
 {
-    let kind = byte_at(s, at);
-    if both(0 < kind, kind <= kinds) {
+    let byte = byte_at(s, at);
+    if 0 < byte && byte <= kinds {
         return Refusal::BodyPastEnd(at);
     }
     Refusal::UnknownKind(at)

@@ -8,7 +8,6 @@ use native.Mathlib.Omega.{arith}
 use lib.ListN.{length, get_or, get_elem?}
 use lib.Dec.{T}
 use Rattle.sheet.specs.Each.{Each}
-use Rattle.sheet.specs.Model.{step_limit}
 use Rattle.sheet.specs.Sheet.{Outcome, normal, failed, Point, Declared, Body, Method, Step, Sheet, is_some, condition_named, declared_for, declared_in, body_in, body, entry_in}
 use Rattle.sheet_laws.specs.AtOffset.{method_at, step_at}
 use Rattle.sheet_laws.specs.Names.{PointNamed, BodyNamed, DeclaredNamed, MethodNamed, StepNamed, TargetsFit, StepOnChannel, EventBelow}
@@ -108,12 +107,6 @@ module _ {S : Sheet} {s conditions points methods steps : List ℕ} (x : Indexes
     entry_named = asked-named S.new (body S m) (body_named (body S m) (sym body_is))
 
   module _ (i : ℕ) (l : i < length S.steps) where
-    pub step-few : i < step_limit
-    step-few = omega (arith, x.steps_tabled.few)
-
-    pub step-inside : get_or steps i 0 < length s
-    step-inside = x.steps_tabled.inside i l
-
     pub step_is : get_elem? S.steps i ≡ some (step_at s (get_or steps i 0))
     step_is = x.steps_tabled.is i l
 

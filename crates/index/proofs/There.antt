@@ -1,15 +1,12 @@
 -- The failed way of a method or of a call and the entry that rule 26 asks about, if there is one.
 use mathlib.Core.Path.{◌≡◌, refl, subst}
 use mathlib.Core.Option.{Option, none, some}
+use Rattle.std.specs.Prelude as code
 use mathlib.Core.List.{List}
 use Prim.Native.Nat.{ℕ}
 use Rattle.sheet.specs.Sheet.{failed, Sheet, due}
 use Rattle.postfix.specs.Parts.{StandsAt}
 use Rattle.index.specs.declared.ways.Way.{Way}
-use Rattle.index.specs.declared.ways.Failing.{Failing}
-use Rattle.index.specs.declared.ways.Failing.TheVariants.{Never, By}
-use Rattle.index.specs.declared.ways.Entered.{Entered}
-use Rattle.index.specs.declared.ways.Entered.TheVariants.{Unasked, Due}
 use Rattle.index.specs.Ways.{WayIs, FailingIs, EnteredIs}
 
 -- a point is there, and has a property
@@ -29,15 +26,12 @@ one-there F never (some p) h = record { point = p; is = refl; has = h }
 
 module _ (s : List ℕ) (S : Sheet) (e : Option ℕ) where
   -- the failed way
-  pub never : (m : ℕ) {x : Failing} → x ≡ Never → FailingIs s S m e x → e ≡ none
-  never m is h = none-there (λ e. FailingIs s S m e Never) (λ p h. h) e (subst (FailingIs s S m e) is h)
+  pub never : (m : ℕ) {x : code.Option Way} → x ≡ code.None → FailingIs s S m e x → e ≡ none
+  never m is h = none-there (λ e. FailingIs s S m e code.None) (λ p h. h) e (subst (FailingIs s S m e) is h)
 
-  pub fails_by : (m : ℕ) {x : Failing} {w : Way} → x ≡ By w → FailingIs s S m e x → There (λ p. WayIs s S m failed p w) e
-  fails_by m {w = w} is h = one-there (λ e. FailingIs s S m e (By w)) (λ h. h) e (subst (FailingIs s S m e) is h)
+  pub fails_by : (m : ℕ) {x : code.Option Way} {w : Way} → x ≡ code.Some w → FailingIs s S m e x → There (λ p. WayIs s S m failed p w) e
+  fails_by m {w = w} is h = one-there (λ e. FailingIs s S m e (code.Some w)) (λ h. h) e (subst (FailingIs s S m e) is h)
 
   -- the entry that rule 26 asks about
-  pub unasked : {x : Entered} → x ≡ Unasked → EnteredIs s S e x → e ≡ none
-  unasked is h = none-there (λ e. EnteredIs s S e Unasked) (λ p h. h) e (subst (EnteredIs s S e) is h)
-
-  pub enters : {x : Entered} {d : ℕ} → x ≡ Due d → EnteredIs s S e x → There (λ p. StandsAt s d (due S p)) e
-  enters {d = d} is h = one-there (λ e. EnteredIs s S e (Due d)) (λ h. h) e (subst (EnteredIs s S e) is h)
+  pub enters : {x : code.Option ℕ} {d : ℕ} → x ≡ code.Some d → EnteredIs s S e x → There (λ p. StandsAt s d (due S p)) e
+  enters {d = d} is h = one-there (λ e. EnteredIs s S e (code.Some d)) (λ h. h) e (subst (EnteredIs s S e) is h)

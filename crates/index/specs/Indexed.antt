@@ -1,6 +1,6 @@
 -- An indexed sheet: tables of offsets lead to the conditions, the points, the methods and the steps of a sheet, by their numbers.
 use Rattle.std.specs.Prelude.{ℕ, ◌≤◌, ◌<◌, ◌≡◌, List, length, get_or}
-use Rattle.std.proofs.Math.Option.{Option, none, some}
+use Rattle.std.proofs.Math.Option.{some}
 use Rattle.std.proofs.Math.ListN.{get_elem?}
 use Rattle.condition.specs.Condition.{Condition}
 use Rattle.sheet.specs.Each.{Each}
@@ -13,8 +13,7 @@ use Rattle.postfix.specs.Parts.{StandsAt}
 use Rattle.index.specs.declared.PointConditions.{PointConditions}
 use Rattle.index.specs.declared.OutcomeConditions.{OutcomeConditions}
 use Rattle.index.specs.declared.MethodConditions.{MethodConditions}
-use Rattle.index.specs.declared.Entry.{Entry}
-use Rattle.index.specs.declared.Entry.TheVariants.{Unasked, At}
+use Rattle.index.specs.declared.Index.{Index}
 
 -- what stands in the bytes s at the offsets of a table with so many rows: xs, numbered from 0
 pub record Tabled {A : Type 0} (at : List ℕ → ℕ → A) (s : List ℕ) (rows : ℕ) (table : List ℕ) (xs : List A) : Type 0 where
@@ -79,11 +78,6 @@ pub record CalledIn (S : Sheet) (s methods : List ℕ) (m : ℕ) : Type 0 where
   pub is : get_elem? S.methods m ≡ some (method_at s (get_or methods m 0))
   pub edition_is : S.new ≡ is_new s
 
--- the entry that rule 26 asks about, by the value of the code
-abbrev pub entry_value : Entry → Option ℕ
-entry_value Unasked = none
-entry_value (At e) = some e
-
 -- the offsets where the conditions of the point p stand, those of the outcome o of the method m, and those of the method m
 pub record PointIs (s : List ℕ) (S : Sheet) (p : ℕ) (x : PointConditions) : Type 0 where
   pub past_stands : StandsAt s x.past (past S p)
@@ -97,3 +91,20 @@ pub record OutcomeIs (s : List ℕ) (S : Sheet) (m : ℕ) (o : Outcome) (x : Out
 pub record MethodIs (s : List ℕ) (S : Sheet) (m : ℕ) (x : MethodConditions) : Type 0 where
   pub pre_stands : StandsAt s x.pre (pre S m)
   pub normal_is : OutcomeIs s S m normal x.normal
+
+-- The tables of an index of the code lead to the sheet S; to its point p; to its method m, to what that declares of the failed outcome, and to it as a
+-- call asks
+abbrev pub IndexesAll : Sheet → Index → Type 0
+IndexesAll S x = Indexes S x.sheet.now x.offsets.now.conditions x.points.now x.offsets.now.methods x.offsets.now.steps
+
+abbrev pub HasPoint : Sheet → Index → ℕ → Type 0
+HasPoint S x p = PointIn S x.sheet.now x.offsets.now.conditions x.points.now p
+
+abbrev pub HasMethod : Sheet → Index → ℕ → Type 0
+HasMethod S x m = MethodIn S x.sheet.now x.offsets.now.conditions x.offsets.now.methods m
+
+abbrev pub HasFailed : Sheet → Index → ℕ → Type 0
+HasFailed S x m = FailedIn S x.sheet.now x.offsets.now.conditions x.offsets.now.methods m
+
+abbrev pub HasCalled : Sheet → Index → ℕ → Type 0
+HasCalled S x m = CalledIn S x.sheet.now x.offsets.now.methods m

@@ -6,7 +6,7 @@ use Prim.Native.Nat.{ℕ, zero, suc}
 use lib.ListN.{replicate}
 use Rattle.sheet.specs.Reading.{fresh, ReadResult, whole, refusal, read_sheet}
 use Rattle.instrument.specs.declared.Instrument.TheVariants.{Large, Entry, Four}
-use Rattle.instrument.specs.declared.Named.TheVariants.{Known, Unknown}
+use Rattle.std.specs.Prelude.{Some, None}
 use Rattle.instrument.specs.Model.{model_of, instrument_of}
 
 -- "65,536 bytes 00: `refused 2 at 0`; 65,537: `refused 1 at 65536`"
@@ -115,5 +115,5 @@ unfolding read_sheet
 channels-read = refl
 
 -- the numbers that name an instrument, and numbers beside them
-named : map instrument_of (0 ∷ 1 ∷ 2 ∷ 3 ∷ 4 ∷ 4294967297 ∷ []) ≡ Unknown ∷ Known Large ∷ Known Entry ∷ Known Four ∷ Unknown ∷ Unknown ∷ []
+named : map instrument_of (0 ∷ 1 ∷ 2 ∷ 3 ∷ 4 ∷ 4294967297 ∷ []) ≡ None ∷ Some Large ∷ Some Entry ∷ Some Four ∷ None ∷ None ∷ []
 named = refl

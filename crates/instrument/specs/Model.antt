@@ -1,10 +1,9 @@
 -- The model of each instrument, the code's limits as a model, and the instruments by number.
-use Rattle.std.specs.Prelude.{ℕ, eqb, cond}
+use Rattle.std.specs.Prelude.{◌≡◌, ℕ, eqb, cond, Option, Some, None, Result, MatchResult}
 use Rattle.sheet.specs.Model.{Model, large, entry, four}
 use Rattle.instrument.specs.declared.Instrument.{Instrument}
 use Rattle.instrument.specs.declared.Instrument.TheVariants.{Large, Entry, Four}
-use Rattle.instrument.specs.declared.Named.{Named}
-use Rattle.instrument.specs.declared.Named.TheVariants.{Known, Unknown}
+use Rattle.instrument.specs.declared.UnknownInstrument.{UnknownInstrument}
 use Rattle.instrument.specs.declared.Limits.{Limits}
 
 -- the model that an instrument is
@@ -22,5 +21,9 @@ limits_of i =
     let M = model_of i in record { bytes = M.bytes; points = M.points; events = M.events; kinds = M.kinds }
 
 -- the instrument that a number names: 1 the large one, 2 the entry instrument, 3 the four-channel one, any other number none
-abbrev pub instrument_of : ℕ → Named
-instrument_of n = cond (eqb n 1) (Known Large) (cond (eqb n 2) (Known Entry) (cond (eqb n 3) (Known Four) Unknown))
+abbrev pub instrument_of : ℕ → Option Instrument
+instrument_of n = cond (eqb n 1) (Some Large) (cond (eqb n 2) (Some Entry) (cond (eqb n 3) (Some Four) None))
+
+-- the instrument that a number names, or an error with a number that names none
+abbrev pub Names : ℕ → Result Instrument UnknownInstrument → Type 0
+Names n r = MatchResult r (λ i. instrument_of n ≡ Some i) (λ e. (instrument_of n ≡ None) × (e.0 ≡ n))

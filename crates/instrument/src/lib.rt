@@ -1,25 +1,23 @@
 #![tactic(auto)]
 // The instruments that sheets are loaded on, and what each takes.
 ghost use Rattle.std.specs.Prelude.{◌≡◌};
-ghost use Rattle.instrument.specs.Model.{limits_of, instrument_of};
+ghost use Rattle.instrument.specs.Model.{limits_of, Names};
 
 // The large two-channel instrument, which is document 01's, the entry instrument, which is request 8's, and the four-channel instrument, which is
 // request 11's.
-#[derive(Clone, Copy)]
+#[derive(Clone, Copy, Debug, PartialEq, Eq)]
 pub enum Instrument {
     Large,
     Entry,
     Four,
 }
 
-// What a number stands for where an instrument is asked for.
-#[derive(Clone, Copy)]
-pub enum Named {
-    Known(Instrument),
-    Unknown,
-}
+// A number that is no instrument's.
+#[derive(Clone, Copy, Debug, PartialEq, Eq)]
+pub struct UnknownInstrument(pub usize);
 
-// What an instrument takes: how many bytes, points and events, and the highest kind of record.
+// What an instrument takes: how many bytes, points and events, and the highest kind of record. That is a byte and no kind by name: reading compares it
+// with bytes that stand for no kind, too.
 #[derive(Clone, Copy)]
 pub struct Limits {
     pub bytes: usize,
@@ -55,13 +53,17 @@ pub fn limits_of(instrument: Instrument) -> Limits
 
 // The instruments by number, for callers in C and Rust; harness/include/sheet_loader.h has the same. 0 is none, so that memory which was only
 // cleared names no instrument.
-pub fn instrument_of(number: usize) -> Named
-    ensures { result ≡ instrument_of number }
-{
-    match number {
-        1 => Named::Known(Instrument::Large),
-        2 => Named::Known(Instrument::Entry),
-        3 => Named::Known(Instrument::Four),
-        _ => Named::Unknown,
+impl TryFrom<usize> for Instrument {
+    type Error = UnknownInstrument;
+
+    ghost try_from_gives = { Names };
+
+    fn try_from(number: usize) -> Result<Self, UnknownInstrument> {
+        match number {
+            1 => Ok(Instrument::Large),
+            2 => Ok(Instrument::Entry),
+            3 => Ok(Instrument::Four),
+            _ => Err(UnknownInstrument(number)),
+        }
     }
 }

@@ -14,17 +14,14 @@ use Rattle.bits.proofs.Masks.{has-or, has-cond, has_one}
 use Rattle.condition.specs.Condition.{Condition, leaf, empty, join, either, star}
 use Rattle.condition.specs.Places.{leaves, beside, leaf_set, nullable, first, last, follow}
 use Rattle.condition.proofs.Beside.{beside-left, beside-right, side}
+use Rattle.items.specs.declared.Item.{Item}
 use Rattle.items.specs.Stack.{behind, ItemIs, RowsAre}
 use Rattle.items.proofs.Behind.{behind-at, behind-cong, behind-map, behind-or, behind-none, behind-leaf, behind-beside, first-up, last_up, follow-up}
 
 -- Equal entries ---------------------------------------------------------------------------------------------------------
 
-pub item-same : {r : Condition} {b : ℕ} {n n' : Bool} {f f' l l' : ℕ} → n' ≡ n → f' ≡ f → l' ≡ l → ItemIs r b n f l → ItemIs r b n' f' l'
-item-same p q s i = record {
-  null_is = p ∙ i.null_is;
-  first_is = λ k. ap (λ (x : ℕ). has x k) q ∙ i.first_is k;
-  last_is = λ k. ap (λ (x : ℕ). has x k) s ∙ i.last_is k;
-}
+pub item-same : {r : Condition} {b : ℕ} {i i' : Item} → i' ≡ i → ItemIs r b i → ItemIs r b i'
+item-same e i = rw e i
 
 pub rows_same : {r : Condition} {b : ℕ} {F F' S S' : List ℕ}
     → ((p : ℕ) → p ≤ b + leaves r → get_or F' p 0 ≡ get_or F p 0) → ((p : ℕ) → p ≤ b + leaves r → get_or S' p 0 ≡ get_or S p 0)
@@ -36,7 +33,7 @@ rows_same f s w = record {
 
 -- Leaf and empty --------------------------------------------------------------------------------------------------------
 
-pub item-leaf : (x b : ℕ) → ItemIs (leaf x) b false (2 ^ suc b) (2 ^ suc b)
+pub item-leaf : (x b : ℕ) → ItemIs (leaf x) b (record { nullable = false; first = 2 ^ suc b; last = 2 ^ suc b })
 unfolding nullable first last
 item-leaf x b = record {
   null_is = refl;
@@ -53,7 +50,7 @@ rows-leaf x b F S f s = record {
   sets_is = λ j h. let e : suc (b + j) ≡ suc b = omega arith in ap (λ (y : ℕ). get_or S y 0) e ∙ s;
 }
 
-pub item-empty : (b : ℕ) → ItemIs empty b true 0 0
+pub item-empty : (b : ℕ) → ItemIs empty b (record { nullable = true; first = 0; last = 0 })
 unfolding nullable first last
 item-empty b = record { null_is = refl; first_is = λ k. has-none k ∙ behind-none b k; last_is = λ k. has-none k ∙ behind-none b k }
 
@@ -63,35 +60,41 @@ rows_empty b F S = record { follow_is = λ j q h. absurd (omega arith); sets_is 
 
 -- Join and either: items ------------------------------------------------------------------------------------------------
 
-module _ (a c : Condition) (b : ℕ) {na nc : Bool} {fa la fc lc : ℕ} (i : ItemIs a b na fa la) (j : ItemIs c (b + leaves a) nc fc lc) where
-  pub item-join : ItemIs (join a c) b (na && nc) (bit_or fa (cond na fc 0)) (bit_or (cond nc la 0) lc)
+module _ (a c : Condition) (b : ℕ) {x y : Item} (i : ItemIs a b x) (j : ItemIs c (b + leaves a) y) where
+  pub item-join : ItemIs (join a c) b
+      (record {
+        nullable = x.nullable && y.nullable;
+        first = bit_or x.first (cond x.nullable y.first 0);
+        last = bit_or (cond y.nullable x.last 0) y.last;
+      })
   unfolding nullable first last
   item-join = record {
-    null_is = ap₂ (λ (x y : Bool). x && y) i.null_is j.null_is;
+    null_is = ap₂ (λ (u v : Bool). u && v) i.null_is j.null_is;
     first_is = λ k.
-        has-or fa (cond na fc 0) k
-        ∙ ap₂ (λ (x y : Bool). x || y) (i.first_is k)
-        (has-cond na fc k ∙ ap₂ (λ (x y : Bool). x && y) i.null_is (j.first_is k)
-        ∙ behind-map (λ (x : Bool). nullable a && x) (and-false (nullable a)) (b + leaves a) (λ i. first c i) k)
+        has-or x.first (cond x.nullable y.first 0) k
+        ∙ ap₂ (λ (u v : Bool). u || v) (i.first_is k)
+        (has-cond x.nullable y.first k ∙ ap₂ (λ (u v : Bool). u && v) i.null_is (j.first_is k)
+        ∙ behind-map (λ (v : Bool). nullable a && v) (and-false (nullable a)) (b + leaves a) (λ i. first c i) k)
         ∙ behind-beside b (leaves a) (λ i. first a i) (λ i. nullable a && first c i) (first-up a) k;
     last_is = λ k.
-        has-or (cond nc la 0) lc k
-        ∙ ap₂ (λ (x y : Bool). x || y)
-        (has-cond nc la k ∙ ap₂ (λ (x y : Bool). x && y) j.null_is (i.last_is k) ∙ and_comm (nullable c) (behind b (λ i. last a i) k)
-        ∙ behind-map (λ (x : Bool). x && nullable c) refl b (λ i. last a i) k)
+        has-or (cond y.nullable x.last 0) y.last k
+        ∙ ap₂ (λ (u v : Bool). u || v)
+        (has-cond y.nullable x.last k ∙ ap₂ (λ (u v : Bool). u && v) j.null_is (i.last_is k) ∙ and_comm (nullable c) (behind b (λ i. last a i) k)
+        ∙ behind-map (λ (v : Bool). v && nullable c) refl b (λ i. last a i) k)
         (j.last_is k)
-        ∙ behind-beside b (leaves a) (λ i. last a i && nullable c) (λ i. last c i) (λ h. ap (λ (x : Bool). x && nullable c) (last_up a h)) k;
+        ∙ behind-beside b (leaves a) (λ i. last a i && nullable c) (λ i. last c i) (λ h. ap (λ (v : Bool). v && nullable c) (last_up a h)) k;
   }
 
-  pub item-either : ItemIs (either a c) b (na || nc) (bit_or fa fc) (bit_or la lc)
+  pub item-either : ItemIs (either a c) b
+      (record { nullable = x.nullable || y.nullable; first = bit_or x.first y.first; last = bit_or x.last y.last })
   unfolding nullable first last
   item-either = record {
-    null_is = ap₂ (λ (x y : Bool). x || y) i.null_is j.null_is;
+    null_is = ap₂ (λ (u v : Bool). u || v) i.null_is j.null_is;
     first_is = λ k.
-        has-or fa fc k ∙ ap₂ (λ (x y : Bool). x || y) (i.first_is k) (j.first_is k)
+        has-or x.first y.first k ∙ ap₂ (λ (u v : Bool). u || v) (i.first_is k) (j.first_is k)
         ∙ behind-beside b (leaves a) (λ i. first a i) (λ i. first c i) (first-up a) k;
     last_is = λ k.
-        has-or la lc k ∙ ap₂ (λ (x y : Bool). x || y) (i.last_is k) (j.last_is k)
+        has-or x.last y.last k ∙ ap₂ (λ (u v : Bool). u || v) (i.last_is k) (j.last_is k)
         ∙ behind-beside b (leaves a) (λ i. last a i) (λ i. last c i) (last_up a) k;
   }
 
@@ -176,33 +179,33 @@ module _ (a c : Condition) (b : ℕ) {F S : List ℕ} (v : RowsAre a b F S) (w :
       (λ j q h. sym (ap (λ (y : Bool). has (get_or F (suc (b + j)) 0) q || y) (sym (behind-none (b + leaves a) q)) ∙ or-false _))
       (λ j q h. refl)
 
-  pub rows_join : {na nc : Bool} {fa la fc lc : ℕ} {F' : List ℕ} → ItemIs a b na fa la → ItemIs c (b + leaves a) nc fc lc
-      → Linked la fc F F' → b + leaves a + leaves c < 64 → RowsAre (join a c) b F' S
-  rows_join {na} {nc} {fa} {la} {fc} {lc} {F'} i j k m =
+  pub rows_join : {x y : Item} {F' : List ℕ} → ItemIs a b x → ItemIs c (b + leaves a) y
+      → Linked x.last y.first F F' → b + leaves a + leaves c < 64 → RowsAre (join a c) b F' S
+  rows_join {x} {y} {F'} i j k m =
       rows-sides (join-sides a c) b F' v w
       (λ n q h.
       linked-has k (suc (b + n)) q (omega arith)
-      ∙ ap (λ (y : Bool). has (get_or F (suc (b + n)) 0) q || y)
-      (ap₂ (λ (x y : Bool). x && y) (i.last_is (suc (b + n)) ∙ behind-at b (λ i. last a i) n) (j.first_is q)
-      ∙ behind-map (λ (x : Bool). last a (suc n) && x) (and-false (last a (suc n))) (b + leaves a) (λ i. first c i) q))
+      ∙ ap (λ (v : Bool). has (get_or F (suc (b + n)) 0) q || v)
+      (ap₂ (λ (u v : Bool). u && v) (i.last_is (suc (b + n)) ∙ behind-at b (λ i. last a i) n) (j.first_is q)
+      ∙ behind-map (λ (v : Bool). last a (suc n) && v) (and-false (last a (suc n))) (b + leaves a) (λ i. first c i) q))
       (λ n q h.
       linked-has k (suc (b + leaves a + n)) q (omega arith)
-      ∙ ap (λ (y : Bool). has (get_or F (suc (b + leaves a + n)) 0) q || (y && has fc q)) (not_last n)
+      ∙ ap (λ (v : Bool). has (get_or F (suc (b + leaves a + n)) 0) q || (v && has y.first q)) (not_last n)
       ∙ or-false _)
     where
-      not_last : (n : ℕ) → has la (suc (b + leaves a + n)) ≡ false
+      not_last : (n : ℕ) → has x.last (suc (b + leaves a + n)) ≡ false
       not_last n =
           let e : suc (b + leaves a + n) ≡ suc (b + (leaves a + n)) = omega arith in
-          ap (λ (y : ℕ). has la y) e ∙ i.last_is (suc (b + (leaves a + n))) ∙ behind-at b (λ i. last a i) (leaves a + n) ∙ last_up a n
+          ap (λ (k : ℕ). has x.last k) e ∙ i.last_is (suc (b + (leaves a + n))) ∙ behind-at b (λ i. last a i) (leaves a + n) ∙ last_up a n
 
 -- Star ------------------------------------------------------------------------------------------------------------------
 
-module _ (a : Condition) (b : ℕ) {n : Bool} {f l : ℕ} (i : ItemIs a b n f l) where
-  pub item-star : ItemIs (star a) b true f l
+module _ (a : Condition) (b : ℕ) {x : Item} (i : ItemIs a b x) where
+  pub item-star : ItemIs (star a) b (record { nullable = true; first = x.first; last = x.last })
   unfolding nullable first last
   item-star = record { null_is = refl; first_is = i.first_is; last_is = i.last_is }
 
-  pub rows-star : {F F' S : List ℕ} → RowsAre a b F S → Linked l f F F' → b + leaves a < 64 → RowsAre (star a) b F' S
+  pub rows-star : {F F' S : List ℕ} → RowsAre a b F S → Linked x.last x.first F F' → b + leaves a < 64 → RowsAre (star a) b F' S
   unfolding leaves leaf_set follow
   rows-star {F} {F'} {S} w k m = record {
     follow_is = λ j q h.

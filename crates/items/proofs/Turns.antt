@@ -1,103 +1,72 @@
 -- What each symbol does to the stack.
 use mathlib.Core.Path.{◌≡◌, refl, sym, ap, ◌∙◌, subst}
-use mathlib.Core.Bool.{Bool, true, false, cond, ◌&&◌, ◌||◌, false≢true}
+use mathlib.Core.Bool.{Bool, true, false, cond, ◌&&◌, ◌||◌}
 use mathlib.Core.List.{List, ◌∷◌}
 use Prim.Native.Nat.{ℕ, suc, ◌+◌, ◌-◌, ◌^◌, ◌≤◌, ◌<◌}
 use native.Mathlib.Omega.{arith}
-use lib.ListN.{get_or, set, length-set}
+use lib.ListN.{length, get_or, set}
 use lib.Seq.{get_or-set_same, get_or-set_other}
 use lib.Bits.{bit_or, or_zero_r}
 use Rattle.condition.specs.Condition.{Condition, leaf, empty, join, either, star}
 use Rattle.condition.specs.Places.{leaves, last}
 use Rattle.bits.specs.Rows.{Linked}
-use Rattle.format.specs.declared.symbols.Symbol.{Symbol}
-use Rattle.format.specs.declared.symbols.Symbol.TheVariants.{None, Leaf, Empty, Join, Either, Star}
-use Rattle.format.specs.Symbols.{is_symbol}
-use Rattle.items.specs.Stack.{ItemIs, RowsAre, Stacked, bottom, above, Roomy, Rows, Makes, a_leaf, an_empty, a_join, an_either, a_star, Turned}
+use Rattle.format.specs.declared.symbols.Symbol.TheVariants.{Leaf, Empty, Join, Either, Star}
+use Rattle.items.specs.declared.Item.{Item}
+use Rattle.items.specs.declared.Stack.{Stack}
+use Rattle.items.specs.declared.Places.{Places}
+use Rattle.items.specs.Stack.{ItemIs, RowsAre, item_at, Stacked, bottom, above, Makes, a_leaf, an_empty, a_join, an_either, a_star, Turned}
 use Rattle.items.proofs.Behind.{behind-low}
 use Rattle.items.proofs.Items.{item-same, rows_same, item-leaf, rows-leaf, item-empty, rows_empty, item-join, rows_join, item-either, rows-either, item-star, rows-star}
 
--- A symbol by its equation; no symbol changes nothing -------------------------------------------------------------------
+-- Stacks that agree at the first d items and the first m leaves ---------------------------------------------------------
 
-pub turned_as : {y y' : Symbol} {N : List Bool} {A L F S : List ℕ} {N' : List Bool} {A' L' F' S' : List ℕ} {d m : ℕ} → y ≡ y'
-    → Turned y' N A L F S N' A' L' F' S' d m → Turned y N A L F S N' A' L' F' S' d m
-turned_as e t = rw e t
+pub record Agree (x x' : Stack) (p p' : Places) (d m : ℕ) : Type 0 where
+  pub items : (k : ℕ) → k < d → item_at x' k ≡ item_at x k
+  pub rows : (q : ℕ) → q ≤ m → get_or p'.follow q 0 ≡ get_or p.follow q 0
+  pub sets : (q : ℕ) → q ≤ m → get_or p'.sets q 0 ≡ get_or p.sets q 0
 
-makes-symbol : {y : Symbol} {rs rs' : List Condition} → Makes y rs rs' → is_symbol y ≡ true
-makes-symbol a_leaf = refl
-makes-symbol an_empty = refl
-makes-symbol a_join = refl
-makes-symbol an_either = refl
-makes-symbol a_star = refl
-
-pub turned_none : {N : List Bool} {A L F S : List ℕ} {d m : ℕ} → Roomy N A L → Rows F S → Turned None N A L F S N A L F S d m
-turned_none room rows = record { room = room; rows = rows; turned = λ rs rs' h t. absurd (false≢true (makes-symbol h)) }
-
--- Tables that agree at the first d items and the first m leaves ---------------------------------------------------------
-
-pub record Agree (N N' : List Bool) (A A' L L' F F' S S' : List ℕ) (d m : ℕ) : Type 0 where
-  pub nulls : (k : ℕ) → k < d → get_or N' k false ≡ get_or N k false
-  pub firsts : (k : ℕ) → k < d → get_or A' k 0 ≡ get_or A k 0
-  pub lasts : (k : ℕ) → k < d → get_or L' k 0 ≡ get_or L k 0
-  pub rows : (p : ℕ) → p ≤ m → get_or F' p 0 ≡ get_or F p 0
-  pub sets : (p : ℕ) → p ≤ m → get_or S' p 0 ≡ get_or S p 0
-
-module _ {N N' : List Bool} {A A' L L' F F' S S' : List ℕ} where
-  fewer : {d d' m m' : ℕ} → d' ≤ d → m' ≤ m → Agree N N' A A' L L' F F' S S' d m → Agree N N' A A' L L' F F' S S' d' m'
-  fewer x y g = record {
-    nulls = λ k l. g.nulls k (omega arith);
-    firsts = λ k l. g.firsts k (omega arith);
-    lasts = λ k l. g.lasts k (omega arith);
-    rows = λ p l. g.rows p (omega arith);
-    sets = λ p l. g.sets p (omega arith);
+module _ {x x' : Stack} {p p' : Places} where
+  fewer : {d d' m m' : ℕ} → d' ≤ d → m' ≤ m → Agree x x' p p' d m → Agree x x' p p' d' m'
+  fewer a b g = record {
+    items = λ k l. g.items k (omega arith);
+    rows = λ q l. g.rows q (omega arith);
+    sets = λ q l. g.sets q (omega arith);
   }
 
-  pub agree : {d m : ℕ} {rs : List Condition} → Agree N N' A A' L L' F F' S S' d m → Stacked N A L F S d m rs → Stacked N' A' L' F' S' d m rs
+  pub agree : {d m : ℕ} {rs : List Condition} → Agree x x' p p' d m → Stacked x p d m rs → Stacked x' p' d m rs
   agree g (bottom e f) = bottom e f
   agree g (above {d} {m} t e f i w) =
-      above (agree (fewer (omega arith) (omega arith) g) t) e f
-      (item-same (g.nulls d (omega arith)) (g.firsts d (omega arith)) (g.lasts d (omega arith)) i)
-      (rows_same (λ p h. g.rows p (omega arith)) (λ p h. g.sets p (omega arith)) w)
+      above (agree (fewer (omega arith) (omega arith) g) t) e f (item-same (g.items d (omega arith)) i)
+      (rows_same (λ q h. g.rows q (omega arith)) (λ q h. g.sets q (omega arith)) w)
 
 -- what lies below the place of a write stays
 kept : {X : Type 0} (l : List X) (i k : ℕ) (a d : X) → k < i → get_or (set l i a) k d ≡ get_or l k d
 kept l i k a d h = get_or-set_other l i k a d (λ (e : k ≡ i). omega arith)
 
-module _ {N : List Bool} {A L : List ℕ} (room : Roomy N A L) (i : ℕ) (n : Bool) where
-  pub room-null : Roomy (set N i n) A L
-  room-null = record {
-    room_nulls = length-set N i n ∙ room.room_nulls;
-    room_firsts = room.room_firsts;
-    room_lasts = room.room_lasts;
-  }
-
-  pub room-item : (f l : ℕ) → Roomy (set N i n) (set A i f) (set L i l)
-  room-item f l = record {
-    room_nulls = length-set N i n ∙ room.room_nulls;
-    room_firsts = length-set A i f ∙ room.room_firsts;
-    room_lasts = length-set L i l ∙ room.room_lasts;
-  }
+-- the stack with an item at a place
+abbrev pub with_item : Stack → ℕ → Item → Stack
+with_item x i a = record { items = set x.items i a }
 
 -- The topmost item ------------------------------------------------------------------------------------------------------
 
-record Top (N : List Bool) (A L F S : List ℕ) (d m : ℕ) (r : Condition) (rs : List Condition) : Type 0 where
+record Top (x : Stack) (p : Places) (d m : ℕ) (r : Condition) (rs : List Condition) : Type 0 where
   below : ℕ
   deep : 1 ≤ d
   count : m ≡ below + leaves r
-  item : ItemIs r below (get_or N (d - 1) false) (get_or A (d - 1) 0) (get_or L (d - 1) 0)
-  rows : RowsAre r below F S
-  rest : Stacked N A L F S (d - 1) below rs
+  item : ItemIs r below (item_at x (d - 1))
+  rows : RowsAre r below p.follow p.sets
+  rest : Stacked x p (d - 1) below rs
 
-top : {N : List Bool} {A L F S : List ℕ} {d m : ℕ} {r : Condition} {rs : List Condition} → Stacked N A L F S d m (r ∷ rs) → Top N A L F S d m r rs
-top {N} {A} {L} {F} {S} {d} {m} {r} {rs} (above {d = d₀} {m = m₀} t x y i v) =
+top : {x : Stack} {p : Places} {d m : ℕ} {r : Condition} {rs : List Condition} → Stacked x p d m (r ∷ rs) → Top x p d m r rs
+top {x} {p} {d} {m} {r} {rs} (above {d = d₀} {m = m₀} t a b i v) =
     let e : d₀ ≡ d - 1 = omega arith in
     record {
       below = m₀;
       deep = omega arith;
-      count = y;
-      item = subst (λ (k : ℕ). ItemIs r m₀ (get_or N k false) (get_or A k 0) (get_or L k 0)) e i;
+      count = b;
+      item = subst (λ (k : ℕ). ItemIs r m₀ (item_at x k)) e i;
       rows = v;
-      rest = subst (λ (k : ℕ). Stacked N A L F S k m₀ rs) e t;
+      rest = subst (λ (k : ℕ). Stacked x p k m₀ rs) e t;
     }
 
 -- Leaf and empty --------------------------------------------------------------------------------------------------------
@@ -110,69 +79,53 @@ empty-leaves : leaves empty ≡ 0
 unfolding leaves
 empty-leaves = refl
 
-module _ {N : List Bool} {A L : List ℕ} (room : Roomy N A L) {d : ℕ} (h : d < 50) where
-  pub push-leaf : {F S : List ℕ} (x m f l : ℕ) → Rows F S → m < 62 → f ≡ 2 ^ (m + 1) → l ≡ 2 ^ (m + 1)
-      → Turned (Leaf x) N A L F S (set N d false) (set A d f) (set L d l) (set F (m + 1) 0) (set S (m + 1) x) d m
-  push-leaf {F} {S} x m f l rows few fe le =
-      record {
-        room = room-item room d false f l;
-        rows = record {
-          rows_follow = length-set F (m + 1) 0 ∙ rows.rows_follow;
-          rows_sets = length-set S (m + 1) x ∙ rows.rows_sets;
-        };
-        turned = λ rs rs' h t. go h t;
-      }
-    where
-      s : m + 1 ≡ suc m
-      s = omega arith
+-- a stack and places, with as many items and rows as they have in the code
+module _ {x : Stack} {p : Places} (room : length x.items ≡ 50) where
+  module _ {d : ℕ} (h : d < 50) where
+    pub push-leaf : (t m : ℕ) {f : ℕ} → length p.follow ≡ 64 → length p.sets ≡ 64 → m < 62 → f ≡ 2 ^ (m + 1)
+        → Turned (Leaf t) x p (with_item x d (record { nullable = false; first = f; last = f }))
+        (record { follow = set p.follow (m + 1) 0; sets = set p.sets (m + 1) t }) d m
+    push-leaf t m {f} long long' few e = record { turned = λ rs rs' h t. go h t }
+      where
+        s : m + 1 ≡ suc m
+        s = omega arith
 
-      go : {rs rs' : List Condition} → Makes (Leaf x) rs rs' → Stacked N A L F S d m rs
-          → Stacked (set N d false) (set A d f) (set L d l) (set F (m + 1) 0) (set S (m + 1) x) (d + 1 - 0) (m + 1) rs'
-      go a_leaf t =
-          let n = leaf-leaves x in
-          above {d' = d + 1 - 0} {m' = m + 1} {r = leaf x}
-          (agree
-          (record {
-            nulls = λ k y. kept N d k false false y;
-            firsts = λ k y. kept A d k f 0 y;
-            lasts = λ k y. kept L d k l 0 y;
-            rows = λ p y. kept F (m + 1) p 0 0 (omega arith);
-            sets = λ p y. kept S (m + 1) p x 0 (omega arith);
-          })
-          t)
-          (omega arith)
-          (omega arith)
-          (item-same (get_or-set_same N d false false (omega (arith, room.room_nulls)))
-          (get_or-set_same A d f 0 (omega (arith, room.room_firsts)) ∙ fe ∙ ap (λ (k : ℕ). 2 ^ k) s)
-          (get_or-set_same L d l 0 (omega (arith, room.room_lasts)) ∙ le ∙ ap (λ (k : ℕ). 2 ^ k) s)
-          (item-leaf x m))
-          (rows-leaf x m (set F (m + 1) 0) (set S (m + 1) x)
-          (ap (λ (k : ℕ). get_or (set F (m + 1) 0) k 0) (sym s) ∙ get_or-set_same F (m + 1) 0 0 (omega (arith, rows.rows_follow)))
-          (ap (λ (k : ℕ). get_or (set S (m + 1) x) k 0) (sym s) ∙ get_or-set_same S (m + 1) x 0 (omega (arith, rows.rows_sets))))
+        go : {rs rs' : List Condition} → Makes (Leaf t) rs rs' → Stacked x p d m rs
+            → Stacked (with_item x d (record { nullable = false; first = f; last = f }))
+            (record { follow = set p.follow (m + 1) 0; sets = set p.sets (m + 1) t }) (d + 1 - 0) (m + 1) rs'
+        go a_leaf on =
+            let n = leaf-leaves t in
+            above {d' = d + 1 - 0} {m' = m + 1} {r = leaf t}
+            (agree
+            (record {
+              items = λ k y. kept x.items d k _ _ y;
+              rows = λ q y. kept p.follow (m + 1) q 0 0 (omega arith);
+              sets = λ q y. kept p.sets (m + 1) q t 0 (omega arith);
+            })
+            on)
+            (omega arith)
+            (omega arith)
+            (item-same
+            (get_or-set_same x.items d _ _ (omega (arith, room))
+            ∙ ap (λ (f : ℕ). record { nullable = false; first = f; last = f }) (e ∙ ap (λ (k : ℕ). 2 ^ k) s))
+            (item-leaf t m))
+            (rows-leaf t m (set p.follow (m + 1) 0) (set p.sets (m + 1) t)
+            (ap (λ (k : ℕ). get_or (set p.follow (m + 1) 0) k 0) (sym s) ∙ get_or-set_same p.follow (m + 1) 0 0 (omega (arith, long)))
+            (ap (λ (k : ℕ). get_or (set p.sets (m + 1) t) k 0) (sym s) ∙ get_or-set_same p.sets (m + 1) t 0 (omega (arith, long'))))
 
-  pub push-empty : (F S : List ℕ) (m : ℕ) → Rows F S → Turned Empty N A L F S (set N d true) (set A d 0) (set L d 0) F S d m
-  push-empty F S m rows = record { room = room-item room d true 0 0; rows = rows; turned = λ rs rs' h t. go h t }
-    where
-      go : {rs rs' : List Condition} → Makes Empty rs rs' → Stacked N A L F S d m rs
-          → Stacked (set N d true) (set A d 0) (set L d 0) F S (d + 1 - 0) (m + 0) rs'
-      go an_empty t =
-          let n = empty-leaves in
-          above {d' = d + 1 - 0} {m' = m + 0} {r = empty}
-          (agree
-          (record {
-            nulls = λ k y. kept N d k true false y;
-            firsts = λ k y. kept A d k 0 0 y;
-            lasts = λ k y. kept L d k 0 0 y;
-            rows = λ p y. refl;
-            sets = λ p y. refl;
-          })
-          t)
-          (omega arith)
-          (omega arith)
-          (item-same (get_or-set_same N d true false (omega (arith, room.room_nulls))) (get_or-set_same A d 0 0 (omega (arith, room.room_firsts)))
-          (get_or-set_same L d 0 0 (omega (arith, room.room_lasts)))
-          (item-empty m))
-          (rows_empty m F S)
+    pub push-empty : (m : ℕ) → Turned Empty x p (with_item x d (record { nullable = true; first = 0; last = 0 })) p d m
+    push-empty m = record { turned = λ rs rs' h t. go h t }
+      where
+        go : {rs rs' : List Condition} → Makes Empty rs rs' → Stacked x p d m rs
+            → Stacked (with_item x d (record { nullable = true; first = 0; last = 0 })) p (d + 1 - 0) (m + 0) rs'
+        go an_empty on =
+            let n = empty-leaves in
+            above {d' = d + 1 - 0} {m' = m + 0} {r = empty}
+            (agree (record { items = λ k y. kept x.items d k _ _ y; rows = λ q y. refl; sets = λ q y. refl }) on)
+            (omega arith)
+            (omega arith)
+            (item-same (get_or-set_same x.items d _ _ (omega (arith, room))) (item-empty m))
+            (rows_empty m p.follow p.sets)
 
 -- Star, join and either -------------------------------------------------------------------------------------------------
 
@@ -189,118 +142,96 @@ unfolding leaves
 either-leaves a c = refl
 
 -- rows at or below b stay where the lasts are of leaves behind b
-linked-kept : {a : Condition} {b : ℕ} {n : Bool} {f l x : ℕ} {F F' : List ℕ} → Linked l x F F' → ItemIs a b n f l
-    → (p : ℕ) → p ≤ b → p < 64 → get_or F' p 0 ≡ get_or F p 0
-linked-kept {a} {b} {n} {f} {l} {x} {F} {F'} k i p h few =
-    k.linked_is p few
-    ∙ ap (λ (y : Bool). bit_or (get_or F p 0) (cond y x 0)) (i.last_is p ∙ behind-low b (λ i. last a i) p h)
-    ∙ or_zero_r (get_or F p 0)
+linked-kept : {a : Condition} {b : ℕ} {i : Item} {f : ℕ} {F F' : List ℕ} → Linked i.last f F F' → ItemIs a b i
+    → (q : ℕ) → q ≤ b → q < 64 → get_or F' q 0 ≡ get_or F q 0
+linked-kept {a} {b} {i} {f} {F} {F'} k is q h few =
+    k.linked_is q few
+    ∙ ap (λ (y : Bool). bit_or (get_or F q 0) (cond y f 0)) (is.last_is q ∙ behind-low b (λ i. last a i) q h)
+    ∙ or_zero_r (get_or F q 0)
 
-module _ {N : List Bool} {A L F F' S : List ℕ} {d m : ℕ} (room : Roomy N A L) (h : d ≤ 50) where
-  pub star-top : Linked (get_or L (d - 1) 0) (get_or A (d - 1) 0) F F' → Rows F S → m < 64 → Turned Star N A L F S (set N (d - 1) true) A L F' S d m
-  star-top k rows few =
-      record {
-        room = room-null room (d - 1) true;
-        rows = record { rows_follow = k.linked_rows; rows_sets = rows.rows_sets };
-        turned = λ rs rs' h t. go h t;
-      }
+module _ {x : Stack} {p : Places} {F' : List ℕ} {d m : ℕ} (room : length x.items ≡ 50) (h : d ≤ 50) where
+  pub star-top : Linked (item_at x (d - 1)).last (item_at x (d - 1)).first p.follow F' → m < 64
+      → Turned Star x p (with_item x (d - 1) (record (item_at x (d - 1)) { nullable = true })) (record p { follow = F' }) d m
+  star-top k few = record { turned = λ rs rs' h t. go h t }
     where
-      go : {rs rs' : List Condition} → Makes Star rs rs' → Stacked N A L F S d m rs → Stacked (set N (d - 1) true) A L F' S (d + 1 - 1) (m + 0) rs'
+      go : {rs rs' : List Condition} → Makes Star rs rs' → Stacked x p d m rs
+          → Stacked (with_item x (d - 1) (record (item_at x (d - 1)) { nullable = true })) (record p { follow = F' }) (d + 1 - 1) (m + 0) rs'
       go (a_star {a = a}) t =
-          let p = top t in
+          let o = top t in
           let n = star-leaves a in
-          let g = p.deep in
-          let y = p.count in
-          let v = room.room_nulls in
+          let g = o.deep in
+          let y = o.count in
           above {d' = d + 1 - 1} {m' = m + 0} {r = star a}
           (agree
           (record {
-            nulls = λ i z. kept N (d - 1) i true false z;
-            firsts = λ i z. refl;
-            lasts = λ i z. refl;
-            rows = λ i z. linked-kept k p.item i z (omega arith);
+            items = λ i z. kept x.items (d - 1) i _ _ z;
+            rows = λ i z. linked-kept k o.item i z (omega arith);
             sets = λ i z. refl;
           })
-          p.rest)
+          o.rest)
           (omega arith)
           (omega arith)
-          (item-same (get_or-set_same N (d - 1) true false (omega arith)) refl refl (item-star a p.below p.item))
-          (rows-star a p.below p.item p.rows k (omega arith))
+          (item-same (get_or-set_same x.items (d - 1) _ _ (omega arith)) (item-star a o.below o.item))
+          (rows-star a o.below o.item o.rows k (omega arith))
 
-  -- the two topmost items, that of c on that of a, and what is written where a's stood
-  module _ {n : Bool} {f l : ℕ} where
-    merge : {a c r : Condition} {rs : List Condition} (p : Top N A L F S d m c (a ∷ rs)) (q : Top N A L F S (d - 1) p.below a rs)
-        → leaves r ≡ leaves a + leaves c → ItemIs r q.below n f l → RowsAre r q.below F' S
-        → ((k : ℕ) → k ≤ q.below → get_or F' k 0 ≡ get_or F k 0)
-        → Stacked (set N (d - 1 - 1) n) (set A (d - 1 - 1) f) (set L (d - 1 - 1) l) F' S (d + 1 - 2) (m + 0) (r ∷ rs)
-    merge {r = r} p q e i w same =
-        let g = q.deep in
-        let y = p.count in
-        let z = q.count in
-        let v = room.room_nulls in
-        let v' = room.room_firsts in
-        let v'' = room.room_lasts in
-        above {d' = d + 1 - 2} {m' = m + 0} {r = r}
-        (agree
-        (record {
-          nulls = λ k x. kept N (d - 1 - 1) k n false x;
-          firsts = λ k x. kept A (d - 1 - 1) k f 0 x;
-          lasts = λ k x. kept L (d - 1 - 1) k l 0 x;
-          rows = same;
-          sets = λ k x. refl;
-        })
-        q.rest)
-        (omega arith)
-        (omega arith)
-        (item-same (get_or-set_same N (d - 1 - 1) n false (omega arith)) (get_or-set_same A (d - 1 - 1) f 0 (omega arith))
-        (get_or-set_same L (d - 1 - 1) l 0 (omega arith)) i)
-        w
+  -- the two topmost items, that of c on that of a, and the item that is written where a's stood
+  merge : {a c r : Condition} {rs : List Condition} {i : Item} (o : Top x p d m c (a ∷ rs)) (q : Top x p (d - 1) o.below a rs)
+      → leaves r ≡ leaves a + leaves c → ItemIs r q.below i → RowsAre r q.below F' p.sets
+      → ((k : ℕ) → k ≤ q.below → get_or F' k 0 ≡ get_or p.follow k 0)
+      → Stacked (with_item x (d - 1 - 1) i) (record p { follow = F' }) (d + 1 - 2) (m + 0) (r ∷ rs)
+  merge {r = r} {i = i} o q e is w same =
+      let g = q.deep in
+      let y = o.count in
+      let z = q.count in
+      above {d' = d + 1 - 2} {m' = m + 0} {r = r}
+      (agree (record { items = λ k l. kept x.items (d - 1 - 1) k _ _ l; rows = same; sets = λ k l. refl }) q.rest)
+      (omega arith)
+      (omega arith)
+      (item-same (get_or-set_same x.items (d - 1 - 1) _ _ (omega arith)) is)
+      w
 
 -- the second of two items, behind the leaves of the first
-module _ {N : List Bool} {A L F S : List ℕ} {d m : ℕ} {a c : Condition} {rs : List Condition} (p : Top N A L F S d m c (a ∷ rs)) (q : Top N A L F S (d - 1) p.below a rs) where
-  second-item : ItemIs c (q.below + leaves a) (get_or N (d - 1) false) (get_or A (d - 1) 0) (get_or L (d - 1) 0)
-  second-item = subst (λ (b : ℕ). ItemIs c b (get_or N (d - 1) false) (get_or A (d - 1) 0) (get_or L (d - 1) 0)) q.count p.item
+module _ {x : Stack} {p : Places} {d m : ℕ} {a c : Condition} {rs : List Condition} (o : Top x p d m c (a ∷ rs)) (q : Top x p (d - 1) o.below a rs) where
+  second-item : ItemIs c (q.below + leaves a) (item_at x (d - 1))
+  second-item = subst (λ (b : ℕ). ItemIs c b (item_at x (d - 1))) q.count o.item
 
-  second-rows : RowsAre c (q.below + leaves a) F S
-  second-rows = subst (λ (b : ℕ). RowsAre c b F S) q.count p.rows
+  second-rows : RowsAre c (q.below + leaves a) p.follow p.sets
+  second-rows = subst (λ (b : ℕ). RowsAre c b p.follow p.sets) q.count o.rows
 
-module _ {N : List Bool} {A L F S : List ℕ} {d m : ℕ} (room : Roomy N A L) (h : d ≤ 50) where
-  pub join-top : {F' : List ℕ} {x y : ℕ} {n : Bool} → Linked (get_or L (d - 1 - 1) 0) (get_or A (d - 1) 0) F F'
-      → x ≡ cond (get_or N (d - 1 - 1) false) (get_or A (d - 1) 0) 0 → y ≡ cond (get_or N (d - 1) false) (get_or L (d - 1 - 1) 0) 0
-      → n ≡ (get_or N (d - 1 - 1) false && get_or N (d - 1) false) → Rows F S → m < 64
-      → Turned Join N A L F S (set N (d - 1 - 1) n) (set A (d - 1 - 1) (bit_or (get_or A (d - 1 - 1) 0) x)) (set L (d - 1 - 1) (bit_or y (get_or L (d - 1) 0))) F' S d m
-  join-top {F'} {x} {y} {n} k ex ey en rows few =
-      record {
-        room = room-item room (d - 1 - 1) n _ _;
-        rows = record { rows_follow = k.linked_rows; rows_sets = rows.rows_sets };
-        turned = λ rs rs' h t. go h t;
-      }
+-- the item of a join and that of a union, from those of its parts
+abbrev pub joined : Item → Item → Item
+joined a c = record {
+  nullable = a.nullable && c.nullable;
+  first = bit_or a.first (cond a.nullable c.first 0);
+  last = bit_or (cond c.nullable a.last 0) c.last;
+}
+
+abbrev pub united : Item → Item → Item
+united a c = record { nullable = a.nullable || c.nullable; first = bit_or a.first c.first; last = bit_or a.last c.last }
+
+module _ {x : Stack} {p : Places} {d m : ℕ} {i : Item} (room : length x.items ≡ 50) (h : d ≤ 50) where
+  pub join-top : {F' : List ℕ} → Linked (item_at x (d - 1 - 1)).last (item_at x (d - 1)).first p.follow F'
+      → i ≡ joined (item_at x (d - 1 - 1)) (item_at x (d - 1)) → m < 64 → Turned Join x p (with_item x (d - 1 - 1) i) (record p { follow = F' }) d m
+  join-top {F'} k e few = record { turned = λ rs rs' h t. go h t }
     where
-      go : {rs rs' : List Condition} → Makes Join rs rs' → Stacked N A L F S d m rs
-          → Stacked (set N (d - 1 - 1) n) (set A (d - 1 - 1) (bit_or (get_or A (d - 1 - 1) 0) x)) (set L (d - 1 - 1) (bit_or y (get_or L (d - 1) 0))) F' S
-          (d + 1 - 2) (m + 0) rs'
+      go : {rs rs' : List Condition} → Makes Join rs rs' → Stacked x p d m rs
+          → Stacked (with_item x (d - 1 - 1) i) (record p { follow = F' }) (d + 1 - 2) (m + 0) rs'
       go (a_join {a = a} {b = c}) t =
-          let p = top t in
-          let q = top p.rest in
-          let z = p.count in
+          let o = top t in
+          let q = top o.rest in
+          let z = o.count in
           let z' = q.count in
-          merge room h p q (join-leaves a c)
-          (item-same en (ap (λ (v : ℕ). bit_or (get_or A (d - 1 - 1) 0) v) ex) (ap (λ (v : ℕ). bit_or v (get_or L (d - 1) 0)) ey)
-          (item-join a c q.below q.item (second-item p q)))
-          (rows_join a c q.below q.rows (second-rows p q) q.item (second-item p q) k (omega arith))
+          merge room h o q (join-leaves a c) (item-same e (item-join a c q.below q.item (second-item o q)))
+          (rows_join a c q.below q.rows (second-rows o q) q.item (second-item o q) k (omega arith))
           (λ i l. linked-kept k q.item i l (omega arith))
 
-  pub either-top : {n : Bool} → n ≡ (get_or N (d - 1 - 1) false || get_or N (d - 1) false) → Rows F S
-      → Turned Either N A L F S (set N (d - 1 - 1) n) (set A (d - 1 - 1) (bit_or (get_or A (d - 1 - 1) 0) (get_or A (d - 1) 0)))
-      (set L (d - 1 - 1) (bit_or (get_or L (d - 1 - 1) 0) (get_or L (d - 1) 0))) F S d m
-  either-top {n} en rows = record { room = room-item room (d - 1 - 1) n _ _; rows = rows; turned = λ rs rs' h t. go h t }
+  pub either-top : i ≡ united (item_at x (d - 1 - 1)) (item_at x (d - 1)) → Turned Either x p (with_item x (d - 1 - 1) i) p d m
+  either-top e = record { turned = λ rs rs' h t. go h t }
     where
-      go : {rs rs' : List Condition} → Makes Either rs rs' → Stacked N A L F S d m rs
-          → Stacked (set N (d - 1 - 1) n) (set A (d - 1 - 1) (bit_or (get_or A (d - 1 - 1) 0) (get_or A (d - 1) 0)))
-          (set L (d - 1 - 1) (bit_or (get_or L (d - 1 - 1) 0) (get_or L (d - 1) 0))) F S (d + 1 - 2) (m + 0) rs'
+      go : {rs rs' : List Condition} → Makes Either rs rs' → Stacked x p d m rs → Stacked (with_item x (d - 1 - 1) i) p (d + 1 - 2) (m + 0) rs'
       go (an_either {a = a} {b = c}) t =
-          let p = top t in
-          let q = top p.rest in
-          merge room h p q (either-leaves a c) (item-same en refl refl (item-either a c q.below q.item (second-item p q)))
-          (rows-either a c q.below q.rows (second-rows p q))
+          let o = top t in
+          let q = top o.rest in
+          merge room h o q (either-leaves a c) (item-same e (item-either a c q.below q.item (second-item o q)))
+          (rows-either a c q.below q.rows (second-rows o q))
           (λ i l. refl)

@@ -1,126 +1,129 @@
 #![tactic(auto)]
-// The stack of items by which the places of a condition are found from its symbols in postfix order. Item i says of a condition whether it is
-// nullable, and has its first and its last leaves; `follow` and `sets` have the rows of the leaves of all items.
-ghost use Rattle.std.specs.Prelude.{◌≡◌, cond, List, ℕ, ◌<◌, ◌≤◌, length};
+// The stack of items by which the places of a condition are found from its symbols in postfix order, and the rows of the leaves of all its items.
+ghost use Rattle.std.specs.Prelude.{◌≡◌, cond, ℕ, ◌<◌, ◌≤◌};
 ghost use Rattle.std.specs.Int.Bits.{bit_or};
 ghost use Rattle.condition.specs.Exchange.{exchange_set};
 ghost use Rattle.format.specs.declared.symbols.Symbol.TheVariants.{Leaf, Empty, Join, Either, Star};
-ghost use Rattle.items.specs.Stack.{Roomy, Rows, Turned};
+ghost use Rattle.items.specs.Stack.{Turned};
 ghost use Rattle.items.specs.Channels.{SetsExchanged};
 
 use bits::rows::link;
-use bits::{bit, both, chosen, one_of};
+use bits::{bit, chosen};
 
-// A leaf on top of `depth` items with `leaves` leaves.
-pub fn push_leaf(
-    set: u64,
-    depth: usize,
-    leaves: usize,
-    nullable: &mut [bool; 50],
-    first: &mut [u64; 50],
-    last: &mut [u64; 50],
-    follow: &mut [u64; 64],
-    sets: &mut [u64; 64],
-)
-    requires { (depth < 50) × (leaves < 62) × Roomy nullable.old first.old last.old × Rows follow.old sets.old }
-    ensures { Turned (Leaf set)
-        nullable.old first.old last.old follow.old sets.old
-        nullable.new first.new last.new follow.new sets.new depth leaves }
-{
-    let place = leaves + 1;
-    follow[place] = 0;
-    sets[place] = set;
-    nullable[depth] = false;
-    first[depth] = bit(place);
-    last[depth] = bit(place);
+// The rows of a side's places: row p of `follow` is the set of the followers of place p, and row q of `sets` the set of leaf q.
+#[derive(Clone, Copy)]
+pub struct Places {
+    pub follow: [u64; 64],
+    pub sets: [u64; 64],
 }
 
-// The empty condition on top of `depth` items.
-pub fn push_empty(
-    depth: usize,
-    nullable: &mut [bool; 50],
-    first: &mut [u64; 50],
-    last: &mut [u64; 50],
-)
-    requires { (depth < 50) × Roomy nullable.old first.old last.old }
-    ensures { (F S : List ℕ) (m : ℕ) → Rows F S → Turned Empty
-        nullable.old first.old last.old F S
-        nullable.new first.new last.new F S depth m }
-{
-    nullable[depth] = true;
-    first[depth] = 0;
-    last[depth] = 0;
+// An item says of a condition whether it is nullable, and has the sets of its first and of its last leaves.
+#[derive(Clone, Copy)]
+pub struct Item {
+    pub nullable: bool,
+    pub first: u64,
+    pub last: u64,
 }
 
-// The join of the two topmost of `depth` items: each first of the second follows each last of the first.
-pub fn join_top(
-    depth: usize,
-    nullable: &mut [bool; 50],
-    first: &mut [u64; 50],
-    last: &mut [u64; 50],
-    follow: &mut [u64; 64],
-)
-    requires { (2 ≤ depth) × (depth ≤ 50) × Roomy nullable.old first.old last.old × (length follow.old ≡ 64) }
-    ensures { (S : List ℕ) (m : ℕ) → Rows follow.old S → m < 64 → Turned Join
-        nullable.old first.old last.old follow.old S
-        nullable.new first.new last.new follow.new S depth m }
-{
-    let top = depth - 1;
-    let under = top - 1;
-    let lasts = last[under];
-    let firsts = first[top];
-    link(lasts, firsts, follow);
-    let a = nullable[under];
-    let b = nullable[top];
-    first[under] = first[under] | chosen(a, firsts);
-    last[under] = chosen(b, lasts) | last[top];
-    nullable[under] = both(a, b);
+// Room for the items of one condition, on one item: of 96 symbols that leave one item, each adds at most one, so there are never more than 48.
+#[derive(Clone, Copy)]
+pub struct Stack {
+    pub items: [Item; 50],
 }
 
-// The union of the two topmost of `depth` items.
-pub fn either_top(
-    depth: usize,
-    nullable: &mut [bool; 50],
-    first: &mut [u64; 50],
-    last: &mut [u64; 50],
-)
-    requires { (2 ≤ depth) × (depth ≤ 50) × Roomy nullable.old first.old last.old }
-    ensures { (F S : List ℕ) (m : ℕ) → Rows F S → Turned Either
-        nullable.old first.old last.old F S
-        nullable.new first.new last.new F S depth m }
-{
-    let top = depth - 1;
-    let under = top - 1;
-    first[under] = first[under] | first[top];
-    last[under] = last[under] | last[top];
-    nullable[under] = one_of(nullable[under], nullable[top]);
+impl Stack {
+    // A stack with no item on it.
+    pub const EMPTY: Stack = Stack {
+        items: [Item {
+            nullable: false,
+            first: 0,
+            last: 0,
+        }; 50],
+    };
+
+    // A leaf on top of `depth` items with `leaves` leaves.
+    pub fn push_leaf(&mut self, set: u64, depth: usize, leaves: usize, places: &mut Places)
+        requires { (depth < 50) × (leaves < 62) }
+        ensures { Turned (Leaf set) self.old places.old self.new places.new depth leaves }
+    {
+        let place = leaves + 1;
+        places.follow[place] = 0;
+        places.sets[place] = set;
+        let alone = bit(place);
+        self.items[depth] = Item {
+            nullable: false,
+            first: alone,
+            last: alone,
+        };
+    }
+
+    // The empty condition on top of `depth` items.
+    pub fn push_empty(&mut self, depth: usize)
+        requires { depth < 50 }
+        ensures { (p : Places) (m : ℕ) → Turned Empty self.old p self.new p depth m }
+    {
+        self.items[depth] = Item {
+            nullable: true,
+            first: 0,
+            last: 0,
+        };
+    }
+
+    // The join of the two topmost of `depth` items: each first of the second follows each last of the first.
+    pub fn join_top(&mut self, depth: usize, places: &mut Places)
+        requires { (2 ≤ depth) × (depth ≤ 50) }
+        ensures turned { (m : ℕ) → m < 64 → Turned Join self.old places.old self.new places.new depth m }
+        ensures sets { places.new.sets ≡ places.old.sets }
+    {
+        let top = depth - 1;
+        let under = top - 1;
+        let b = self.items[top];
+        let a = &mut self.items[under];
+        link(a.last, b.first, &mut places.follow);
+        // `chosen` takes a set or none by value; an `if` says no more
+        a.first |= chosen(a.nullable, b.first);
+        a.last = chosen(b.nullable, a.last) | b.last;
+        a.nullable = a.nullable && b.nullable;
+    }
+
+    // The union of the two topmost of `depth` items.
+    pub fn either_top(&mut self, depth: usize)
+        requires { (2 ≤ depth) × (depth ≤ 50) }
+        ensures { (p : Places) (m : ℕ) → Turned Either self.old p self.new p depth m }
+    {
+        let top = depth - 1;
+        let under = top - 1;
+        let b = self.items[top];
+        let a = &mut self.items[under];
+        a.first |= b.first;
+        a.last |= b.last;
+        a.nullable = a.nullable || b.nullable;
+    }
+
+    // The star of the topmost of `depth` items: each of its firsts follows each of its lasts.
+    pub fn star_top(&mut self, depth: usize, places: &mut Places)
+        requires { (1 ≤ depth) × (depth ≤ 50) }
+        ensures turned { (m : ℕ) → m < 64 → Turned Star self.old places.old self.new places.new depth m }
+        ensures sets { places.new.sets ≡ places.old.sets }
+    {
+        let top = depth - 1;
+        let a = self.items[top];
+        link(a.last, a.first, &mut places.follow);
+        self.items[top].nullable = true;
+    }
 }
 
-// The star of the topmost of `depth` items: each of its firsts follows each of its lasts.
-pub fn star_top(
-    depth: usize,
-    nullable: &mut [bool; 50],
-    first: &[u64; 50],
-    last: &[u64; 50],
-    follow: &mut [u64; 64],
-)
-    requires { (1 ≤ depth) × (depth ≤ 50) × Roomy nullable.old first.now last.now × (length follow.old ≡ 64) }
-    ensures { (S : List ℕ) (m : ℕ) → Rows follow.old S → m < 64 → Turned Star
-        nullable.old first.now last.now follow.old S
-        nullable.new first.now last.now follow.new S depth m }
-{
-    let top = depth - 1;
-    link(last[top], first[top], follow);
-    nullable[top] = true;
+impl Item {
+    // The places that end a word, of an item that stands alone: its last leaves, and place 0 where it is nullable.
+    pub fn ends(self) -> u64
+        ensures { result ≡ bit_or self.last (cond self.nullable 1 0) }
+    {
+        self.last | chosen(self.nullable, 1)
+    }
 }
 
-// The places that end a word, of an item that stands alone: its last leaves, and place 0 where it is nullable.
-pub fn ends_of(nullable: bool, last: u64) -> u64
-    ensures { result ≡ bit_or last (cond nullable 1 0) }
-{
-    last | chosen(nullable, 1)
-}
-
+// A channel is a number here: its events stand 16 times as far as those of channel 0.
+//
 // The set of a leaf with the events of channel 0 and of the channel exchanged: each bit in which the two differ is turned over in both.
 pub fn exchanged(set: u64, channel: usize) -> u64
     requires { channel ≤ 3 }
@@ -131,14 +134,22 @@ pub fn exchanged(set: u64, channel: usize) -> u64
     set ^ differing ^ (differing << shift)
 }
 
-// The sets of the leaves behind the first `from`, up to leaf `to`, with the events of channel 0 and of the channel exchanged.
-pub fn exchange_sets(from: usize, to: usize, channel: usize, sets: &mut [u64; 64])
-    requires { (to < 64) × (channel ≤ 3) × (length sets.old ≡ 64) }
-    ensures { SetsExchanged from to channel sets.old sets.new }
-{
-    let mut q = from;
-    while q < to {
-        q += 1;
-        sets[q] = exchanged(sets[q], channel);
+impl Places {
+    // The rows before any place is found.
+    pub const EMPTY: Places = Places {
+        follow: [0; 64],
+        sets: [0; 64],
+    };
+
+    // The sets of the leaves behind the first `from`, up to leaf `to`, with the events of channel 0 and of the channel exchanged.
+    pub fn exchange_sets(&mut self, from: usize, to: usize, channel: usize)
+        requires { (to < 64) × (channel ≤ 3) }
+        ensures sets { SetsExchanged from to channel self.old.sets self.new.sets }
+        ensures follow { self.new.follow ≡ self.old.follow }
+    {
+        // by the leaf before, since `from` may be any number: a slice from `from + 1` on would need it to be below `to`
+        for q in from..to {
+            self.sets[q + 1] = exchanged(self.sets[q + 1], channel);
+        }
     }
 }

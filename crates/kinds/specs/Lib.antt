@@ -1,2 +1,3 @@
 pub mod Kinds
 pub mod Lengths
+pub mod Numbers

@@ -5,46 +5,60 @@ ghost use Rattle.sheet.specs.Kind.{body_length};
 ghost use Rattle.kinds.specs.Kinds.{last_kind};
 ghost use Rattle.kinds.specs.Lengths.{length_of};
 
-use crate::{
-    CHANNEL_CALL, EDITION, EVENT, LAST, LEAF, PAIR, STOP, TWO_OUTCOME_BODY, TWO_OUTCOME_PRIMITIVE,
-    WITH_BODY,
-};
+use crate::Kind;
 
-// The length of a body, or that there is no such kind.
-#[derive(Clone, Copy)]
-pub enum Length {
-    Of(usize),
-    Nothing,
-}
+// The kinds by the bytes that stand for them, as far as the decision names them.
+const LEAF: u8 = Kind::Leaf as u8;
 
-// Of any byte. Most records are pairs, and of the others most stand in conditions.
-pub fn body_length(kind: u8) -> Length
+const WITH_BODY: u8 = Kind::WithBody as u8;
+
+const EVENT: u8 = Kind::Event as u8;
+
+const PAIR: u8 = Kind::Pair as u8;
+
+const TWO_OUTCOME_PRIMITIVE: u8 = Kind::TwoOutcomePrimitive as u8;
+
+const TWO_OUTCOME_BODY: u8 = Kind::TwoOutcomeBody as u8;
+
+const EDITION: u8 = Kind::Edition as u8;
+
+const STOP: u8 = Kind::Stop as u8;
+
+const CHANNEL_CALL: u8 = Kind::ChannelCall as u8;
+
+const LAST: u8 = Kind::ChannelCall as u8;
+
+// A byte and no `Kind` is asked here and below: the clause answers for each of the 256, also for those that stand for no kind, and a match on kinds is made
+// a table.
+//
+// The length of the body of a kind, or that there is no such kind. Most records are pairs, and of the others most stand in conditions.
+pub fn body_length(kind: u8) -> Option<usize>
     ensures { result ≡ length_of kind }
 {
     if kind == PAIR {
-        return Length::Of(5);
+        return Some(5);
     }
     if kind < 7 {
         return condition_length(kind);
     }
     if LAST < kind {
-        return Length::Nothing;
+        return None;
     }
-    Length::Of(later_length(kind))
+    Some(later_length(kind))
 }
 
 // Of the kinds of document 01's conditions, where a leaf alone has a body, and of 0, which is no kind.
-fn condition_length(kind: u8) -> Length
+fn condition_length(kind: u8) -> Option<usize>
     requires { kind < 7 }
     ensures { result ≡ length_of kind }
 {
     if kind == 0 {
-        return Length::Nothing;
+        return None;
     }
     if kind == LEAF {
-        return Length::Of(4);
+        return Some(4);
     }
-    Length::Of(0)
+    Some(0)
 }
 
 // Of the kinds behind them, but for pairs.

@@ -1,151 +1,170 @@
 #![tactic(auto)]
-// The kinds by name, and what reading asks of a kind: its section, and what it is to an open condition or certificate.
-ghost use Rattle.std.specs.Prelude.{◌≡◌, ◌≤◌};
+// The kinds of records and the sections by name, and what reading asks of a kind: its section, and what it is to an open condition or certificate.
+ghost use Rattle.std.specs.Prelude.{◌≡◌, ltb};
 ghost use Rattle.sheet.specs.Kind.{kind_of, section_of};
 ghost use Rattle.sheet.specs.Reading.{in_condition};
-ghost use Rattle.kinds.specs.Kinds.{last_kind, counts_one, takes_items, leaf_kind, primitive_kind, body_kind, two_outcome_kind};
+ghost use Rattle.kinds.specs.Kinds.{counts_one, takes_items, leaf_kind, primitive_kind, body_kind, two_outcome_kind};
+ghost use Rattle.kinds.specs.Numbers.{kind_number, section_number};
 
-use bits::{both, one_of};
-
+pub mod bytes; // bytes.rt: tests of a byte that may stand for no kind
 pub mod lengths; // lengths.rt: the length of a body
 
 // The sections in their order, each called by what is counted in it.
-pub const CONDITIONS: u8 = 1;
+#[derive(Clone, Copy, PartialEq, Eq, PartialOrd, Ord)]
+pub enum Section {
+    Conditions = 1,
+    Points = 2,
+    Methods = 3,
+    Steps = 4,
+    Certificates = 5,
+}
 
-pub const POINTS: u8 = 2;
+impl Section {
+    // The section stands before another one in a sheet.
+    pub fn is_before(self, other: Section) -> bool
+        ensures { result ≡ ltb (section_number self) (section_number other) }
+    {
+        self < other
+    }
+}
 
-pub const METHODS: u8 = 3;
+// The kinds, each with the byte that stands for it.
+#[derive(Clone, Copy, PartialEq, Eq)]
+pub enum Kind {
+    Leaf = 1,
+    Empty = 2,
+    Join = 3,
+    Either = 4,
+    Star = 5,
+    ConditionEnd = 6,
+    Point = 7,
+    Primitive = 8,
+    WithBody = 9,
+    Event = 10,
+    Call = 11,
+    Pass = 12,
+    Pair = 13,
+    CertificateEnd = 14,
+    TwoOutcomePrimitive = 15,
+    TwoOutcomeBody = 16,
+    TwoOutcomeCall = 17,
+    Edition = 18,
+    Stop = 19,
+    OwnedPoint = 20,
+    LongLeaf = 21,
+    ChannelCall = 22,
+}
 
-pub const STEPS: u8 = 4;
+// A byte that stands for no kind.
+#[derive(Clone, Copy, PartialEq, Eq)]
+pub struct UnknownKind(pub u8);
 
-pub const CERTIFICATES: u8 = 5;
+impl TryFrom<u8> for Kind {
+    ghost use Rattle.kinds.specs.Numbers.{Reads};
 
-// The kinds of symbols: a leaf, EMPTY, JOIN, EITHER, STAR.
-pub const LEAF: u8 = 1;
+    type Error = UnknownKind;
 
-pub const EMPTY: u8 = 2;
+    ghost try_from_gives = { Reads };
 
-pub const JOIN: u8 = 3;
-
-pub const EITHER: u8 = 4;
-
-pub const STAR: u8 = 5;
-
-// The kinds of a primitive, of a method with body, of an event step and of a call step; those of two outcomes stand below.
-pub const PRIMITIVE: u8 = 8;
-
-pub const WITH_BODY: u8 = 9;
-
-pub const EVENT: u8 = 10;
-
-pub const CALL: u8 = 11;
-
-// The kind of a pair.
-pub const PAIR: u8 = 13;
-
-// The kinds of a primitive and of a method with body that have two outcomes, and of a call of such a method.
-pub const TWO_OUTCOME_PRIMITIVE: u8 = 15;
-
-pub const TWO_OUTCOME_BODY: u8 = 16;
-
-pub const TWO_OUTCOME_CALL: u8 = 17;
-
-// The kinds of the mark of the new edition and of a stop.
-pub const EDITION: u8 = 18;
-
-pub const STOP: u8 = 19;
-
-// The kind of a point with an owner.
-pub const OWNED_POINT: u8 = 20;
-
-// The kinds of a leaf with a set of eight bytes and of a call on a channel.
-pub const LONG_LEAF: u8 = 21;
-
-pub const CHANNEL_CALL: u8 = 22;
-
-// The last kind.
-const LAST: u8 = 22;
-
-pub fn section_of(kind: u8) -> u8
-    requires { (1 ≤ kind) × (kind ≤ last_kind) }
-    ensures { result ≡ section_of kind }
-{
-    if kind < 7 {
-        CONDITIONS
-    } else if kind < 13 {
-        if kind < 8 {
-            POINTS
-        } else if kind < 10 {
-            METHODS
-        } else {
-            STEPS
+    fn try_from(byte: u8) -> Result<Self, UnknownKind> {
+        match byte {
+            1 => Ok(Kind::Leaf),
+            2 => Ok(Kind::Empty),
+            3 => Ok(Kind::Join),
+            4 => Ok(Kind::Either),
+            5 => Ok(Kind::Star),
+            6 => Ok(Kind::ConditionEnd),
+            7 => Ok(Kind::Point),
+            8 => Ok(Kind::Primitive),
+            9 => Ok(Kind::WithBody),
+            10 => Ok(Kind::Event),
+            11 => Ok(Kind::Call),
+            12 => Ok(Kind::Pass),
+            13 => Ok(Kind::Pair),
+            14 => Ok(Kind::CertificateEnd),
+            15 => Ok(Kind::TwoOutcomePrimitive),
+            16 => Ok(Kind::TwoOutcomeBody),
+            17 => Ok(Kind::TwoOutcomeCall),
+            18 => Ok(Kind::Edition),
+            19 => Ok(Kind::Stop),
+            20 => Ok(Kind::OwnedPoint),
+            21 => Ok(Kind::LongLeaf),
+            22 => Ok(Kind::ChannelCall),
+            _ => Err(UnknownKind(byte)),
         }
-    } else if kind < 15 {
-        CERTIFICATES
-    } else if kind < 17 {
-        METHODS
-    } else if one_of(kind == EDITION, kind == LONG_LEAF) {
-        CONDITIONS
-    } else if kind == OWNED_POINT {
-        POINTS
-    } else {
-        STEPS
     }
 }
 
-// A record of the kind may stand in a condition: it is a symbol or its end.
-pub fn in_condition(kind: u8) -> bool
-    requires { 1 ≤ kind }
-    ensures { result ≡ in_condition (section_of kind) (kind_of kind).role }
-{
-    one_of(kind < 7, kind == LONG_LEAF)
-}
-
-// A record of the kind is one of its section, whole or at its end: no symbol of a condition, no pair, and no mark of the edition.
-pub fn counts(kind: u8) -> bool
-    requires { 1 ≤ kind }
-    ensures { result ≡ counts_one (kind_of kind).role }
-{
-    if kind < 6 {
-        return false;
+impl Kind {
+    pub fn section(self) -> Section
+        ensures { section_number result ≡ section_of (kind_number self) }
+    {
+        match self {
+            Kind::Leaf | Kind::Empty | Kind::Join | Kind::Either | Kind::Star => {
+                Section::Conditions
+            }
+            Kind::ConditionEnd | Kind::Edition | Kind::LongLeaf => Section::Conditions,
+            Kind::Point | Kind::OwnedPoint => Section::Points,
+            Kind::Primitive | Kind::WithBody => Section::Methods,
+            Kind::TwoOutcomePrimitive | Kind::TwoOutcomeBody => Section::Methods,
+            Kind::Event | Kind::Pass | Kind::Stop => Section::Steps,
+            Kind::Call | Kind::TwoOutcomeCall | Kind::ChannelCall => Section::Steps,
+            Kind::Pair | Kind::CertificateEnd => Section::Certificates,
+        }
     }
-    both(kind != PAIR, both(kind != EDITION, kind != LONG_LEAF))
-}
 
-// How many items of a condition a record of the kind takes: JOIN and EITHER two, STAR one.
-pub fn items_taken(kind: u8) -> usize
-    ensures { result ≡ takes_items (kind_of kind).role }
-{
-    match kind {
-        JOIN => 2,
-        EITHER => 2,
-        STAR => 1,
-        _ => 0,
+    // A record of the kind may stand in a condition: it is a symbol or its end.
+    pub fn in_condition(self) -> bool
+        ensures { result ≡ in_condition (section_of (kind_number self)) (kind_of (kind_number self)).role }
+    {
+        self.section() == Section::Conditions && self != Kind::Edition
     }
-}
 
-pub fn is_leaf(kind: u8) -> bool
-    ensures { result ≡ leaf_kind kind }
-{
-    one_of(kind == LEAF, kind == LONG_LEAF)
-}
+    // A record of the kind is one of its section, whole or at its end: no symbol of a condition, no pair, and no mark of the edition.
+    pub fn counts(self) -> bool
+        ensures { result ≡ counts_one (kind_of (kind_number self)).role }
+    {
+        match self {
+            Kind::Leaf | Kind::Empty | Kind::Join | Kind::Either | Kind::Star => false,
+            Kind::Pair | Kind::Edition | Kind::LongLeaf => false,
+            _ => true,
+        }
+    }
 
-pub fn is_primitive(kind: u8) -> bool
-    ensures { result ≡ primitive_kind kind }
-{
-    one_of(kind == PRIMITIVE, kind == TWO_OUTCOME_PRIMITIVE)
-}
+    // How many items of a condition a record of the kind takes: JOIN and EITHER two, STAR one.
+    pub fn items_taken(self) -> usize
+        ensures { result ≡ takes_items (kind_of (kind_number self)).role }
+    {
+        match self {
+            Kind::Join | Kind::Either => 2,
+            Kind::Star => 1,
+            _ => 0,
+        }
+    }
 
-// The kind is that of a method with body.
-pub fn has_body(kind: u8) -> bool
-    ensures { result ≡ body_kind kind }
-{
-    one_of(kind == WITH_BODY, kind == TWO_OUTCOME_BODY)
-}
+    pub fn is_leaf(self) -> bool
+        ensures { result ≡ leaf_kind (kind_number self) }
+    {
+        matches!(self, Kind::Leaf | Kind::LongLeaf)
+    }
 
-// A method of the kind can fail.
-pub fn has_two_outcomes(kind: u8) -> bool
-    ensures { result ≡ two_outcome_kind kind }
-{
-    one_of(kind == TWO_OUTCOME_PRIMITIVE, kind == TWO_OUTCOME_BODY)
+    pub fn is_primitive(self) -> bool
+        ensures { result ≡ primitive_kind (kind_number self) }
+    {
+        matches!(self, Kind::Primitive | Kind::TwoOutcomePrimitive)
+    }
+
+    // The kind is that of a method with body.
+    pub fn has_body(self) -> bool
+        ensures { result ≡ body_kind (kind_number self) }
+    {
+        matches!(self, Kind::WithBody | Kind::TwoOutcomeBody)
+    }
+
+    // A method of the kind can fail.
+    pub fn has_two_outcomes(self) -> bool
+        ensures { result ≡ two_outcome_kind (kind_number self) }
+    {
+        matches!(self, Kind::TwoOutcomePrimitive | Kind::TwoOutcomeBody)
+    }
 }

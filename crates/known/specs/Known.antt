@@ -2,17 +2,18 @@
 use Rattle.std.specs.Prelude.{◌&&◌, List, ℕ, ◌≤◌, ◌<◌, length, T}
 use Rattle.bits.specs.Bits.{◌⇒◌, has}
 use Rattle.bits.specs.Rows.{row_has}
-use Rattle.certificate.specs.Certificate.{Certificate}
-use Rattle.looks.specs.declared.Scope.{Scope}
+use Rattle.looks.specs.declared.Search.{Search}
+use Rattle.looks.specs.Looks.{certificate_of}
 use Rattle.clause4.specs.Clause4.{served_by}
-use Rattle.known.specs.declared.Known.{Known}
+use Rattle.known.specs.declared.Onward.{Onward}
 
 -- clause 4 with these followers of a place and of a set: each event that a follower holds, of n places, is served
-abbrev pub AllServed : Certificate → Scope → List ℕ → List ℕ → ℕ → ℕ → Type 0
-AllServed c x lsets rsets followers onward =
-    (e q : ℕ) → e < x.events → q < x.n → T ((has followers q && row_has lsets q e) ⇒ served_by c x.m onward rsets (length c) q e)
+abbrev pub AllServed : Search → List ℕ → ℕ → ℕ → Type 0
+AllServed x lsets followers onward =
+    (e q : ℕ) → e < x.scope.events → q < x.scope.n
+    → T ((has followers q && row_has lsets q e) ⇒ served_by (certificate_of x) x.scope.m onward x.sets.now (length (certificate_of x)) q e)
 
 -- what a pair leaves for the next one: a number of a pair, or how many there are; and followers that are served
-pub record Next (c : Certificate) (x : Scope) (lsets rsets : List ℕ) (start : ℕ) (known : Known) : Type 0 where
-  pub bound : start ≤ x.count
-  pub served : AllServed c x lsets rsets known.followers known.onward
+pub record Next (x : Search) (lsets : List ℕ) (o : Onward) : Type 0 where
+  pub bound : o.start ≤ x.scope.count
+  pub served : AllServed x lsets o.known.followers o.known.onward

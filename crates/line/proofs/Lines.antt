@@ -1,5 +1,5 @@
--- The lines, and the pieces that are put for each.
-use mathlib.Core.Path.{◌≡◌, refl, ap}
+-- The lines, as the pieces that are put for each.
+use mathlib.Core.Path.{◌≡◌, refl, ap, ◌∙◌}
 use mathlib.Core.Option.{Option, none, some}
 use mathlib.Core.List.{List, ◌++◌, append_assoc, append-nil}
 use Prim.Native.Nat.{ℕ}
@@ -7,8 +7,6 @@ use Rattle.certificate.specs.Certificate.{Fault}
 use Rattle.verdict.specs.Verdict.{accepted, refused, unproved}
 use Rattle.verdict.specs.WordTest.{held, not_held, untested}
 use Rattle.verdict.specs.Line.{ascii, decimal, subject_name, refused_line, line, answer_line}
-use Rattle.text.specs.Put.{Put}
-use Rattle.text.proofs.Put.{then}
 
 pub accepted-line : (n : ℕ) → line (accepted n) ≡ ascii "accepted " ++ decimal n
 unfolding line
@@ -31,28 +29,27 @@ unfolding answer_line
 untested-line n at = refl
 
 -- a label x with its number y, and what follows them
-and_then : {a b c z : List ℕ} {i j k : ℕ} (x y : List ℕ) → Put a i (x ++ y) b j → Put b j z c k → Put a i (x ++ (y ++ z)) c k
-and_then x y p q = rw append_assoc at (then p q)
+and_then : {b c : List ℕ} (a x y z : List ℕ) → b ≡ a ++ (x ++ y) → c ≡ b ++ z → c ≡ a ++ (x ++ (y ++ z))
+and_then a x y z p q = q ∙ ap (λ (l : List ℕ). l ++ z) p ∙ append_assoc a (x ++ y) z ∙ ap (λ (l : List ℕ). a ++ l) (append_assoc x y z)
 
 -- a refusal's line, with a place and without
-module _ {o o₁ : List ℕ} {a n m : ℕ} {at : Option ℕ} (number : n ≡ m) (first : Put o 0 (ascii "refused " ++ decimal n) o₁ a) where
-  pub refused-somewhere : {o₂ : List ℕ} {b k : ℕ} → at ≡ some k → Put o₁ a (ascii " at " ++ decimal k) o₂ b → Put o 0 (refused_line m at) o₂ b
-  refused-somewhere e p = rw (e, ← number, append-nil) (and_then (ascii "refused ") (decimal n) first p)
+module _ (o : List ℕ) {o₁ : List ℕ} {n m : ℕ} {at : Option ℕ} (number : n ≡ m) (first : o₁ ≡ o ++ (ascii "refused " ++ decimal n)) where
+  pub refused-somewhere : {o₂ : List ℕ} {k : ℕ} → some k ≡ at → o₂ ≡ o₁ ++ (ascii " at " ++ decimal k) → o₂ ≡ o ++ refused_line m at
+  refused-somewhere e p = rw (← e, ← number, append-nil) (and_then _ (ascii "refused ") (decimal n) _ first p)
 
-  pub refused-nowhere : at ≡ none → Put o 0 (refused_line m at) o₁ a
-  refused-nowhere e = rw (e, ← number, append-nil) first
+  pub refused-nowhere : none ≡ at → o₁ ≡ o ++ refused_line m at
+  refused-nowhere e = rw (← e, ← number, append-nil) first
 
 -- an unproved answer's line
-pub unproved-pieces : {o o₁ o₂ o₃ o₄ o₅ o₆ : List ℕ} {a₁ a₂ a₃ a₄ a₅ a₆ : ℕ} {r k r' k' : ℕ} (f : Fault) → r ≡ r' → k ≡ k'
-    → Put o 0 (ascii "unproved rule " ++ decimal r) o₁ a₁ → Put o₁ a₁ (subject_name r ++ decimal k) o₂ a₂
-    → Put o₂ a₂ (ascii " clause " ++ decimal f.clause) o₃ a₃ → Put o₃ a₃ (ascii " pair " ++ decimal f.pair) o₄ a₄
-    → Put o₄ a₄ (ascii " event " ++ decimal f.event) o₅ a₅ → Put o₅ a₅ (ascii " place " ++ decimal f.place) o₆ a₆
-    → Put o 0 (line (unproved r' k' f)) o₆ a₆
+pub unproved-pieces : (o : List ℕ) {o₁ o₂ o₃ o₄ o₅ o₆ : List ℕ} {r k r' k' : ℕ} (f : Fault) → r ≡ r' → k ≡ k'
+    → o₁ ≡ o ++ (ascii "unproved rule " ++ decimal r) → o₂ ≡ o₁ ++ (subject_name r ++ decimal k)
+    → o₃ ≡ o₂ ++ (ascii " clause " ++ decimal f.clause) → o₄ ≡ o₃ ++ (ascii " pair " ++ decimal f.pair)
+    → o₅ ≡ o₄ ++ (ascii " event " ++ decimal f.event) → o₆ ≡ o₅ ++ (ascii " place " ++ decimal f.place) → o₆ ≡ o ++ line (unproved r' k' f)
 unfolding line
-unproved-pieces {r} {k} f same-rule same-subject p₁ p₂ p₃ p₄ p₅ p₆ =
+unproved-pieces o {r} {k} f same-rule same-subject p₁ p₂ p₃ p₄ p₅ p₆ =
     rw (← same-rule, ← same-subject, append-nil)
-    (and_then (ascii "unproved rule ") (decimal r) p₁
-    (and_then (subject_name r) (decimal k) p₂
-    (and_then (ascii " clause ") (decimal f.clause) p₃
-    (and_then (ascii " pair ") (decimal f.pair) p₄
-    (and_then (ascii " event ") (decimal f.event) p₅ p₆)))))
+    (and_then _ (ascii "unproved rule ") (decimal r) _ p₁
+    (and_then _ (subject_name r) (decimal k) _ p₂
+    (and_then _ (ascii " clause ") (decimal f.clause) _ p₃
+    (and_then _ (ascii " pair ") (decimal f.pair) _ p₄
+    (and_then _ (ascii " event ") (decimal f.event) _ p₅ p₆)))))

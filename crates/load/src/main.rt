@@ -4,10 +4,10 @@
 ghost use Rattle.std.specs.Prelude.{◌≤◌};
 
 use arguments::{cannot_write, chosen_instrument, is_argument, read_input, read_named};
-use input::{Input, first, has_argument};
-use instrument::{Instrument, Named};
+use input::{first, has_argument};
+use instrument::Instrument;
 use loader::load_on;
-use printing::print_verdict;
+use printing::print;
 use std::env::Env;
 use std::io;
 use std::io::Write;
@@ -19,7 +19,7 @@ fn read_sheet<R: Env + Files + io::Input, E: Write>(
     errors: &mut E,
     i: usize,
     room: &mut [u8],
-) -> Input {
+) -> io::Result<usize> {
     if has_argument(rt, i) {
         read_named(rt, errors, b"load", i, room)
     } else {
@@ -36,11 +36,10 @@ fn print_answer<R: Env + Files + io::Input, O: Write, E: Write>(
     i: usize,
 ) {
     let mut room = [0u8; 65537];
-    let sheet = read_sheet(rt, errors, i, &mut room);
-    let Input::Bytes(n) = sheet else {
+    let Ok(n) = read_sheet(rt, errors, i, &mut room) else {
         return;
     };
-    if let Err(e) = print_verdict(out, load_on(instrument, first(&room, n))) {
+    if let Err(e) = print(out, load_on(instrument, first(&room, n))) {
         cannot_write(errors, b"load", e);
     }
 }
@@ -85,12 +84,12 @@ fn run<R: Env + Files + io::Input, O: Write, E: Write>(
     }
 }
 
+// As in word_test: a `main` for both would take `run` and the program's name to save five lines.
 fn main(rt: HostRuntime) {
     let mut out = rt.stdout();
     let mut errors = rt.stderr();
     let choice = chosen_instrument(&rt, &mut errors, b"load");
-    let named = choice.named;
-    if let Named::Known(instrument) = named {
+    if let Some(instrument) = choice.instrument {
         run(&rt, &mut out, &mut errors, instrument, choice.next);
     }
 }

@@ -16,7 +16,7 @@ use Rattle.bits.proofs.Bitwise.{lt-has, has-without}
 use Rattle.certificate.specs.Certificate.{Pair, pair}
 use Rattle.bits.specs.Rows.{row_has}
 use Rattle.meets.specs.Meets.{all_hold}
-use Rattle.looks.specs.Looks.{serving, misses, Takes, Left}
+use Rattle.looks.specs.Looks.{serving, misses, Left}
 use Rattle.bits.proofs.Least.{number_lt}
 use Rattle.meets.proofs.Rows.{row-set}
 use Rattle.looks.proofs.Rows.{chosen-has}
@@ -25,16 +25,8 @@ use Rattle.looks.proofs.Rows.{chosen-has}
 pub fails-not : (b : Bool) → T (not b) → b ≡ false
 fails-not b h = not-true b (T_true (not b) h)
 
-keep-test : (x z s : Bool) → (T z → x ≡ (x && not s)) → x ≡ (x && not (z && s))
-keep-test x true s h = h tt
-keep-test x false s h = sym (and-true x)
-
 pub and_both : (a b : Bool) → (a && b) ≡ true → (a ≡ true) × (b ≡ true)
 and_both a b e = let (x, y) = and-out a b (rw e tt) in (T_true a x, T_true b y)
-
-off-test : (a w r s : Bool) → (a && w) ≡ false → (a && r) ≡ ((a && r) && not (w && s))
-off-test true w r s h = sym (ap (λ (b : Bool). r && not (b && s)) h ∙ and-true r)
-off-test false w r s h = refl
 
 -- the place of the pair, whose row becomes l: it is taken out where the row is empty
 row_here : (a empty l r s : Bool) → a ≡ true → l ≡ (r && not s) → (T l → empty ≡ false) → ((a && not (empty && true)) && l) ≡ ((a && r) && not s)
@@ -48,17 +40,6 @@ row_other a empty r =
 
 module _ (m onward : ℕ) (sets : List ℕ) (place t missers : ℕ) (rows : List ℕ) where
   module _ (long : length rows ≡ 64) (small : missers < 2 ^ 64) where
-    -- the place misses nothing, or the set does not lie within the followers
-    pub left-off : (has missers place && eqb (bit_and t onward) t) ≡ false → Left m onward sets (pair place t) missers rows missers rows
-    left-off h = record {
-      rows_long = long;
-      missers_small = small;
-      missers_among = λ q t. t;
-      left_is = λ q e. keep-test (misses missers rows q e) (eqb place q) (serving m onward sets t e)
-          (λ z. off-test (has missers q) (eqb (bit_and t onward) t) (row_has rows q e) (all_hold m sets t e)
-          (ap (λ (k : ℕ). has missers k && eqb (bit_and t onward) t) (sym (eqb→eq place q z)) ∙ h));
-    }
-
     module _ (left : ℕ) (leaves : (e : ℕ) → has left e ≡ (row_has rows place e && not (serving m onward sets t e))) where
       -- its row is written
       pub left-row : {one gone : ℕ} → has missers place ≡ true → one ≡ 2 ^ place → gone ≡ cond (eqb left 0) one 0
@@ -122,8 +103,3 @@ leaves-row {left} t row events m onward sets s k left_is is within e = left_is e
 pub left-of : {m onward missers missers' : ℕ} {sets rows rows' : List ℕ} {p p' : Pair} → p ≡ p' → Left m onward sets p' missers rows missers' rows'
     → Left m onward sets p missers rows missers' rows'
 left-of {m} {onward} {missers} {missers'} {sets} {rows} {rows'} e l = subst (λ (p : Pair). Left m onward sets p missers rows missers' rows') (sym e) l
-
--- a pair that passes the test is one that may be taken
-pub takes_of : {onward missers place t : ℕ} {p : Pair} → p ≡ pair place t → has missers place ≡ true → eqb (bit_and t onward) t ≡ true → Takes onward missers p
-takes_of {onward} {missers} {place} {t} is x y =
-    subst (λ (p : Pair). Takes onward missers p) (sym is) (record { wants = rw x tt; lies = eqb-true (bit_and t onward) t y })

@@ -19,9 +19,6 @@ use Rattle.meets.specs.Meets.{all_hold}
 use Rattle.looks.specs.Looks.{serving, serves, Passed}
 
 module _ {c : Certificate} {m onward : ℕ} {sets rows : List ℕ} where
-  pub passed_none : {from to : ℕ} → from ≡ to → Passed c m onward sets rows from to
-  passed_none same = record { ahead = omega arith; none = λ j q e h k. absurd (omega arith) }
-
   -- a pair more
   pub passed-more : {from i : ℕ} {p : Pair} → Passed c m onward sets rows from i → pair_of c i ≡ p
       → ((q e : ℕ) → T (row_has rows q e) → serves m onward sets q e p ≡ false) → Passed c m onward sets rows from (i + 1)

@@ -4,8 +4,10 @@ use Rattle.std.specs.Int.Bits.{bit_and}
 use Rattle.bits.specs.Bits.{has}
 use Rattle.bits.specs.Rows.{row_has}
 use Rattle.certificate.specs.Certificate.{Pair, Certificate, pair_of}
+use Rattle.sheet_laws.specs.AtOffset.{certificate_at}
 use Rattle.meets.specs.Meets.{all_hold, Surveyed}
 use Rattle.looks.specs.declared.Scope.{Scope}
+use Rattle.looks.specs.declared.Search.{Search}
 
 -- a set lies within the stepped set where it lies within the followers `onward`, and each of its places holds the event e
 abbrev pub serving : ℕ → ℕ → List ℕ → ℕ → ℕ → Bool
@@ -20,6 +22,14 @@ pub record Searched (c : Certificate) (x : Scope) (rsets rows : List ℕ) : Type
   pub count_is : x.count ≡ length c
   pub few_right : x.m ≤ 64
   pub kept_is : Surveyed c x.m rsets rows
+
+-- the certificate that a search goes through
+abbrev pub certificate_of : Search → Certificate
+certificate_of x = certificate_at x.pairs.now 0
+
+-- a search is made ready
+abbrev pub IsReady : Search → Type 0
+IsReady x = Searched (certificate_of x) x.scope x.sets.now x.rows.now
 
 -- place q misses the event e: it is one of the places `missers`, and its row has e. Rows of other places say nothing.
 abbrev pub misses : ℕ → List ℕ → ℕ → ℕ → Bool

@@ -7,9 +7,9 @@ ghost use Rattle.bits.specs.Bits.{has};
 ghost use Rattle.certificate.specs.Certificate.{pair_of};
 ghost use Rattle.sheet_laws.specs.AtOffset.{certificate_at};
 ghost use Rattle.meets.specs.Meets.{table_rows, Surveyed};
-ghost use Rattle.looks.specs.Looks.{Searched, Passed, Takes, Left};
+ghost use Rattle.looks.specs.Looks.{certificate_of, IsReady, Passed, Takes, Left};
 
-use bits::{bit, both, chosen, listed, without};
+use bits::{bit, chosen, listed, without};
 use meets::{ROWS, events_of};
 use pairs::known_pair;
 
@@ -24,7 +24,17 @@ pub struct Scope {
     pub alive: u64,
 }
 
-// What a look at a pair leaves: the places that miss an event, and whether the pair served one.
+// What a search goes by, the same for each look: the certificate's part of the sheet, its scope, the sets of the right side's places, and the rows that
+// are kept of it.
+#[derive(Clone, Copy)]
+pub struct Search<'a> {
+    pub pairs: &'a [u8],
+    pub scope: Scope,
+    pub sets: &'a [u64; 64],
+    pub rows: &'a [u64; ROWS],
+}
+
+// What a look at a pair leaves: the places that miss an event, and whether the pair served one. No Option: the places are told in both cases.
 #[derive(Clone, Copy)]
 pub struct Looked {
     pub missers: u64,
@@ -52,96 +62,83 @@ pub fn next_within(pairs: &[u8], from: usize, to: usize, onward: u64) -> usize
     ensures passed { (result ≤ to) × ((m : ℕ) (sets rows : List ℕ) → Passed (certificate_at pairs.now 0) m onward sets rows from result) }
     ensures within { result < to → bit_and (pair_of (certificate_at pairs.now 0) result).set onward ≡ (pair_of (certificate_at pairs.now 0) result).set }
 {
-    let mut i = from;
-    while i < to {
+    for i in from..to {
         let set = known_pair(pairs, i).set;
         if set & onward == set {
             return i;
         }
-        i += 1;
     }
+    // no Option: the search goes on from this number, one test for both
     to
 }
 
 // A pair from `from` on, below `to`, such that no pair before it serves an event that is missing; `to` where there is none. For a certificate of
 // more pairs than the table has rows.
 pub fn next_serving(
-    pairs: &[u8],
+    search: &Search,
     from: usize,
     to: usize,
     onward: u64,
-    m: usize,
-    sets: &[u64; 64],
-    rows: &[u64; ROWS],
     missing: &[u64; 64],
 ) -> usize
-    requires from_le_to { (from ≤ to) × (to ≤ length (certificate_at pairs.now 0)) × (table_rows < length (certificate_at pairs.now 0)) }
-    requires m_bound { (m ≤ 64) × (length missing.now ≡ 64) × Surveyed (certificate_at pairs.now 0) m sets.now rows.now }
-    ensures { (result ≤ to) × Passed (certificate_at pairs.now 0) m onward sets.now missing.now from result }
+    requires from_le_to { (from ≤ to) × (to ≤ length (certificate_of search.now)) × (table_rows < length (certificate_of search.now)) }
+    requires m_bound { (search.now.scope.m ≤ 64) × Surveyed (certificate_of search.now) search.now.scope.m search.now.sets.now search.now.rows.now }
+    ensures { (result ≤ to) × Passed (certificate_of search.now) search.now.scope.m onward search.now.sets.now missing.now from result }
 {
-    let mut i = from;
-    while i < to {
-        let pair = known_pair(pairs, i);
+    for i in from..to {
+        let pair = known_pair(search.pairs, i);
         let set = pair.set;
         let q = row_of(pair.place, set, onward);
-        if shares(missing[q], events_of(i, set, true, m, sets, rows)) {
+        if shares(
+            missing[q],
+            events_of(i, set, true, search.scope.m, search.sets, search.rows),
+        ) {
             return i;
         }
-        i += 1;
     }
     to
 }
 
 // The next pair to look at, from `from` on and below `to`. Of few pairs it is the first; of many those that serve nothing are passed over: at first
-// those whose set does not lie within the followers, and when no try is left those whose events are not missing.
+// those whose set does not lie within the followers, and when no try is left those whose events are not missing. `from`, `to` and `tries` change from
+// look to look, so no struct holds them.
 pub fn skip(
-    pairs: &[u8],
-    scope: Scope,
+    search: &Search,
     onward: u64,
     from: usize,
     to: usize,
     tries: usize,
-    sets: &[u64; 64],
-    rows: &[u64; ROWS],
     missing: &[u64; 64],
 ) -> usize
-    requires { Searched (certificate_at pairs.now 0) scope sets.now rows.now × (from ≤ to)
-        × (to ≤ scope.count) × (length missing.now ≡ 64) }
-    ensures { (result ≤ to) × Passed (certificate_at pairs.now 0) scope.m onward sets.now missing.now from result }
+    requires { IsReady search.now × (from ≤ to) × (to ≤ search.now.scope.count) }
+    ensures { (result ≤ to) × Passed (certificate_of search.now) search.now.scope.m onward search.now.sets.now missing.now from result }
 {
-    if scope.count <= ROWS {
+    if search.scope.count <= ROWS {
         return from;
     }
     if 0 < tries {
-        return next_within(pairs, from, to, onward);
+        return next_within(search.pairs, from, to, onward);
     }
-    next_serving(pairs, from, to, onward, scope.m, sets, rows, missing)
+    next_serving(search, from, to, onward, missing)
 }
 
 // A look at pair i: where its place misses an event and its set lies within the followers, the events that it serves are taken from the row of its
 // place.
-pub fn look(
-    pairs: &[u8],
-    scope: Scope,
-    onward: u64,
-    i: usize,
-    missers: u64,
-    sets: &[u64; 64],
-    rows: &[u64; ROWS],
-    missing: &mut [u64; 64],
-) -> Looked
-    requires { Searched (certificate_at pairs.now 0) scope sets.now rows.now × (i < scope.count) × (length missing.old ≡ 64) }
-    ensures left { Left scope.m onward sets.now (pair_of (certificate_at pairs.now 0) i) missers
+pub fn look(search: &Search, onward: u64, i: usize, missers: u64, missing: &mut [u64; 64]) -> Looked
+    requires { IsReady search.now × (i < search.now.scope.count) }
+    ensures left { Left search.now.scope.m onward search.now.sets.now (pair_of (certificate_of search.now) i) missers
         missing.old result.missers missing.new }
-    ensures served { T result.served → Takes onward missers (pair_of (certificate_at pairs.now 0) i) }
+    ensures served { T result.served → Takes onward missers (pair_of (certificate_of search.now) i) }
 {
-    let many = ROWS < scope.count;
-    let pair = known_pair(pairs, i);
+    let many = ROWS < search.scope.count;
+    let pair = known_pair(search.pairs, i);
     let q = pair.place;
     let set = pair.set;
-    if both(listed(missers, q), set & onward == set) {
+    // `&`, so that both parts are made: the innermost test of a load, and no branch between them
+    if listed(missers, q) & (set & onward == set) {
         let row = missing[q];
-        let rest = without(row, events_of(i, set, many, scope.m, sets, rows));
+        let events = events_of(i, set, many, search.scope.m, search.sets, search.rows);
+        let rest = without(row, events);
         missing[q] = rest;
         return Looked {
             missers: missers ^ chosen(rest == 0, bit(q)),

@@ -11,6 +11,7 @@ use lib.Seq.{take_all}
 use lib.Dec.{eqb}
 use borrow.Author.Tests.{ne_eqb}
 use lib.Bits.{bit_and}
+use Rattle.std.specs.Prelude.{Ok, Err}
 use Rattle.bits.specs.Bits.{has, any_below}
 use Rattle.bits.specs.Rows.{in_rows}
 use Rattle.bits.proofs.Tests.{any-cong}
@@ -21,7 +22,6 @@ use Rattle.condition.proofs.Steps.{step-mask, ends-mask}
 use Rattle.condition.proofs.Longest.{Along, live-mask, along-more, along-stops, along-ends, wrong-unaccepted}
 use Rattle.places.specs.declared.Side.{Side}
 use Rattle.places.specs.Tables.{Tables}
-use Rattle.matching.specs.declared.Matched.TheVariants.{Yes, No}
 use Rattle.matching.specs.Holding.{HoldingFirst}
 use Rattle.matching.specs.Matched.{matched}
 
@@ -42,17 +42,17 @@ module _ {r : Condition} {side : Side} {F S H w : List ℕ} (t : Tables r side F
       (λ q a b. h.first_is i q l a (omega arith) ∙ ap (λ (x : ℕ). has x (get_or w i 0)) (t.sets_is q a b))
 
 -- the answer, by yes or no and the longest beginning
-matched-no : (r : Condition) (w : List ℕ) (n : ℕ) → accepts r w ≡ false → longest r w ≡ n → No n ≡ matched r w
-matched-no r w n e f = ap No (sym f) ∙ sym (ap (λ (b : Bool). cond b Yes (No (longest r w))) e)
+matched-no : (r : Condition) (w : List ℕ) (n : ℕ) → accepts r w ≡ false → longest r w ≡ n → Err n ≡ matched r w
+matched-no r w n e f = ap Err (sym f) ∙ sym (ap (λ (b : Bool). cond b (Ok tt) (Err (longest r w))) e)
 
-matched-yes : (r : Condition) (w : List ℕ) → accepts r w ≡ true → Yes ≡ matched r w
-matched-yes r w e = sym (ap (λ (b : Bool). cond b Yes (No (longest r w))) e)
+matched-yes : (r : Condition) (w : List ℕ) → accepts r w ≡ true → Ok tt ≡ matched r w
+matched-yes r w e = sym (ap (λ (b : Bool). cond b (Ok tt) (Err (longest r w))) e)
 
 module _ {r : Condition} {w : List ℕ} {i s : ℕ} (a : Along r w i s) where
   -- x is the set stepped by the next event, and y that of the live places
   module _ (l : i < length w) (x y : ℕ) (x-is : x ≡ (step r s (get_or w i 0)).set) (y-is : (p : ℕ) → has y p ≡ live r p) where
     -- no word can be finished
-    pub matched-wrong : bit_and x y ≡ 0 → No i ≡ matched r w
+    pub matched-wrong : bit_and x y ≡ 0 → Err i ≡ matched r w
     matched-wrong none =
         let n = along-stops r a l x-is (λ k. rw (← live-mask r x y y-is, none) at k) in
         matched-no r w i (wrong-unaccepted r w (omega arith)) n
@@ -71,8 +71,8 @@ module _ {r : Condition} {w : List ℕ} {i s : ℕ} (a : Along r w i s) where
         ∙ ap (λ (x : ℕ). some_ends r x) (a.stepped ∙ ap (λ (x : List ℕ). step_all r 1 x) (take_all i w l))
         ∙ sym (accepts-is r w)
 
-    pub matched-unfinished : bit_and s side.ends ≡ 0 → No (length w) ≡ matched r w
+    pub matched-unfinished : bit_and s side.ends ≡ 0 → Err (length w) ≡ matched r w
     matched-unfinished none = matched-no r w (length w) (sym said ∙ ap (λ (x : ℕ). not (eqb x 0)) none) (along-ends r a l)
 
-    pub matched-whole : (bit_and s side.ends ≡ 0 → ⊥) → Yes ≡ matched r w
+    pub matched-whole : (bit_and s side.ends ≡ 0 → ⊥) → Ok tt ≡ matched r w
     matched-whole some = matched-yes r w (sym said ∙ ap not (ne_eqb (bit_and s side.ends) 0 some))

@@ -1,9 +1,7 @@
--- What matching a word tells.
-use Rattle.std.specs.Prelude.{cond}
+-- What matching a word tells: the condition holds it, or how far it begins some word of the condition.
+use Rattle.std.specs.Prelude.{ℕ, cond, Result, Ok, Err}
 use Rattle.condition.specs.Condition.{Condition, Word}
 use Rattle.condition.specs.Places.{accepts, longest}
-use Rattle.matching.specs.declared.Matched.{Matched}
-use Rattle.matching.specs.declared.Matched.TheVariants.{Yes, No}
 
-abbrev pub matched : Condition → Word → Matched
-matched r w = cond (accepts r w) Yes (No (longest r w))
+abbrev pub matched : Condition → Word → Result Unit ℕ
+matched r w = cond (accepts r w) (Ok tt) (Err (longest r w))

@@ -1,23 +1,22 @@
--- The events that each place of a set holds, group after group of six places; and what the rows tell of a pair.
+-- The events that each place of a set holds, group after group of six places.
 use mathlib.Core.Path.{◌≡◌, sym, ap, ap₂, ◌∙◌, subst}
-use mathlib.Core.Bool.{Bool, true, false, ◌&&◌}
+use mathlib.Core.Bool.{Bool, ◌&&◌}
 use mathlib.Core.List.{List}
-use Prim.Native.Nat.{ℕ, zero, suc, ◌+◌, ◌*◌, ◌-◌, ◌/◌, ◌%◌, ◌^◌, ◌≤◌, ◌<◌}
+use Prim.Native.Nat.{ℕ, zero, suc, ◌+◌, ◌*◌, ◌-◌, ◌/◌, ◌%◌, ◌^◌, ◌<◌}
 use native.Mathlib.Numerals.{add-one}
 use native.Mathlib.Omega.{arith}
-use lib.ListN.{length, get_or}
-use lib.Dec.{T, eqb, ltb}
+use lib.ListN.{get_or}
+use lib.Dec.{T, eqb}
 use lib.Bits.{bit_and, and_mask, and_high}
-use lib.Pow.{shr-shr, shl-shr, shl_exact}
-use borrow.Author.Tests.{lt-ltb, ltb-true, ltb-false}
+use lib.Pow.{shr-shr, shl-shr}
+use borrow.Author.Tests.{lt-ltb}
 use Rattle.bits.specs.Bits.{◌⇒◌, has, all_below}
 use Rattle.bits.specs.Rows.{row_has}
 use Rattle.bits.proofs.Tests.{and-out, if-out, if-in, T-ext, all_in, all-out}
 use Rattle.bits.proofs.Sets.{has-lt}
 use Rattle.bits.proofs.Masks.{has-and}
 use Rattle.bits.proofs.Bitwise.{has-below}
-use Rattle.certificate.specs.Certificate.{Certificate, pair_of}
-use Rattle.meets.specs.Meets.{all_hold, table_rows, group_set, PairRows, GroupRows, Surveyed}
+use Rattle.meets.specs.Meets.{all_hold, table_rows, group_set, GroupRows}
 
 -- The places of a set that are in one group ------------------------------------------------------------------------------
 
@@ -52,10 +51,6 @@ part_in t k h =
     let e : 6 * (k / 6) + k % 6 ≡ k = omega arith in
     let l : k % 6 < 6 = omega arith in
     subst (λ (x : ℕ). T (has (part t (k / 6)) x)) e (subst T (sym (part-has t (k / 6) (k % 6) l)) (subst (λ (x : ℕ). T (has t x)) (sym e) h))
-
--- the machine's shift makes the set of row j
-pub group-shifted : (j : ℕ) → j < table_rows → j % 64 * 2 ^ (6 * (j / 64)) % 2 ^ 64 ≡ group_set j
-group-shifted j l = shl_exact 6 (6 * (j / 64)) 64 (omega arith) (omega arith)
 
 module _ (m : ℕ) (sets : List ℕ) where
   -- each place of a set holds the event where those of each group do
@@ -120,27 +115,3 @@ module _ (m : ℕ) (sets : List ℕ) where
 
     pub gone-all : {events : ℕ} → Gone 6 events → t < 2 ^ 36 → (e : ℕ) → e < 64 → has events e ≡ all_hold m sets t e
     gone-all w s e l = w.are e l ∙ all-parts t e s
-
--- What the rows tell of a pair ------------------------------------------------------------------------------------------
-
-module _ (c : Certificate) (m : ℕ) (sets : List ℕ) {rows : List ℕ} where
-  -- each of the n pairs has its row
-  pub surveyed-few : {n : ℕ} → n ≡ length c → n ≤ table_rows → PairRows c m sets n rows → Surveyed c m sets rows
-  surveyed-few n-is l w =
-      record { long = w.long; few = λ i e _ k. w.row i e (omega (arith, n-is)) (omega (arith, n-is)); many = λ j e h. absurd (omega (arith, n-is)) }
-
-  -- the n pairs are more than the rows
-  pub surveyed-many : {n : ℕ} → n ≡ length c → table_rows < n → GroupRows m sets table_rows rows → Surveyed c m sets rows
-  surveyed-many n-is l w = record { long = w.long; few = λ i e h. absurd (omega (arith, n-is)); many = λ j e _ k. w.row j e k k }
-
-  module _ (k : Surveyed c m sets rows) {many : Bool} (b : many ≡ ltb table_rows (length c)) where
-    -- the rows are of groups where the pairs are many
-    pub kept-groups : many ≡ true → GroupRows m sets table_rows rows
-    kept-groups t = record { long = k.long; row = λ j e _ h. k.many j e (ltb-true _ _ (sym b ∙ t)) h }
-
-    -- otherwise each pair has a row
-    pub kept-few : many ≡ false → length c ≤ table_rows
-    kept-few t = ltb-false _ _ (sym b ∙ t)
-
-    pub kept_row : {i x : ℕ} → many ≡ false → i < length c → (pair_of c i).set ≡ x → (e : ℕ) → e < 64 → row_has rows i e ≡ all_hold m sets x e
-    kept_row {i} {x} t l y e h = k.few i e (kept-few t) l h ∙ ap (λ (z : ℕ). all_hold m sets z e) y

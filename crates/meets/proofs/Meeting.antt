@@ -3,19 +3,18 @@ use mathlib.Core.Path.{◌≡◌, refl, sym, ap, ◌∙◌, subst}
 use mathlib.Core.Bool.{Bool, true, false, ◌&&◌, and-true}
 use mathlib.Core.List.{List}
 use Prim.Native.Nat.{ℕ, ◌-◌, ◌^◌, ◌<◌}
-use native.Mathlib.Nat.{lt_of_le_of_lt}
 use lib.ListN.{get_or}
 use lib.Dec.{T, ltb, ltb→lt}
-use lib.Bits.{bit_and, and_le_l}
-use lib.Count.{count_trailing_zeros}
+use lib.Bits.{bit_and}
 use borrow.Author.Tests.{lt-ltb}
 use Rattle.bits.specs.Bits.{◌⇒◌, has}
-use Rattle.bits.specs.Rows.{row_has}
+use Rattle.std.specs.Prelude.{Some, None}
+use Rattle.bits.specs.Rows.{row_has, TakesLowest}
 use Rattle.bits.proofs.Tests.{and-out, all-cong}
 use Rattle.bits.proofs.Sets.{has-none}
 use Rattle.bits.proofs.Masks.{has-and}
 use Rattle.bits.proofs.Bitwise.{has-below}
-use Rattle.bits.proofs.Least.{positive, lowest, of-rest, all_none, all_split}
+use Rattle.bits.proofs.Least.{of-rest, all_none, all_split}
 use Rattle.meets.specs.Meets.{all_hold}
 
 and-next : (a b d : Bool) → (a && (b && d)) ≡ ((a && b) && d)
@@ -25,15 +24,13 @@ and-next false b d = refl
 module _ (sets : List ℕ) (m x : ℕ) where
   -- what each place of x below m holds are those of `events` that the places of the rest hold
   pub record Meeting (events rest : ℕ) : Type 0 where
-    pub small : rest < 2 ^ 64
     pub few : (k : ℕ) → T (has rest k) → k < m
     pub whole : (e : ℕ) → e < 64 → all_hold m sets x e ≡ (has events e && all_hold m sets rest e)
 
   -- all is left: the places of x below m, by the mask of the numbers below m
-  pub meeting-none : (mask : ℕ) → x < 2 ^ 64 → ((k : ℕ) → has mask k ≡ ltb k m) → Meeting (2 ^ 64 - 1) (bit_and x mask)
-  meeting-none mask h mask_is =
+  pub meeting-none : (mask : ℕ) → ((k : ℕ) → has mask k ≡ ltb k m) → Meeting (2 ^ 64 - 1) (bit_and x mask)
+  meeting-none mask mask_is =
       record {
-        small = lt_of_le_of_lt (and_le_l x mask) h;
         few = λ k t. ltb→lt k m (subst T (mask_is k) (and-out (has x k) (has mask k) (subst T (has-and x mask k) t)).1);
         whole = λ e l.
             all-cong m _ _ (λ k h. ap (λ (b : Bool). b ⇒ row_has sets k e) (sym (same k h)))
@@ -45,24 +42,22 @@ module _ (sets : List ℕ) (m x : ℕ) where
 
   module _ {events rest : ℕ} (g : Meeting events rest) where
     -- the lowest place of the rest
-    pub meeting-more : (rest ≡ 0 → ⊥) → Meeting (bit_and events (get_or sets (count_trailing_zeros 64 rest) 0)) (bit_and rest (rest - 1))
-    meeting-more z =
-        let low = lowest 64 rest (positive rest z) g.small in
-        let row = get_or sets (count_trailing_zeros 64 rest) 0 in
+    pub meeting-more : {p rest' : ℕ} → TakesLowest rest (Some p) rest' → Meeting (bit_and events (get_or sets p 0)) rest'
+    meeting-more {p} {rest'} (_, taken) =
+        let row = get_or sets p 0 in
         record {
-          small = lt_of_le_of_lt (and_le_l rest (rest - 1)) g.small;
-          few = λ k t. g.few k (of-rest low k t);
+          few = λ k t. g.few k (of-rest taken k t);
           whole = λ e l.
-              let less = all_hold m sets (bit_and rest (rest - 1)) e in
+              let less = all_hold m sets rest' e in
               g.whole e l
-              ∙ ap (λ (b : Bool). has events e && b) (all_split low m (λ k. row_has sets k e) (g.few (count_trailing_zeros 64 rest) low.here))
+              ∙ ap (λ (b : Bool). has events e && b) (all_split taken m (λ k. row_has sets k e) (g.few p taken.here))
               ∙ and-next (has events e) (has row e) less
               ∙ sym (ap (λ (b : Bool). b && less) (has-and events row e));
         }
 
     -- no place is left
-    pub meeting-all : rest ≡ 0 → (e : ℕ) → e < 64 → has events e ≡ all_hold m sets x e
-    meeting-all z e l =
+    pub meeting-all : {rest' : ℕ} → TakesLowest rest None rest' → (e : ℕ) → e < 64 → has events e ≡ all_hold m sets x e
+    meeting-all (z, _) e l =
         sym
         (g.whole e l
         ∙ ap (λ (b : Bool). has events e && b) (all_none m rest (λ k. row_has sets k e) (λ k _. ap (λ (y : ℕ). has y k) z ∙ has-none k))

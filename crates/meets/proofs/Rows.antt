@@ -24,9 +24,6 @@ row-set rows p x h q e = go (eqb q p) refl
     go false z = ap (λ (v : ℕ). has v e) (get_or-set_other rows p q x 0 (eqb-false q p z))
 
 module _ {f : ℕ → ℕ → Bool} where
-  pub written_none : {rows : List ℕ} → length rows ≡ table_rows → Written f 0 rows
-  written_none l = record { long = l; row = λ i e h k. absurd (omega arith) }
-
   module _ {count : ℕ} {rows : List ℕ} (w : Written f count rows) where
     -- a row more
     pub written-more : (events : ℕ) → count < table_rows → ((e : ℕ) → e < 64 → has events e ≡ f count e) → Written f (count + 1) (set rows count events)

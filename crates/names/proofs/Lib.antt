@@ -1,4 +1,1 @@
 pub mod Named
-pub mod Calls
-pub mod ChannelCalls
-pub mod Order

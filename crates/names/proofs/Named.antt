@@ -112,19 +112,19 @@ module _ {s : List ℕ} {at kind : ℕ} (w : Named s at kind) where
       declared-exist k e second both =
           both-are both first second (of-conditions events t (declared_behind k) (declares w early (declared_behind k) (ap declared_behind e)))
 
-      pub exist-9 : kind ≡ 9 → {b r : Bool} → b ≡ two_below s (at + 7) t.points → r ≡ (a && b) → r ≡ Exist events t
-      exist-9 e second both = declared-exist 9 e (second ∙ sym (two-last s events (count_of t) 2 (at + 7))) both
+      pub exist-9 : kind ≡ 9 → {b : Bool} → b ≡ two_below s (at + 7) t.points → (a && b) ≡ Exist events t
+      exist-9 e second = declared-exist 9 e (second ∙ sym (two-last s events (count_of t) 2 (at + 7))) refl
 
-      pub exist-15 : kind ≡ 15 → {b r : Bool} → b ≡ two_below s (at + 7) t.conditions → r ≡ (a && b) → r ≡ Exist events t
-      exist-15 e second both = declared-exist 15 e (second ∙ sym (two-last s events (count_of t) 1 (at + 7))) both
+      pub exist-15 : kind ≡ 15 → {b : Bool} → b ≡ two_below s (at + 7) t.conditions → (a && b) ≡ Exist events t
+      exist-15 e second = declared-exist 15 e (second ∙ sym (two-last s events (count_of t) 1 (at + 7))) refl
 
-      pub exist-16 : kind ≡ 16 → {b c d ab cd r : Bool} → b ≡ two_below s (at + 7) t.points → ab ≡ (a && b)
-          → c ≡ two_below s (at + 11) t.conditions → d ≡ ltb (short_at s (at + 15)) t.points → cd ≡ (c && d) → r ≡ (ab && cd) → r ≡ Exist events t
-      exist-16 e {b} {cd} body first-five failed exit last-three all =
+      pub exist-16 : kind ≡ 16 → {b c d : Bool} → b ≡ two_below s (at + 7) t.points
+          → c ≡ two_below s (at + 11) t.conditions → d ≡ ltb (short_at s (at + 15)) t.points → (((a && b) && c) && d) ≡ Exist events t
+      exist-16 e {b} {c} {d} body failed exit =
           let rest = two_then s events (count_of t) 1 (a_name points ∷ []) (at + 11) (at + 15) (omega arith) in
-          let failing = both-are last-three failed (exit ∙ sym (name-last s events (count_of t) 2 (at + 15))) rest in
+          let failing = both-are {r = c && d} refl failed (exit ∙ sym (name-last s events (count_of t) 2 (at + 15))) rest in
           let behind = two_then s events (count_of t) 2 (a_name conditions ∷ a_name conditions ∷ a_name points ∷ []) (at + 7) (at + 11) (omega arith) in
-          declared-exist 16 e (both-are refl body failing behind) (all ∙ ap (λ (ab : Bool). ab && cd) first-five ∙ sym (and_assoc a b cd))
+          declared-exist 16 e (both-are {r = b && (c && d)} refl body failing behind) (sym (and_assoc (a && b) c d) ∙ sym (and_assoc a b (c && d)))
 
       pub exist-three : (kind ≡ 9 → ⊥) → (kind ≡ 15 → ⊥) → (kind ≡ 16 → ⊥) → a ≡ Exist events t
       exist-three a9 a15 a16 =
@@ -148,24 +148,23 @@ module _ {s : List ℕ} {at kind : ℕ} (w : Named s at kind) where
         step-exist : (k : ℕ) → kind ≡ k → {b r : Bool} → b ≡ All s events (count_of t) (step_behind k) (at + 5) → r ≡ (a && b) → r ≡ Exist events t
         step-exist k e second both = both-are both first second (of-points events t (step_behind k) (goes w late goes_on (step_behind k) (ap step_behind e)))
 
-        pub exist-10 : kind ≡ 10 → {k : ℕ} {r : Bool} → k ≡ get_or s (at + 5) 0 → r ≡ (a && ltb k events) → r ≡ Exist events t
+        pub exist-10 : kind ≡ 10 → {k : ℕ} → k ≡ get_or s (at + 5) 0 → (a && ltb k events) ≡ Exist events t
         unfolding byte_at
-        exist-10 e second both = step-exist 10 e (ap (λ (k : ℕ). ltb k events) second ∙ sym (event-last s events (count_of t) (at + 5))) both
+        exist-10 e second = step-exist 10 e (ap (λ (k : ℕ). ltb k events) second ∙ sym (event-last s events (count_of t) (at + 5))) refl
 
-        pub exist-11 : kind ≡ 11 → {b r : Bool} → b ≡ ltb (short_at s (at + 5)) t.methods → r ≡ (a && b) → r ≡ Exist events t
-        exist-11 e second both = step-exist 11 e (second ∙ sym (name-last s events (count_of t) 3 (at + 5))) both
+        pub exist-11 : kind ≡ 11 → {b : Bool} → b ≡ ltb (short_at s (at + 5)) t.methods → (a && b) ≡ Exist events t
+        exist-11 e second = step-exist 11 e (second ∙ sym (name-last s events (count_of t) 3 (at + 5))) refl
 
-        pub exist-22 : kind ≡ 22 → {b r : Bool} → b ≡ ltb (short_at s (at + 5)) t.methods → r ≡ (a && b) → r ≡ Exist events t
-        exist-22 e second both = step-exist 22 e (second ∙ sym (name-then-channel s events (count_of t) 3 (at + 5))) both
+        pub exist-22 : kind ≡ 22 → {b : Bool} → b ≡ ltb (short_at s (at + 5)) t.methods → (a && b) ≡ Exist events t
+        exist-22 e second = step-exist 22 e (second ∙ sym (name-then-channel s events (count_of t) 3 (at + 5))) refl
 
-        pub exist-17 : kind ≡ 17 → {b c ab r : Bool} → b ≡ ltb (short_at s (at + 5)) t.points → ab ≡ (a && b)
-            → c ≡ ltb (short_at s (at + 7)) t.methods → r ≡ (ab && c) → r ≡ Exist events t
-        exist-17 e {b} {c} target first_three method all =
+        pub exist-17 : kind ≡ 17 → {b c : Bool} → b ≡ ltb (short_at s (at + 5)) t.points → c ≡ ltb (short_at s (at + 7)) t.methods → ((a && b) && c) ≡ Exist events t
+        exist-17 e {b} {c} target method =
             let seven : at + 5 + 2 ≡ at + 7 = omega arith in
             let last = name-last s events (count_of t) 3 (at + 7) in
             let behind = name-then s events (count_of t) 2 (a_name methods ∷ []) (at + 5)
             ∙ ap (λ (i : ℕ). ltb (short_at s (at + 5)) t.points && All s events (count_of t) (a_name methods ∷ []) i) seven in
-            step-exist 17 e (both-are refl target (method ∙ sym last) behind) (all ∙ ap (λ (ab : Bool). ab && c) first_three ∙ sym (and_assoc a b c))
+            step-exist 17 e (both-are {r = b && c} refl target (method ∙ sym last) behind) (sym (and_assoc a b c))
 
         pub exist-two : (kind ≡ 10 → ⊥) → (kind ≡ 11 → ⊥) → (kind ≡ 22 → ⊥) → (kind ≡ 17 → ⊥) → a ≡ Exist events t
         exist-two a10 a11 a22 a17 =

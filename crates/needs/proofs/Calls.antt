@@ -13,11 +13,10 @@ use Rattle.runs.specs.Rules.{Rule, ◌of◌says◌, ◌is_in◌, if_any, return_
 use Rattle.verdict.specs.Verdict.{certificates_needed}
 use Rattle.values.specs.declared.Step.{Step}
 use Rattle.values.specs.Values.{step_value}
-use Rattle.index.specs.declared.Entry.{Entry}
-use Rattle.index.specs.declared.Entry.TheVariants.{Unasked, At}
-use Rattle.index.specs.Indexed.{entry_value}
+use Rattle.std.specs.Prelude as code
+use Rattle.format.specs.Options.{option_of}
 use Rattle.index.proofs.Indexed.{called-in}
-use Rattle.rules.specs.declared.order.Counts.{Counts}
+use Rattle.index.specs.declared.Counts.{Counts}
 use Rattle.rules.specs.Order.{SheetIn}
 use Rattle.rules.proofs.Decoded.{named}
 use Rattle.needs.specs.declared.Needs.{Needs}
@@ -26,18 +25,18 @@ use Rattle.needs.proofs.Summed.{append-needed, needed-as}
 
 module _ (S : Sheet) (i : ℕ) (t : CallStep) where
   -- 26, where it is asked
-  entry-needed : (v : Entry) → Needed (if_any (entry_value v) (entry_rules S i t)) (one_each (how_many (entry_value v)))
+  entry-needed : (v : code.Option ℕ) → Needed (if_any (option_of v) (entry_rules S i t)) (one_each (how_many (option_of v)))
   unfolding certificates_needed total
-  entry-needed Unasked = record { rules_are = refl; certificates_are = refl }
-  entry-needed (At e) = record { rules_are = refl; certificates_are = refl }
+  entry-needed code.None = record { rules_are = refl; certificates_are = refl }
+  entry-needed (code.Some e) = record { rules_are = refl; certificates_are = refl }
 
   -- the rules xs, n with a certificate each, and then 26
-  pub with-entry : {xs : List Rule} {n k : ℕ} {v w : Entry} → v ≡ w → Needed xs (one_each n) → k ≡ n + how_many (entry_value w)
-      → Needed (xs ++ if_any (entry_value v) (entry_rules S i t)) (one_each k)
+  pub with-entry : {xs : List Rule} {n k : ℕ} {v w : code.Option ℕ} → v ≡ w → Needed xs (one_each n) → k ≡ n + how_many (option_of w)
+      → Needed (xs ++ if_any (option_of v) (entry_rules S i t)) (one_each k)
   with-entry {xs} {w = w} is h sum =
       let more = entry-needed w in
-      let last : List Rule = if_any (entry_value w) (entry_rules S i t) in
-      needed-as (ap (λ (v : Entry). xs ++ if_any (entry_value v) (entry_rules S i t)) is)
+      let last : List Rule = if_any (option_of w) (entry_rules S i t) in
+      needed-as (ap (λ (v : code.Option ℕ). xs ++ if_any (option_of v) (entry_rules S i t)) is)
       (record {
         rules_are = omega (arith, h.rules_are, more.rules_are, length-append xs last);
         certificates_are = omega (arith, h.certificates_are, more.certificates_are, append-needed xs last);
@@ -64,10 +63,10 @@ call-told S s methods is h = subst (λ (v : Step). CallIn S s methods (step_valu
 -- a step of an indexed sheet, as it was read
 module _ {S : Sheet} {s conditions points methods steps : List ℕ} {n : Counts} (x : SheetIn S s conditions points methods steps n) where
   call-in : (t : sheet.Step) → StepNamed (length S.points) (length S.methods) t → CallIn S s methods t
-  call-in (event_step p q a) named = tt
-  call-in (call_step t) named = called-in x.indexes t.method named.3
-  call-in (pass_step p q) named = tt
-  call-in (stop_step p) named = tt
+  call-in (event_step p q a) there = tt
+  call-in (call_step t) there = called-in x.indexes t.method there.3
+  call-in (pass_step p q) there = tt
+  call-in (stop_step p) there = tt
 
   pub step-called : {i : ℕ} → i < length S.steps → (v : Step) → step_value v ≡ step_at s (get_or steps i 0) → CallIn S s methods (step_value v)
   step-called l v read = call-in (step_value v) (named x.indexes l {v = v} refl read)

@@ -1,5 +1,5 @@
 -- The needs of the rules of all subjects, one subject after the other.
-use mathlib.Core.Path.{◌≡◌, refl, sym, ap, subst}
+use mathlib.Core.Path.{◌≡◌, refl, sym, ap, ◌∙◌, subst}
 use mathlib.Core.Bool.{Bool, true, false, cond}
 use mathlib.Core.Option.{none, some}
 use mathlib.Core.List.{List, [], ◌∷◌, ◌++◌}
@@ -12,9 +12,10 @@ use Rattle.runs.specs.Rules.{Claim, ◌is_in◌, holds_empty, Rule, is_among, me
 use Rattle.verdict.specs.Verdict.{needed, certificates_needed}
 use Rattle.claims.specs.Claims.{NthIs}
 use Rattle.values.specs.declared.Body.{Body}
-use Rattle.values.specs.Values.{body_value}
+use Rattle.values.specs.declared.Method.{Method}
+use Rattle.values.specs.Values.{body_value, method_value}
 use Rattle.method_claims.proofs.FailedExit.{failed_rules}
-use Rattle.rules.specs.declared.order.Counts.{Counts}
+use Rattle.index.specs.declared.Counts.{Counts}
 use Rattle.rules.specs.Order.{groups, most_rules, together, SheetIn}
 use Rattle.rules.proofs.Groups.{next-together, rules-few}
 use Rattle.rules.proofs.Walking.{few-subjects, subjects-many, a-subject}
@@ -39,6 +40,14 @@ few-needed (x ∷ xs) = omega (arith, one-needed x.claim, few-needed xs)
 pub needed-as : {xs ys : List Rule} {n : Needs} → xs ≡ ys → Needed ys n → Needed xs n
 needed-as {n = n} e h = subst (λ (xs : List Rule). Needed xs n) (sym e) h
 
+-- a method without body has no rules
+pub no-body : (S : Sheet) (starts : List ℕ) (m : ℕ) {v w : Method} → v ≡ w → (method_value w).body ≡ none
+    → Needed (method_rules S starts m (method_value v).body) (record { rules = 0; certificates = 0 })
+unfolding certificates_needed total
+no-body S starts m is bare =
+    needed-as (ap (λ (v : Method). method_rules S starts m (method_value v).body) is ∙ ap (method_rules S starts m) bare)
+    (record { rules_are = refl; certificates_are = refl })
+
 -- the needs of a method with body that has two outcomes: one rule more if runs start at it
 module _ (S : Sheet) (starts : List ℕ) (m : ℕ) (b : Body) (p : ℕ) where
   -- 3 to 6, then those of its failed exit
@@ -58,9 +67,6 @@ module _ (S : Sheet) (starts : List ℕ) (m : ℕ) (b : Body) (p : ℕ) where
 pub record Summed (xss : List (List Rule)) (n rules certificates : ℕ) : Type 0 where
   pub rules_left : rules + length (together (drop n xss)) ≡ length (together xss)
   pub certificates_left : certificates + certificates_needed (together (drop n xss)) ≡ certificates_needed (together xss)
-
-pub none-summed : (xss : List (List Rule)) → Summed xss 0 0 0
-none-summed xss = record { rules_left = omega arith; certificates_left = omega arith }
 
 module _ {xss : List (List Rule)} {n rules certificates : ℕ} (h : Summed xss n rules certificates) where
   pub one-summed : (xs : List Rule) → NthIs xss n xs → {needs : Needs} → Needed xs needs

@@ -6,13 +6,12 @@ ghost use Rattle.sheet.specs.Sheet.{Sheet};
 ghost use Rattle.runs.specs.Rules as runs;
 ghost use Rattle.runs.specs.Rules.{if_any, is_among, method_rules, entry_rules, step_rules, rules};
 ghost use Rattle.values.specs.Values.{method_value, step_value};
-ghost use Rattle.index.specs.Indexed.{entry_value};
+ghost use Rattle.format.specs.Options.{option_of};
 ghost use Rattle.claims.specs.Claims.{NthIs};
-ghost use Rattle.rules.specs.Order.{SheetIn, groups};
-ghost use Rattle.needs.specs.Needs.{Needed, one_each, CallIn};
+ghost use Rattle.rules.specs.Order.{groups};
+ghost use Rattle.needs.specs.Needs.{Needed, one_each, CallIn, SubjectsOf};
 
-use index::{Entry, entry_asked};
-use rules::order::Counts;
+use index::Index;
 use values::{Method, Step, method_at, step_at};
 
 // How many rules there are, and how many certificates they need.
@@ -28,11 +27,7 @@ fn method_needs(method: Method, first: bool) -> Needs
     ensures { (S : Sheet) (starts : List ℕ) (m : ℕ) → first ≡ is_among starts m → Needed (method_rules S starts m (method_value method).body) result }
 {
     match method {
-        Method::Primitive(_) => Needs {
-            rules: 0,
-            certificates: 0,
-        },
-        Method::TwoOutcomePrimitive(_, _) => Needs {
+        Method::Primitive(_) | Method::TwoOutcomePrimitive(_, _) => Needs {
             rules: 0,
             certificates: 0,
         },
@@ -48,14 +43,14 @@ fn method_needs(method: Method, first: bool) -> Needs
 }
 
 // A call with so many rules before 26, each with a certificate. 26 has one too, where it is asked.
-fn call_needs(others: usize, entry: Entry) -> Needs
+fn call_needs(others: usize, entry: Option<usize>) -> Needs
     requires { others ≤ 9 }
     ensures { (S : Sheet) (i : ℕ) (t : sheet.CallStep) (xs : List runs.Rule) → Needed xs (one_each others) →
-        Needed (xs ++ if_any (entry_value entry) (entry_rules S i t)) result }
+        Needed (xs ++ if_any (option_of entry) (entry_rules S i t)) result }
 {
     let all = match entry {
-        Entry::Unasked => others,
-        Entry::At(_) => others + 1,
+        None => others,
+        Some(_) => others + 1,
     };
     Needs {
         rules: all,
@@ -64,22 +59,20 @@ fn call_needs(others: usize, entry: Entry) -> Needs
 }
 
 // An event step has rules 7 to 9, a call 10 to 14, one with a failed target 18 to 21 too, a pass step 15 to 17, each with a certificate; a stop has 25.
-fn step_needs(s: &[u8], methods: &[u32; 64], step: Step) -> Needs
-    requires { (S : Sheet) × CallIn S s.now methods.now (step_value step) }
-    ensures { (S : Sheet) (i : ℕ) → CallIn S s.now methods.now (step_value step) → Needed (step_rules S i (step_value step)) result }
+fn step_needs(x: Index, step: Step) -> Needs
+    requires { (S : Sheet) × CallIn S x.sheet.now x.offsets.now.methods (step_value step) }
+    ensures { (S : Sheet) (i : ℕ) → CallIn S x.entry.sheet.now x.entry.offsets.now.methods (step_value step) →
+        Needed (step_rules S i (step_value step)) result }
 {
     match step {
-        Step::Event { .. } => Needs {
+        Step::Event { .. } | Step::Pass { .. } => Needs {
             rules: 3,
             certificates: 3,
         },
-        Step::Call(call) => call_needs(5, entry_asked(s, methods, call.method)),
-        Step::ChannelCall(call, _) => call_needs(5, entry_asked(s, methods, call.method)),
-        Step::TwoOutcomeCall(call, _) => call_needs(9, entry_asked(s, methods, call.method)),
-        Step::Pass { .. } => Needs {
-            rules: 3,
-            certificates: 3,
-        },
+        // no or-pattern: each of these two kinds has a must-fail edit of its own
+        Step::Call(call) => call_needs(5, x.entry_asked(call.method)),
+        Step::ChannelCall(call, _) => call_needs(5, x.entry_asked(call.method)),
+        Step::TwoOutcomeCall(call, _) => call_needs(9, x.entry_asked(call.method)),
         Step::Stop(_) => Needs {
             rules: 1,
             certificates: 0, // 25 has none
@@ -88,17 +81,10 @@ fn step_needs(s: &[u8], methods: &[u32; 64], step: Step) -> Needs
 }
 
 // The needs of a subject, by the number that it has in the order of testing. The first has rules 1 and 2, which have no certificate.
-fn needs_at(
-    s: &[u8],
-    methods: &[u32; 64],
-    steps: &[u32; 512],
-    counts: Counts,
-    number: usize,
-) -> Needs
-    requires by_index { (S : Sheet) × (conditions : List ℕ) × (points : List ℕ) × SheetIn S s.now conditions points methods.now steps.now counts }
-    requires number_bound { number ≤ counts.methods + counts.steps }
-    ensures { (S : Sheet) (conditions points : List ℕ) (xs : List runs.Rule) → SheetIn S s.now conditions points methods.now steps.now counts →
-        NthIs (groups S) number xs → Needed xs result }
+fn needs_at(x: Index, number: usize) -> Needs
+    requires subjects { (S : Sheet) × SubjectsOf S x }
+    requires number_bound { number ≤ x.counts.methods + x.counts.steps }
+    ensures { (S : Sheet) (xs : List runs.Rule) → SubjectsOf S x.entry → NthIs (groups S) number xs → Needed xs result }
 {
     if number == 0 {
         return Needs {
@@ -107,30 +93,28 @@ fn needs_at(
         };
     }
     let k = number - 1;
-    let listed = counts.methods;
+    let listed = x.counts.methods;
     if k < listed {
-        return method_needs(method_at(s, methods[k] as usize), k == 0);
+        let method = method_at(x.sheet, x.offsets.methods[k] as usize);
+        return method_needs(method, k == 0);
     }
-    step_needs(s, methods, step_at(s, steps[k - listed] as usize))
+    let step = step_at(x.sheet, x.offsets.steps[k - listed] as usize);
+    step_needs(x, step)
 }
 
 // The needs of all subjects.
-pub fn sheet_needs(s: &[u8], methods: &[u32; 64], steps: &[u32; 512], counts: Counts) -> Needs
-    requires { (S : Sheet) × (conditions : List ℕ) × (points : List ℕ) × SheetIn S s.now conditions points methods.now steps.now counts }
-    ensures { (S : Sheet) (conditions points : List ℕ) → SheetIn S s.now conditions points methods.now steps.now counts → Needed (rules S) result }
+pub fn sheet_needs(x: Index) -> Needs
+    requires { (S : Sheet) × SubjectsOf S x }
+    ensures { (S : Sheet) → SubjectsOf S x.entry → Needed (rules S) result }
 {
-    let last = counts.methods + counts.steps;
-    let mut rules: usize = 0;
-    let mut certificates: usize = 0;
-    let mut number: usize = 0;
-    while number <= last {
-        let needs = needs_at(s, methods, steps, counts, number);
-        rules += needs.rules;
-        certificates += needs.certificates;
-        number += 1;
+    let mut all = Needs {
+        rules: 0,
+        certificates: 0,
+    };
+    for number in 0..=x.counts.methods + x.counts.steps {
+        let needs = needs_at(x, number);
+        all.rules += needs.rules;
+        all.certificates += needs.certificates;
     }
-    Needs {
-        rules,
-        certificates,
-    }
+    all
 }

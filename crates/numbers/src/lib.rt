@@ -7,14 +7,14 @@ ghost use Rattle.answers.specs.Answers.{report_of, answer_of};
 ghost use Rattle.numbers.specs.Numbers.{report_numbers, answer_numbers, unknown_numbers};
 ghost use Rattle.numbers.specs.Stores.{Stores};
 
-use answers::{RuleNumbers, Verdict, WordAnswer, rule_numbers};
+use answers::{Verdict, WordAnswer, rule_numbers};
 use format::Refusal;
-use refusal_rows::{Place, refusal_number, refusal_place};
+use refusal_rows::{refusal_number, refusal_place};
 
 // How many numbers a door writes; harness/include/sheet_loader.h has the same constants for C.
 pub const ROOM: usize = 8;
 
-// The status, which a door returns and writes first. Where there is no room nothing is written, and the status is none of an answer's.
+// The status, which a door returns and writes first: plain numbers, since callers in C read them. Where there is no room nothing is written, and the status is none of an answer's.
 const NOT_WRITTEN: usize = 0;
 
 const ACCEPTED: usize = 1;
@@ -34,7 +34,7 @@ const UNKNOWN_INSTRUMENT: usize = 4;
 // Document 01's number of an unproved answer, and what stands for the place of a refusal that has none.
 const FAULT: usize = 11;
 
-const NO_PLACE: usize = 18446744073709551615;
+const NO_PLACE: usize = usize::MAX;
 
 // The numbers at the front of a slice that has room for them; returns the status.
 pub fn store(numbers: [usize; ROOM], out: &mut [usize]) -> usize
@@ -43,11 +43,7 @@ pub fn store(numbers: [usize; ROOM], out: &mut [usize]) -> usize
     if out.len() < ROOM {
         return NOT_WRITTEN;
     }
-    let mut i = 0;
-    while i < ROOM {
-        out[i] = numbers[i];
-        i += 1;
-    }
+    out[..ROOM].copy_from_slice(&numbers);
     numbers[0]
 }
 
@@ -56,10 +52,9 @@ pub fn refusal_numbers(x: Refusal) -> [usize; ROOM]
     ensures { result ≡ report_numbers (refused (number_of x) (place_of x)) }
 {
     let number = refusal_number(x);
-    let place = refusal_place(x);
-    match place {
-        Place::At(at) => [REFUSED, number, at, 0, 0, 0, 0, 0],
-        Place::Nowhere => [REFUSED, number, NO_PLACE, 0, 0, 0, 0, 0],
+    match refusal_place(x) {
+        Some(at) => [REFUSED, number, at, 0, 0, 0, 0, 0],
+        None => [REFUSED, number, NO_PLACE, 0, 0, 0, 0, 0],
     }
 }
 
@@ -70,12 +65,12 @@ pub fn verdict_numbers(v: Verdict) -> [usize; ROOM]
         Verdict::Accepted(n) => [ACCEPTED, 0, n, 0, 0, 0, 0, 0],
         Verdict::Refused(x) => refusal_numbers(x),
         Verdict::Unproved { rule, fault } => {
-            let RuleNumbers(number, subject) = rule_numbers(rule);
+            let numbers = rule_numbers(rule);
             [
                 UNPROVED,
                 FAULT,
-                number,
-                subject,
+                numbers.number,
+                numbers.subject,
                 fault.clause,
                 fault.pair,
                 fault.event,

@@ -17,7 +17,7 @@ use Rattle.sheet_laws.proofs.Fields.{event-value, channel-value, names-then, nam
 use Rattle.kinds.specs.Kinds.{body_kind}
 use Rattle.kinds.proofs.Table.{by_rows}
 use Rattle.format.specs.Named.{Named}
-use Rattle.format.proofs.Named.{kind-inside}
+use Rattle.format.proofs.Named.{kind-inside, two-inside}
 use Rattle.owners.specs.Owners.{owner_listed, owners_fit}
 
 no : {A : Type 0} → true ≡ false → A
@@ -42,10 +42,10 @@ two-agree a b = go (agree a b)
     go true = refl
     go false = refl
 
-three-agree : (a b c : Option ℕ) → all_agree (a ∷ b ∷ c ∷ []) ≡ (agree a b && (agree a c && agree b c))
+three-agree : (a b c : Option ℕ) → all_agree (a ∷ b ∷ c ∷ []) ≡ ((agree a b && agree a c) && agree b c)
 three-agree a b c = go (agree a b) (agree a c) (agree b c)
   where
-    go : (x y z : Bool) → ((x && (y && true)) && ((z && true) && true)) ≡ (x && (y && z))
+    go : (x y z : Bool) → ((x && (y && true)) && ((z && true) && true)) ≡ ((x && y) && z)
     go false y z = refl
     go true false z = refl
     go true true false = refl
@@ -87,21 +87,23 @@ body-9 kind has_body one = go (eqb kind 9) refl has_body
     go false is h = absurd (one (eqb-true kind 16 h))
 
 -- the entry and the exit of a method stand inside the sheet
-pub body-inside : {s : List ℕ} {at kind : ℕ} → Named s at kind → body_kind kind ≡ true → at + 11 ≤ length s
-body-inside {s} {at} {kind} w has_body = go (eqb kind 16) refl
+pub body_inside : {s : List ℕ} {at kind : ℕ} → Named s at kind → body_kind kind ≡ true → at + 11 ≤ length s
+body_inside {s} {at} {kind} w has_body = go (eqb kind 16) refl
   where
     go : (b : Bool) → eqb kind 16 ≡ b → at + 11 ≤ length s
     go true is = omega (arith, kind-inside w 16 (eqb-true kind 16 is))
     go false is = omega (arith, kind-inside w 9 (body-9 kind has_body (eqb-false kind 16 is)))
 
--- the code's test for a step that is no stop
-pub goes_on : (x k : ℕ) {b : Bool} → b ≡ (eqb x steps && not (eqb k 19)) → b ≡ true → (x ≡ steps) × (k ≡ 19 → ⊥)
-goes_on x k both e = go (eqb x steps) refl (eqb k 19) refl (sym both ∙ e)
-  where
-    go : (a : Bool) → eqb x steps ≡ a → (b : Bool) → eqb k 19 ≡ b → (a && not b) ≡ true → (x ≡ steps) × (k ≡ 19 → ⊥)
-    go true is false ne h = (eqb-true x steps is, eqb-false k 19 ne)
-    go true is true ne h = no (sym h)
-    go false is b ne h = no (sym h)
+-- .. and the failed exit, too
+pub failed_exit_inside : {s : List ℕ} {at kind : ℕ} → Named s at kind → kind ≡ 16 → at + 17 ≤ length s
+failed_exit_inside w e = omega (arith, kind-inside w 16 e)
+
+-- two points of a step that is no stop, and the third one of a call with a failed target
+pub targets_inside : {s : List ℕ} {at kind : ℕ} → Named s at kind → section_of kind ≡ steps → (kind ≡ 19 → ⊥) → at + 5 ≤ length s
+targets_inside {kind = kind} w late no_stop = let h : steps ≤ section_of kind = omega arith in two-inside w h no_stop
+
+pub failed_target_inside : {s : List ℕ} {at kind : ℕ} → Named s at kind → kind ≡ 17 → at + 7 ≤ length s
+failed_target_inside w e = omega (arith, kind-inside w 17 e)
 
 -- The owners that a record joins --------------------------------------------------------------------------------------
 
@@ -139,12 +141,12 @@ module _ {s : List ℕ} {at kind : ℕ} (w : Named s at kind) (number : ℕ) (po
 
   module _ (has_body : body_kind kind ≡ true) where
     -- the number is compared with the owners of the entry and of the exit, and with that of the failed exit
-    module _ {o p : Option ℕ} (entry_is : o ≡ named_owner 7) (exit_is : p ≡ named_owner 9) {a b ab : Bool}
-        (entry : a ≡ agree (some number) o) (exit : b ≡ agree (some number) p) (both : ab ≡ (a && b)) where
-      entry-and-exit : ab ≡ (agree (some number) (named_owner 7) && agree (some number) (named_owner 9))
-      entry-and-exit = both ∙ ap₂ ◌&&◌ (entry ∙ ap (agree (some number)) entry_is) (exit ∙ ap (agree (some number)) exit_is)
+    module _ {o p : Option ℕ} (entry_is : o ≡ named_owner 7) (exit_is : p ≡ named_owner 9) {a b : Bool}
+        (entry : a ≡ agree (some number) o) (exit : b ≡ agree (some number) p) where
+      entry-and-exit : (a && b) ≡ (agree (some number) (named_owner 7) && agree (some number) (named_owner 9))
+      entry-and-exit = ap₂ ◌&&◌ (entry ∙ ap (agree (some number)) entry_is) (exit ∙ ap (agree (some number)) exit_is)
 
-      pub owned : (kind ≡ 16 → ⊥) → ab ≡ owners_fit s at kind number points
+      pub owned : (kind ≡ 16 → ⊥) → (a && b) ≡ owners_fit s at kind number points
       owned one =
           entry-and-exit
           ∙ sym
@@ -152,10 +154,9 @@ module _ {s : List ℕ} {at kind : ℕ} (w : Named s at kind) (number : ℕ) (po
           ∙ number-agrees number (named_owner 7 ∷ named_owner 9 ∷ [])
           ∙ and_last (agree (some number) (named_owner 7)) (agree (some number) (named_owner 9)))
 
-      pub owned-16 : kind ≡ 16 → {q : Option ℕ} → q ≡ named_owner 15 → {c r : Bool} → c ≡ agree (some number) q → r ≡ (ab && c)
-          → r ≡ owners_fit s at kind number points
-      owned-16 two failed-is failed all =
-          all ∙ ap₂ ◌&&◌ entry-and-exit (failed ∙ ap (agree (some number)) failed-is)
+      pub owned-16 : kind ≡ 16 → {q : Option ℕ} → q ≡ named_owner 15 → {c : Bool} → c ≡ agree (some number) q → ((a && b) && c) ≡ owners_fit s at kind number points
+      owned-16 two failed-is failed =
+          ap₂ ◌&&◌ entry-and-exit (failed ∙ ap (agree (some number)) failed-is)
           ∙ sym
           (of-kind 16 two ∙ ap (Fit (kind_of 16)) (names-alone s at (1 ∷ 1 ∷ 1 ∷ 2 ∷ 2 ∷ 1 ∷ 1 ∷ 2 ∷ []))
           ∙ number-agrees number (named_owner 7 ∷ named_owner 9 ∷ named_owner 15 ∷ [])
@@ -192,17 +193,14 @@ module _ {s : List ℕ} {at kind : ℕ} (w : Named s at kind) (number : ℕ) (po
     pub joins-two : section_of kind ≡ steps → (kind ≡ 17 → ⊥) → (kind ≡ 19 → ⊥) → a ≡ owners_fit s at kind number points
     joins-two late no_call no_stop = from-and-to ∙ sym (of_row ∙ two-joined kind (eq-eqb (section_of kind) steps late) no_call no_stop)
 
-    pub joins-17 : kind ≡ 17 → {q : Option ℕ} → q ≡ named_owner 5 → {b c bc r : Bool} → b ≡ agree o q → c ≡ agree p q → bc ≡ (b && c) → r ≡ (a && bc)
-        → r ≡ owners_fit s at kind number points
-    joins-17 e failed-is from-failed to-failed both all =
-        all ∙ ap₂ ◌&&◌ from-and-to (both ∙ ap₂ ◌&&◌ (from-failed ∙ ap₂ agree from_is failed-is) (to-failed ∙ ap₂ agree to_is failed-is))
+    pub joins-17 : kind ≡ 17 → {q : Option ℕ} → q ≡ named_owner 5 → {b c : Bool} → b ≡ agree o q → c ≡ agree p q → ((a && b) && c) ≡ owners_fit s at kind number points
+    joins-17 e failed-is from-failed to-failed =
+        ap₂ ◌&&◌ (ap₂ ◌&&◌ from-and-to (from-failed ∙ ap₂ agree from_is failed-is)) (to-failed ∙ ap₂ agree to_is failed-is)
         ∙ sym
         (of-kind 17 e ∙ ap (Fit (kind_of 17)) (names-alone s at (2 ∷ 2 ∷ 2 ∷ 3 ∷ []))
         ∙ three-agree (named_owner 1) (named_owner 3) (named_owner 5))
 
   -- Other records -----------------------------------------------------------------------------------------------------
 
-  pub joins-none : body_kind kind ≡ false → {x : ℕ} {b : Bool} → x ≡ section_of kind → b ≡ (eqb x steps && not (eqb kind 19)) → b ≡ false
-      → true ≡ owners_fit s at kind number points
-  joins-none a is both e =
-      sym (of_row ∙ none-joined s (at + 1) number (owner_listed s points) kind a (ap (λ (x : ℕ). eqb x steps && not (eqb kind 19)) (sym is) ∙ sym both ∙ e))
+  pub none_fit : body_kind kind ≡ false → (eqb (section_of kind) steps && not (eqb kind 19)) ≡ false → owners_fit s at kind number points ≡ true
+  none_fit a e = of_row ∙ none-joined s (at + 1) number (owner_listed s points) kind a e

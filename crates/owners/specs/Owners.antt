@@ -5,13 +5,6 @@ use Rattle.sheet.specs.Kind.{kind_of}
 use Rattle.sheet.specs.Record.{record_at}
 use Rattle.sheet.specs.Reading.{all_agree, owners_joined, no_method}
 use Rattle.sheet_laws.specs.AtOffset.{owner_at}
-use Rattle.owners.specs.declared.Owner.{Owner}
-use Rattle.owners.specs.declared.Owner.TheVariants.{Of, Nobody}
-
--- the owner that a value of the code stands for
-abbrev pub owner_value : Owner → Option ℕ
-owner_value (Of m) = some m
-owner_value Nobody = none
 
 -- the owner of the point p of a table, if it has one; nobody past its end
 abbrev pub owner_listed : List ℕ → List ℕ → ℕ → Option ℕ

@@ -8,18 +8,16 @@ use lib.Dec.{T, eqb, ltb}
 use lib.ListN.{length, drop, length-drop}
 use lib.Seq.{get_or-drop}
 use borrow.Author.Tests.{lt-ltb, le-ltb, ltb-true, ltb-false}
+use Rattle.std.specs.Prelude.{Option, None, Some}
 use Rattle.certificate.specs.Certificate.{Pair, Certificate, pair_of}
 use Rattle.sheet.specs.Record.{Bytes, byte_at, next_at}
 use Rattle.sheet_laws.specs.AtOffset.{set_at, pair_at, has_pair, pairs_on, certificate_at}
 use Rattle.sheet_laws.proofs.Pairs.{pair-out, pair-on, pair-off}
 use Rattle.fields.proofs.Laws.{set_is}
 use Rattle.format.specs.Pairs.{pair_is, listed_at}
-use Rattle.format.proofs.Pairs.{listed-there, listed-pair}
-use Rattle.format.specs.declared.listing.Listed.{Listed}
+use Rattle.format.proofs.Pairs.{listed-there, listed-none}
 use Rattle.format.specs.declared.listing.Pair as format
 use Rattle.pairs.specs.Found.{pair_value, pair_found}
-use Rattle.pairs.specs.declared.Entry.TheVariants as entry
-use Rattle.pairs.specs.declared.Entry.TheVariants.{End}
 
 -- a set is below 2 ^ 32
 set-lt : (s : List ℕ) → Bytes s → (i : ℕ) → set_at s i < 2 ^ 32
@@ -187,38 +185,43 @@ last-inside s n e h = let w = pairs-within s in (omega arith, omega arith)
 pub read_is : (s : List ℕ) (i : ℕ) {p : format.Pair} → pair_is p ≡ pair_at s (6 * i) → i < length (certificate_at s 0) → pair_of (certificate_at s 0) i ≡ pair_is p
 read_is s i h l = pair_read s i l ∙ sym h
 
-module _ (s : List ℕ) (i : ℕ) {e : Listed} (h : e ≡ listed_at s (6 * i)) (l : i ≤ length (certificate_at s 0)) where
-  pub a-pair-is : e.there ≡ true → pair_found (certificate_at s 0) i ≡ entry.Pair e.pair
+module _ (s : List ℕ) (i : ℕ) (l : i ≤ length (certificate_at s 0)) where
+  a-pair-is : {p : format.Pair} → Some p ≡ listed_at s (6 * i) → Some p ≡ pair_found (certificate_at s 0) i
   unfolding pair_found
-  a-pair-is y =
-      let there = sym (listed-there s (6 * i) h) ∙ y in
-      let k = pair-there s i l there in
-      rw (lt-ltb i (length (certificate_at s 0)) k) (ap (λ (p : Pair). entry.Pair (pair_value p)) (read_is s i (listed-pair s (6 * i) h there) k))
+  a-pair-is {p} h =
+      let there = listed-there s (6 * i) h in
+      let k = pair-there s i l there.0 in
+      rw (lt-ltb i (length (certificate_at s 0)) k) (ap (λ (p : Pair). Some (pair_value p)) (sym (read_is s i there.1 k)))
 
-  pub the-end-is : e.there ≡ false → pair_found (certificate_at s 0) i ≡ End
+  the-end-is : None ≡ listed_at s (6 * i) → None ≡ pair_found (certificate_at s 0) i
   unfolding pair_found
-  the-end-is y = go (ltb i (length (certificate_at s 0))) refl
+  the-end-is h = go (ltb i (length (certificate_at s 0))) refl
     where
-      go : (b : Bool) → ltb i (length (certificate_at s 0)) ≡ b → cond b (entry.Pair (pair_value (pair_of (certificate_at s 0) i))) End ≡ End
+      go : (b : Bool) → ltb i (length (certificate_at s 0)) ≡ b → None ≡ cond b (Some (pair_value (pair_of (certificate_at s 0) i))) None
       go false _ = refl
       go true k =
           let there = pair-stands s i (ltb-true i (length (certificate_at s 0)) k) in
-          absurd (subst T (sym there ∙ sym (listed-there s (6 * i) h) ∙ y) tt)
+          absurd (subst T (sym there ∙ listed-none s (6 * i) h) tt)
+
+  -- up to the last pair one stands there, and then something else
+  pub found-is : {e : Option format.Pair} → e ≡ listed_at s (6 * i) → e ≡ pair_found (certificate_at s 0) i
+  found-is {e = Some p} h = a-pair-is h
+  found-is {e = None} h = the-end-is h
 
 -- and what that says of the certificate
 module _ (c : Certificate) (i : ℕ) where
-  pub found-pair : {p : format.Pair} → pair_found c i ≡ entry.Pair p → (i < length c) × (pair_of c i ≡ pair_is p)
+  pub found-pair : {p : format.Pair} → pair_found c i ≡ Some p → (i < length c) × (pair_of c i ≡ pair_is p)
   unfolding pair_found
   found-pair {p} h = go (ltb i (length c)) refl h
     where
-      go : (b : Bool) → ltb i (length c) ≡ b → cond b (entry.Pair (pair_value (pair_of c i))) End ≡ entry.Pair p → (i < length c) × (pair_of c i ≡ pair_is p)
+      go : (b : Bool) → ltb i (length c) ≡ b → cond b (Some (pair_value (pair_of c i))) None ≡ Some p → (i < length c) × (pair_of c i ≡ pair_is p)
       go true e h = (ltb-true i (length c) e, let y : pair_value (pair_of c i) ≡ p = cc in ap (λ (q : format.Pair). pair_is q) y)
       go false e h = let z : ◌≡◌ {A = ℕ} 0 1 = cc in absurd (omega arith)
 
-  pub found-end : i ≤ length c → pair_found c i ≡ End → i ≡ length c
+  pub found-end : i ≤ length c → pair_found c i ≡ None → i ≡ length c
   unfolding pair_found
   found-end l h = go (ltb i (length c)) refl h
     where
-      go : (b : Bool) → ltb i (length c) ≡ b → cond b (entry.Pair (pair_value (pair_of c i))) End ≡ End → i ≡ length c
+      go : (b : Bool) → ltb i (length c) ≡ b → cond b (Some (pair_value (pair_of c i))) None ≡ None → i ≡ length c
       go true e h = let z : ◌≡◌ {A = ℕ} 0 1 = cc in absurd (omega arith)
       go false e h = let k = ltb-false i (length c) e in omega arith

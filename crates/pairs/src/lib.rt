@@ -6,7 +6,7 @@ ghost use Rattle.sheet_laws.specs.AtOffset.{certificate_at};
 ghost use Rattle.format.specs.Pairs.{pair_is, listed_at};
 ghost use Rattle.pairs.specs.Found.{pair_found};
 
-use format::listing::{END_BYTES, Listed, PAIR_BYTES, Pair, listed_at, pair_at};
+use format::listing::{END_BYTES, PAIR_BYTES, Pair, listed_at, pair_at};
 
 // The certificate's part of the sheet: the bytes from its first pair on. Document 01 asks for this form.
 #[derive(Clone, Copy)]
@@ -14,46 +14,33 @@ pub struct Certificate<'a> {
     pub pairs: &'a [u8],
 }
 
-// A pair, or the end of the certificate.
-#[derive(Clone, Copy)]
-pub enum Entry {
-    Pair(Pair),
-    End,
-}
-
 // The part of the sheet from an offset on; it is empty where the offset lies past the end.
 pub fn part_from<'a>(s: &'a [u8], from: usize) -> &'a [u8]
     ensures { result.now ≡ drop from s.now }
 {
-    let n = s.len();
-    if from <= n { &s[from..] } else { &s[n..] }
+    &s[from.min(s.len())..]
 }
 
-// What stands at an offset of the certificate.
-pub fn listed_of<'a>(c: Certificate<'a>, at: usize) -> Listed
+// The pair at an offset of the certificate, if one stands there.
+pub fn listed_of<'a>(c: Certificate<'a>, at: usize) -> Option<Pair>
     ensures { result ≡ listed_at c.entry.pairs.now at }
 {
     listed_at(c.pairs, at)
 }
 
 // The same for callers that have the part and no struct.
-pub fn listed_in(pairs: &[u8], at: usize) -> Listed
+pub fn listed_in(pairs: &[u8], at: usize) -> Option<Pair>
     ensures { result ≡ listed_at pairs.now at }
 {
     listed_of(Certificate { pairs }, at)
 }
 
-// Pair number i of the certificate, or its end.
-pub fn pair_in(pairs: &[u8], i: usize) -> Entry
+// Pair number i of the certificate, or none at its end.
+pub fn pair_in(pairs: &[u8], i: usize) -> Option<Pair>
     requires { i ≤ length (certificate_at pairs.now 0) }
     ensures { result ≡ pair_found (certificate_at pairs.now 0) i }
 {
-    let found = listed_in(pairs, PAIR_BYTES * i);
-    if found.there {
-        let pair = found.pair;
-        return Entry::Pair(pair);
-    }
-    Entry::End
+    listed_in(pairs, PAIR_BYTES * i)
 }
 
 // Pair number i, which the certificate has: neither its kind nor the end need be looked at.

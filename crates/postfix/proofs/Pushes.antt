@@ -1,50 +1,38 @@
 -- Conditions that are pushed: a leaf, one with two channels exchanged, and a part of a side.
-use mathlib.Core.Path.{◌≡◌, subst, ◌∙◌}
-use mathlib.Core.Bool.{Bool}
+use mathlib.Core.Path.{◌≡◌, subst}
 use mathlib.Core.List.{List, ◌∷◌}
 use Prim.Native.Nat.{ℕ, ◌+◌, ◌-◌, ◌^◌, ◌<◌}
 use native.Mathlib.Omega.{arith}
 use Rattle.condition.specs.Condition.{Condition, leaf}
 use Rattle.format.specs.declared.symbols.Symbol.TheVariants.{Leaf}
 use Rattle.postfix.specs.declared.Part.{Part}
-use Rattle.postfix.specs.declared.Part.TheVariants.{Condition as ConditionAt, Event, Exchanged}
-use Rattle.items.specs.Stack.{Stacked, Roomy, Rows, a_leaf, Turned}
+use Rattle.postfix.specs.declared.Part.TheVariants.{Event, Exchanged}
+use Rattle.items.specs.declared.Stack.{Stack}
+use Rattle.items.specs.declared.Places.{Places}
+use Rattle.items.specs.Stack.{Stacked, a_leaf, Turned}
 use Rattle.items.specs.Channels.{SetsExchanged}
 use Rattle.items.proofs.Channels.{stacked-exchanged}
 use Rattle.postfix.specs.Parts.{StandsAt, ExchangedAt, PartIs, Pushed}
 
--- where there is no such condition, nothing need be pushed
-pub nothing-pushed : {Is : Condition → Type 0} {N : List Bool} {A L F S : List ℕ} {d m : ℕ} → Roomy N A L → Rows F S → ((r : Condition) → Is r → ⊥)
-    → Pushed Is N A L F S N A L F S d m m
-nothing-pushed room rows none = record { few = omega arith; room = room; rows = rows; pushed = λ r h rs t. absurd (none r h) }
+module _ {x : Stack} {p : Places} {x' : Stack} {p' : Places} {d m : ℕ} where
+  pub pushed-as : {Is Is' : Condition → Type 0} {m' : ℕ} → ((r : Condition) → Is' r → Is r) → Pushed Is x p x' p' d m m' → Pushed Is' x p x' p' d m m'
+  pushed-as f p = record { few = p.few; pushed = λ r h. p.pushed r (f r h) }
 
-module _ {N : List Bool} {A L F S : List ℕ} {N' : List Bool} {A' L' F' S' : List ℕ} {d m : ℕ} where
-  pub pushed-as : {Is Is' : Condition → Type 0} {m' : ℕ}
-      → ((r : Condition) → Is' r → Is r) → Pushed Is N A L F S N' A' L' F' S' d m m' → Pushed Is' N A L F S N' A' L' F' S' d m m'
-  pushed-as f p = record { few = p.few; room = p.room; rows = p.rows; pushed = λ r h. p.pushed r (f r h) }
-
-  pub leaf-pushed : {x : ℕ} → Turned (Leaf x) N A L F S N' A' L' F' S' d m → Pushed (λ r. r ≡ leaf x) N A L F S N' A' L' F' S' d m (m + 1)
-  leaf-pushed {x} t = record {
+  pub leaf-pushed : {t : ℕ} → Turned (Leaf t) x p x' p' d m → Pushed (λ r. r ≡ leaf t) x p x' p' d m (m + 1)
+  leaf-pushed {t} h = record {
     few = omega arith;
-    room = t.room;
-    rows = t.rows;
-    pushed = λ r e rs h.
+    pushed = λ r e rs k.
         let one : d + 1 - 0 ≡ d + 1 = omega arith in
-        rw e (subst (λ (k : ℕ). Stacked N' A' L' F' S' k (m + 1) (leaf x ∷ rs)) one (t.turned rs (leaf x ∷ rs) a_leaf h));
+        rw e (subst (λ (k : ℕ). Stacked x' p' k (m + 1) (leaf t ∷ rs)) one (h.turned rs (leaf t ∷ rs) a_leaf k));
   }
 
   -- the condition at an offset, and then the sets of its leaves exchanged
-  pub exchanged-pushed : {s S'' : List ℕ} {at c m' : ℕ} → Pushed (StandsAt s at) N A L F S N' A' L' F' S' d m m' → SetsExchanged m m' c S' S''
-      → Pushed (ExchangedAt s at c) N A L F S N' A' L' F' S'' d m m'
-  exchanged-pushed p x = record {
-    few = p.few;
-    room = p.room;
-    rows = record { rows_follow = p.rows.rows_follow; rows_sets = x.rows ∙ p.rows.rows_sets };
-    pushed = λ r h rs t. rw h.exchanged_is (stacked-exchanged x t (p.pushed h.plain h.stands rs t));
+  pub exchanged-pushed : {s : List ℕ} {p'' : Places} {at c m' : ℕ} → Pushed (StandsAt s at) x p x' p' d m m' → SetsExchanged m m' c p'.sets p''.sets
+      → p''.follow ≡ p'.follow → Pushed (ExchangedAt s at c) x p x' p'' d m m'
+  exchanged-pushed q y same = record {
+    few = q.few;
+    pushed = λ r h rs t. rw h.exchanged_is (stacked-exchanged y same t (q.pushed h.plain h.stands rs t));
   }
-
-pub condition-part : (s : List ℕ) {part : Part} {at : ℕ} → part ≡ ConditionAt at → (r : Condition) → PartIs s part r → StandsAt s at r
-condition-part s e r h = rw e at h
 
 pub event-part : (s : List ℕ) {part : Part} {e : ℕ} → part ≡ Event e → (r : Condition) → PartIs s part r → (r ≡ leaf (2 ^ e)) × (e < 64)
 event-part s e r h = rw e at h

@@ -12,7 +12,7 @@ use Rattle.sheet.specs.Record.{next_at}
 use Rattle.sheet_laws.specs.AtOffset.{symbol_at}
 use Rattle.sheet_laws.specs.AtOffset.{symbols_on, postfix}
 use Rattle.format.specs.declared.symbols.Symbol as value
-use Rattle.format.specs.Symbols.{value_of, items_taken, leaves_in}
+use Rattle.format.specs.Symbols.{symbol_of, items_taken, leaves_in}
 use Rattle.items.specs.Stack.{Makes, a_leaf, an_empty, a_join, an_either, a_star}
 
 -- What a symbol makes ----------------------------------------------------------------------------------------------------
@@ -43,7 +43,7 @@ made a_star = record { taken = omega arith; few = omega arith; height = omega ar
 pub data Reduces : List Symbol → List Condition → Condition → Type 0 where
   done : {r : Condition} → Reduces [] (r ∷ []) r
   next : {y : Symbol} {ys : List Symbol} {rs rs' : List Condition} {r : Condition}
-      → Makes (value_of (some y)) rs rs' → Reduces ys rs' r → Reduces (y ∷ ys) rs r
+      → Makes (symbol_of y) rs rs' → Reduces ys rs' r → Reduces (y ∷ ys) rs r
 
 -- the postfix form of q adds the item q
 reduces-form : (q : Condition) {ys : List Symbol} {rs : List Condition} {r : Condition} → Reduces ys (q ∷ rs) r → Reduces (postfix q ++ ys) rs r
@@ -69,7 +69,7 @@ reduces-items (next m h) = let l = reduces-items h in omega (arith, (made m).hei
 -- what the first symbol made, and what the others make of it
 pub record Next (y : Symbol) (ys : List Symbol) (rs : List Condition) (r : Condition) : Type 0 where
   pub items : List Condition
-  pub makes : Makes (value_of (some y)) rs items
+  pub makes : Makes (symbol_of y) rs items
   pub reduced : Reduces ys items r
 
 pub first_taken : {y : Symbol} {ys : List Symbol} {rs : List Condition} {r : Condition} → Reduces (y ∷ ys) rs r → Next y ys rs r

@@ -1,12 +1,14 @@
 -- The parts of a side, conditions in postfix order, events, and conditions with two channels exchanged, and what pushing one does to the stack.
-use Rattle.std.specs.Prelude.{◌≡◌, Bool, List, ◌∷◌, ℕ, ◌+◌, ◌≤◌, ◌<◌, length}
+use Rattle.std.specs.Prelude.{◌≡◌, List, ◌∷◌, ℕ, ◌+◌, ◌≤◌, ◌<◌, length}
 use Rattle.condition.specs.Condition.{Condition, event}
 use Rattle.condition.specs.Exchange.{exchange}
 use Rattle.condition.specs.Places.{leaves}
 use Rattle.sheet.specs.Model.{symbol_limit, leaf_limit}
 use Rattle.sheet.specs.Reading.{last_channel}
 use Rattle.sheet_laws.specs.AtOffset.{symbols_at, postfix}
-use Rattle.items.specs.Stack.{Stacked, Roomy, Rows}
+use Rattle.items.specs.declared.Stack.{Stack}
+use Rattle.items.specs.declared.Places.{Places}
+use Rattle.items.specs.Stack.{Stacked}
 use Rattle.postfix.specs.declared.Part.{Part}
 use Rattle.postfix.specs.declared.Part.TheVariants.{Condition as ConditionAt, Event, Exchanged}
 
@@ -30,8 +32,6 @@ PartIs s (Event e) r = (r ≡ event e) × (e < 64)
 PartIs s (Exchanged at c) r = ExchangedAt s at c r
 
 -- a condition r with Is r was pushed on d items with m leaves, and there are m' leaves then
-pub record Pushed (Is : Condition → Type 0) (N : List Bool) (A L F S : List ℕ) (N' : List Bool) (A' L' F' S' : List ℕ) (d m m' : ℕ) : Type 0 where
+pub record Pushed (Is : Condition → Type 0) (x : Stack) (p : Places) (x' : Stack) (p' : Places) (d m m' : ℕ) : Type 0 where
   pub few : m' ≤ m + 31
-  pub room : Roomy N' A' L'
-  pub rows : Rows F' S'
-  pub pushed : (r : Condition) → Is r → (rs : List Condition) → Stacked N A L F S d m rs → Stacked N' A' L' F' S' (d + 1) m' (r ∷ rs)
+  pub pushed : (r : Condition) → Is r → (rs : List Condition) → Stacked x p d m rs → Stacked x' p' (d + 1) m' (r ∷ rs)

@@ -1,14 +1,14 @@
 #![tactic(auto)]
 // The places of a condition from its symbols in postfix order, pushed on a stack of items one after the other.
-ghost use Rattle.std.specs.Prelude.{◌≡◌, true, ◌&&◌, ◌+◌, ◌-◌, ◌<◌, ◌≤◌, leb};
-ghost use Rattle.format.specs.Symbols.{is_symbol, items_taken, leaves_in};
-ghost use Rattle.items.specs.Stack.{Roomy, Rows, Turned};
+ghost use Rattle.std.specs.Prelude.{◌≡◌, ◌↔◌, IsTrue, ◌+◌, ◌-◌, ◌<◌, ◌≤◌};
+ghost use Rattle.format.specs.Symbols.{items_taken, leaves_in};
+ghost use Rattle.items.specs.Stack.{Turned};
 ghost use Rattle.postfix.specs.Parts.{StandsAt, PartIs, Pushed};
 
-use bits::{bit, both};
+use bits::bit;
 use format::symbols::{Symbol, symbol_at, symbol_bytes};
-use items::{either_top, exchange_sets, join_top, push_empty, push_leaf, star_top};
-use kinds::{EITHER, JOIN, STAR, items_taken};
+use items::{Places, Stack};
+use kinds::Kind;
 
 // A part of a side: the condition whose records stand at an offset, one event, or the condition at an offset with the events of channel 0 and of a
 // channel exchanged.
@@ -26,111 +26,99 @@ pub struct Height {
     pub leaves: usize,
 }
 
+// A condition has at most so many symbols.
+const SYMBOL_LIMIT: usize = 96;
+
 // A symbol, on a stack of a height. It returns the height then.
-pub fn push_symbol(
-    symbol: Symbol,
-    top: Height,
-    nullable: &mut [bool; 50],
-    first: &mut [u64; 50],
-    last: &mut [u64; 50],
-    follow: &mut [u64; 64],
-    sets: &mut [u64; 64],
-) -> Height
-    requires { (items_taken symbol ≤ top.depth) × (top.depth < 50) × (top.leaves + leaves_in symbol ≤ 62) × Roomy nullable.old first.old last.old × Rows follow.old sets.old }
-    ensures height { is_symbol symbol ≡ true → (result.depth ≡ top.depth + 1 - items_taken symbol) × (result.leaves ≡ top.leaves + leaves_in symbol) }
-    ensures turned { Turned symbol
-        nullable.old first.old last.old follow.old sets.old
-        nullable.new first.new last.new follow.new sets.new top.depth top.leaves }
+pub fn push_symbol(symbol: Symbol, top: Height, stack: &mut Stack, places: &mut Places) -> Height
+    requires { (items_taken symbol ≤ top.depth) × (top.depth < 50) × (top.leaves + leaves_in symbol ≤ 62) }
+    ensures depth { result.depth ≡ top.depth + 1 - items_taken symbol }
+    ensures leaves { result.leaves ≡ top.leaves + leaves_in symbol }
+    ensures turned { Turned symbol stack.old places.old stack.new places.new top.depth top.leaves }
 {
     let depth = top.depth;
     let leaves = top.leaves;
     match symbol {
-        Symbol::None => top,
         Symbol::Leaf(set) => {
-            push_leaf(set, depth, leaves, nullable, first, last, follow, sets);
+            stack.push_leaf(set, depth, leaves, places);
             Height {
                 depth: depth + 1,
                 leaves: leaves + 1,
             }
         }
         Symbol::Empty => {
-            push_empty(depth, nullable, first, last);
+            stack.push_empty(depth);
             Height {
                 depth: depth + 1,
                 leaves,
             }
         }
         Symbol::Join => {
-            join_top(depth, nullable, first, last, follow);
+            stack.join_top(depth, places);
             Height {
                 depth: depth - 1,
                 leaves,
             }
         }
         Symbol::Either => {
-            either_top(depth, nullable, first, last);
+            stack.either_top(depth);
             Height {
                 depth: depth - 1,
                 leaves,
             }
         }
         Symbol::Star => {
-            star_top(depth, nullable, first, last, follow);
+            stack.star_top(depth, places);
             top
         }
     }
 }
 
-// There is a symbol, the items that it takes stand above `floor` items, with its leaf there are at most `most`, and with its item at most 48: a
-// condition of 96 symbols never has more.
+// The items that a symbol takes stand above `floor` items, with its leaf there are at most `most`, and with its item at most 48: a condition of 96
+// symbols never has more.
 fn fits(symbol: Symbol, floor: usize, top: Height, most: usize) -> bool
     requires { (floor ≤ 1) × (floor ≤ top.depth) × (top.leaves ≤ most) × (most ≤ 62) × (top.depth ≤ floor + 48) }
-    ensures { result ≡ (is_symbol symbol && (leb (floor + items_taken symbol) top.depth && (leb (top.leaves + leaves_in symbol) most && leb (top.depth + 1) (floor + 48 + items_taken symbol)))) }
+    ensures { IsTrue result ↔ ((floor + items_taken symbol ≤ top.depth) × (top.leaves + leaves_in symbol ≤ most) × (top.depth < floor + 48 + items_taken symbol)) }
 {
     let depth = top.depth;
-    let leaves = top.leaves;
     let room = depth < floor + 48;
     match symbol {
-        Symbol::None => false,
-        Symbol::Leaf(_) => both(leaves + 1 <= most, room),
+        Symbol::Leaf(_) => top.leaves < most && room,
         Symbol::Empty => room,
-        Symbol::Join => floor + items_taken(JOIN) <= depth,
-        Symbol::Either => floor + items_taken(EITHER) <= depth,
-        Symbol::Star => floor + items_taken(STAR) <= depth,
+        Symbol::Join => floor + Kind::Join.items_taken() <= depth,
+        Symbol::Either => floor + Kind::Either.items_taken() <= depth,
+        Symbol::Star => floor + Kind::Star.items_taken() <= depth,
     }
 }
 
-// The condition whose records start at `from`, on `floor` items with `base` leaves. It returns how many leaves there are then.
+// The condition whose records start at `from`, on `floor` items with `base` leaves. It returns how many leaves there are then. The two numbers are where a
+// part starts, and a `Height` is where a symbol stands, so that they stay apart.
 pub fn push_condition(
     s: &[u8],
     from: usize,
     floor: usize,
     base: usize,
-    nullable: &mut [bool; 50],
-    first: &mut [u64; 50],
-    last: &mut [u64; 50],
-    follow: &mut [u64; 64],
-    sets: &mut [u64; 64],
+    stack: &mut Stack,
+    places: &mut Places,
 ) -> usize
-    requires { (floor ≤ 1) × (base ≤ 31) × Roomy nullable.old first.old last.old × Rows follow.old sets.old }
-    ensures { Pushed (StandsAt s.now from)
-        nullable.old first.old last.old follow.old sets.old
-        nullable.new first.new last.new follow.new sets.new floor base result }
+    requires { (floor ≤ 1) × (base ≤ 31) }
+    ensures { Pushed (StandsAt s.now from) stack.old places.old stack.new places.new floor base result }
 {
     let mut at = from;
     let mut top = Height {
         depth: floor,
         leaves: base,
     };
-    let mut n: usize = 0;
-    while n < 96 {
-        let symbol = symbol_at(s, at);
+    // a loop, and no chain: each symbol stands where the one before it ends, and three things are carried along
+    for _ in 0..SYMBOL_LIMIT {
+        let Some(symbol) = symbol_at(s, at) else {
+            return top.leaves;
+        };
         if !fits(symbol, floor, top, base + 31) {
             return top.leaves;
         }
-        n += 1;
         at += symbol_bytes(s, at);
-        top = push_symbol(symbol, top, nullable, first, last, follow, sets);
+        top = push_symbol(symbol, top, stack, places);
     }
     top.leaves
 }
@@ -141,35 +129,27 @@ pub fn push_part(
     part: Part,
     depth: usize,
     leaves: usize,
-    nullable: &mut [bool; 50],
-    first: &mut [u64; 50],
-    last: &mut [u64; 50],
-    follow: &mut [u64; 64],
-    sets: &mut [u64; 64],
+    stack: &mut Stack,
+    places: &mut Places,
 ) -> usize
-    requires { (depth ≤ 1) × (leaves ≤ 31) × Roomy nullable.old first.old last.old × Rows follow.old sets.old }
-    ensures { Pushed (PartIs s.now part)
-        nullable.old first.old last.old follow.old sets.old
-        nullable.new first.new last.new follow.new sets.new depth leaves result }
+    requires { (depth ≤ 1) × (leaves ≤ 31) }
+    ensures { Pushed (PartIs s.now part) stack.old places.old stack.new places.new depth leaves result }
 {
     match part {
-        Part::Condition(at) => {
-            push_condition(s, at, depth, leaves, nullable, first, last, follow, sets)
-        }
+        Part::Condition(at) => push_condition(s, at, depth, leaves, stack, places),
         Part::Event(e) => {
             if 64 <= e {
                 return leaves;
             }
-            push_leaf(bit(e), depth, leaves, nullable, first, last, follow, sets);
+            stack.push_leaf(bit(e), depth, leaves, places);
             leaves + 1
         }
         Part::Exchanged { at, channel } => {
             if 3 < channel {
                 return leaves;
             }
-            let from = at as usize;
-            let n = push_condition(s, from, depth, leaves, nullable, first, last, follow, sets);
-            exchange_sets(leaves, n, channel as usize, sets);
+            let n = push_condition(s, at as usize, depth, leaves, stack, places);
+            places.exchange_sets(leaves, n, channel as usize);
             n
         }
     }

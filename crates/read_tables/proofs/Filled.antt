@@ -16,6 +16,7 @@ use Rattle.sections.specs.declared.Contents.{Contents}
 use Rattle.sections.specs.Sections.{overwritten}
 use Rattle.sections.proofs.Overwritten.{overwritten-length, overwritten-holds}
 use Rattle.reader.specs.Contract.{last_state, ReadWhole, TablesFilled}
+use Rattle.offsets.specs.declared.Offsets.{Offsets}
 use Rattle.index.specs.Indexed.{ConditionsIn, Indexes}
 use Rattle.index.proofs.Read.{HoldsOffsets, read-conditions, read-indexes}
 
@@ -55,16 +56,16 @@ module _ {M : Model} {s : List ℕ} {c : Contents} (t : ReadWhole M s c) where
 
   -- The tables, which have room for what the limits allow -------------------------------------------------------------------
 
-  module _ {cs cs' ps ps' ms ms' ts ts' : List ℕ} (w : TablesFilled cs cs' ps ps' ms ms' ts ts' (last_state M s).own) (l : length cs ≡ 256) where
-    conditions-held : HoldsOffsets (offsets conditions) cs'
-    conditions-held = held (offsets conditions) cs _ (omega (arith, there.conditions_counted, there.few_conditions)) w.conditions
+  module _ {os os' : Offsets} {ps ps' : List ℕ} (w : TablesFilled os os' ps ps' (last_state M s).own) (l : length os.conditions ≡ 256) where
+    conditions-held : HoldsOffsets (offsets conditions) os'.conditions
+    conditions-held = held (offsets conditions) os.conditions _ (omega (arith, there.conditions_counted, there.few_conditions)) w.conditions
 
-    pub conditions-in : ConditionsIn S s cs'
+    pub conditions-in : ConditionsIn S s os'.conditions
     conditions-in = read-conditions M s _ t.result conditions-held
 
-    pub indexed : M.points ≤ length ps → length ms ≡ 64 → length ts ≡ 512 → M.events ≤ 64 → Indexes S s cs' ps' ms' ts'
+    pub indexed : M.points ≤ length ps → length os.methods ≡ 64 → length os.steps ≡ 512 → M.events ≤ 64 → Indexes S s os'.conditions ps' os'.methods os'.steps
     indexed a b d events =
         read-indexes M s _ t.result (omega (arith, ap length w.points, overwritten-length (offsets points) ps)) events conditions-held
         (held (offsets points) ps _ (omega (arith, there.points_counted, there.few_points)) w.points)
-        (held (offsets methods) ms _ (omega (arith, there.methods_counted, there.few_methods)) w.methods)
-        (held (offsets steps) ts _ (omega (arith, there.steps_counted, there.few_steps)) w.steps)
+        (held (offsets methods) os.methods _ (omega (arith, there.methods_counted, there.few_methods)) w.methods)
+        (held (offsets steps) os.steps _ (omega (arith, there.steps_counted, there.few_steps)) w.steps)

@@ -1,7 +1,6 @@
 #![tactic(auto)]
 // Reading a sheet: section after section, until the sheet is read whole or refused.
 ghost use Rattle.std.specs.Prelude.{◌≤◌, length};
-ghost use Rattle.sheet.specs.Model.{entry};
 ghost use Rattle.kinds.specs.Kinds.{last_kind};
 ghost use Rattle.instrument.specs.Model.{model_of, model_with};
 ghost use Rattle.sections.specs.Sections.{addressable};
@@ -10,44 +9,62 @@ ghost use Rattle.reader.specs.Contract.{Answered, Reads};
 use condition_section::read_conditions;
 use format::Refusal;
 use instrument::{Instrument, Limits, limits_of};
-use kinds::{METHODS, POINTS, STEPS};
-use sections::{Read, Section, read_alone, read_certificates};
+use kinds::Section;
+use offsets::Offsets;
+use sections::{Contents, read_alone, read_certificates};
 use tally::nothing_counted;
 
 // The sheet, by the limits of an instrument.
 fn read_with(
     s: &[u8],
     limits: Limits,
-    conditions: &mut [u32; 256],
+    offsets: &mut Offsets,
     points: &mut [u32],
-    methods: &mut [u32; 64],
-    steps: &mut [u32; 512],
-) -> Read
+) -> Result<Contents, Refusal>
     requires { (limits.bytes ≤ addressable) × (limits.points ≤ length points.old) × (limits.kinds ≤ last_kind) }
-    ensures { Reads (model_with limits) s.now result conditions.old conditions.new points.old points.new
-        methods.old methods.new steps.old steps.new }
+    ensures { Reads (model_with limits) s.now result offsets.old offsets.new points.old points.new }
 {
     if limits.bytes < s.len() {
-        return Read::Refused(Refusal::TooLong(limits.bytes));
+        return Err(Refusal::TooLong(limits.bytes));
     }
+    let Offsets {
+        conditions,
+        methods,
+        steps,
+    } = offsets;
     let first = read_conditions(s, limits, nothing_counted(), conditions);
     let none: [u32; 0] = [];
     let second = read_alone(
         s,
         limits,
-        POINTS,
+        Section::Points,
         limits.points,
         first,
         &none,
         &none,
         points,
     );
-    let third = read_alone(s, limits, METHODS, 64, second, points, &none, methods);
-    let fourth = read_alone(s, limits, STEPS, 512, third, points, methods, steps);
-    match fourth {
-        Section::Refused(x) => Read::Refused(x),
-        Section::Done { at, tally } => read_certificates(s, limits, at, tally, points),
-    }
+    let third = read_alone(
+        s,
+        limits,
+        Section::Methods,
+        64,
+        second,
+        points,
+        &none,
+        methods,
+    );
+    let reached = read_alone(
+        s,
+        limits,
+        Section::Steps,
+        512,
+        third,
+        points,
+        methods,
+        steps,
+    )?;
+    read_certificates(s, limits, reached, points)
 }
 
 // The sheet, as an instrument takes it: whole, or the first refusal of 1 to 9, 18 to 20 and 24 to 26. Each table ends with the offsets of what was read in
@@ -55,60 +72,32 @@ fn read_with(
 pub fn read_sheet(
     instrument: Instrument,
     s: &[u8],
-    conditions: &mut [u32; 256],
+    offsets: &mut Offsets,
     points: &mut [u32],
-    methods: &mut [u32; 64],
-    steps: &mut [u32; 512],
-) -> Read
+) -> Result<Contents, Refusal>
     requires { (model_of instrument).points ≤ length points.old }
-    ensures { Reads (model_of instrument) s.now result conditions.old conditions.new points.old points.new
-        methods.old methods.new steps.old steps.new }
+    ensures { Reads (model_of instrument) s.now result offsets.old offsets.new points.old points.new }
 {
-    let limits = limits_of(instrument);
-    read_with(s, limits, conditions, points, methods, steps)
+    read_with(s, limits_of(instrument), offsets, points)
 }
 
-// The answer of reading alone, with a table for the instrument's points.
-fn answer_with(instrument: Instrument, s: &[u8], points: &mut [u32]) -> Read
-    requires { (model_of instrument).points ≤ length points.old }
+// The answer of reading alone, with a table for N points. What N is between is asked for, here as in the loader and the word test, since a const parameter
+// has no type of its own.
+fn read_sized<const N: usize>(instrument: Instrument, s: &[u8]) -> Result<Contents, Refusal>
+    requires { ((model_of instrument).points ≤ N) × (N ≤ 512) }
     ensures { Answered (model_of instrument) s.now result }
 {
-    let mut conditions: [u32; 256] = [0; 256];
-    let mut methods: [u32; 64] = [0; 64];
-    let mut steps: [u32; 512] = [0; 512];
-    read_sheet(
-        instrument,
-        s,
-        &mut conditions,
-        points,
-        &mut methods,
-        &mut steps,
-    )
+    let mut offsets = Offsets::EMPTY;
+    let mut points = [0u32; N];
+    read_sheet(instrument, s, &mut offsets, &mut points)
 }
 
-// With a table for as many points as the largest instruments take.
-fn read_wide(instrument: Instrument, s: &[u8]) -> Read
-    ensures { Answered (model_of instrument) s.now result }
-{
-    let mut points: [u32; 512] = [0; 512];
-    answer_with(instrument, s, &mut points)
-}
-
-// On the entry instrument.
-fn read_entry(s: &[u8]) -> Read
-    ensures { Answered entry s.now result }
-{
-    let mut points: [u32; 64] = [0; 64];
-    answer_with(Instrument::Entry, s, &mut points)
-}
-
-// The answer of reading alone, on an instrument.
-pub fn read_on(instrument: Instrument, s: &[u8]) -> Read
+// The answer of reading alone, on an instrument. A match, since the table of points has another size on the entry instrument.
+pub fn read_on(instrument: Instrument, s: &[u8]) -> Result<Contents, Refusal>
     ensures { Answered (model_of instrument) s.now result }
 {
     match instrument {
-        Instrument::Large => read_wide(instrument, s),
-        Instrument::Entry => read_entry(s),
-        Instrument::Four => read_wide(instrument, s),
+        Instrument::Large | Instrument::Four => read_sized::<512>(instrument, s),
+        Instrument::Entry => read_sized::<64>(instrument, s),
     }
 }

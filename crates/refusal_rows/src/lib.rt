@@ -1,17 +1,10 @@
 #![tactic(auto)]
 // The documents' number and place of each refusal.
 ghost use Rattle.std.specs.Prelude.{◌≡◌};
+ghost use Rattle.format.specs.Options.{option_of};
 ghost use Rattle.format.specs.Refusal.{number_of, place_of};
-ghost use Rattle.refusal_rows.specs.Place.{place_in};
 
 use format::Refusal;
-
-// A refusal's place, where it has one.
-#[derive(Clone, Copy)]
-pub enum Place {
-    At(usize),
-    Nowhere,
-}
 
 pub fn refusal_number(x: Refusal) -> usize
     ensures { result ≡ number_of x }
@@ -39,28 +32,28 @@ pub fn refusal_number(x: Refusal) -> usize
     }
 }
 
-pub fn refusal_place(x: Refusal) -> Place
-    ensures { place_in result ≡ place_of x }
+// A refusal's place, where it has one.
+pub fn refusal_place(x: Refusal) -> Option<usize>
+    ensures { option_of result ≡ place_of x }
 {
     match x {
-        Refusal::TooLong(at) => Place::At(at),
-        Refusal::UnknownKind(at) => Place::At(at),
-        Refusal::BodyPastEnd(at) => Place::At(at),
-        Refusal::WrongSection(at) => Place::At(at),
-        Refusal::WrongItems(at) => Place::At(at),
-        Refusal::OverLimit(at) => Place::At(at),
-        Refusal::UnknownName(at) => Place::At(at),
-        Refusal::Unfinished(at) => Place::At(at),
-        Refusal::NoFirstBody(at) => Place::At(at),
-        Refusal::CertificateCount(at) => Place::At(at),
-        Refusal::WordTooLong => Place::Nowhere,
-        Refusal::StrayEvent(at) => Place::At(at),
-        Refusal::NoSuchCondition => Place::Nowhere,
-        Refusal::WrongOutcomes(at) => Place::At(at),
-        Refusal::EditionNotFirst(at) => Place::At(at),
-        Refusal::StopInOldSheet(at) => Place::At(at),
-        Refusal::WrongOwner(at) => Place::At(at),
-        Refusal::UnknownOwner(at) => Place::At(at),
-        Refusal::WrongChannel(at) => Place::At(at),
+        Refusal::TooLong(at)
+        | Refusal::UnknownKind(at)
+        | Refusal::BodyPastEnd(at)
+        | Refusal::WrongSection(at)
+        | Refusal::WrongItems(at)
+        | Refusal::OverLimit(at)
+        | Refusal::UnknownName(at)
+        | Refusal::Unfinished(at)
+        | Refusal::NoFirstBody(at)
+        | Refusal::CertificateCount(at)
+        | Refusal::StrayEvent(at)
+        | Refusal::WrongOutcomes(at)
+        | Refusal::EditionNotFirst(at)
+        | Refusal::StopInOldSheet(at)
+        | Refusal::WrongOwner(at)
+        | Refusal::UnknownOwner(at)
+        | Refusal::WrongChannel(at) => Some(at),
+        Refusal::WordTooLong | Refusal::NoSuchCondition => None,
     }
 }

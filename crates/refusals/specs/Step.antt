@@ -1,12 +1,11 @@
 -- One record of a condition, as the code takes it.
-use Rattle.std.specs.Prelude.{ℕ, ◌+◌, ◌-◌, ◌≤◌, Bool, cond, ◌&&◌, ltb, leb, eqb}
+use Rattle.std.specs.Prelude.{Result, Ok, Err, ℕ, ◌+◌, ◌-◌, ◌≤◌, Bool, cond, ◌&&◌, ltb, leb, eqb}
 use Rattle.sheet.specs.Model.{condition_limit, symbol_limit, leaf_limit}
 use Rattle.sheet.specs.Kind.{kind_of}
+use Rattle.format.specs.declared.Refusal.{Refusal}
 use Rattle.format.specs.declared.Refusal.TheVariants.{WrongItems, OverLimit}
 use Rattle.kinds.specs.Kinds.{counts_one, takes_items, leaf_kind}
 use Rattle.refusals.specs.declared.Begun.{Begun}
-use Rattle.refusals.specs.declared.Stepped.{Stepped}
-use Rattle.refusals.specs.declared.Stepped.TheVariants.{On, Refused}
 
 -- outside a condition
 abbrev pub nothing_begun : Begun
@@ -25,22 +24,22 @@ abbrev pub leaves_of_kind : ℕ → ℕ
 leaves_of_kind kind = cond (leaf_kind kind) 1 0
 
 -- a symbol: refusals 5 and 6, or one more symbol and its item
-abbrev pub symbol_step : Begun → ℕ → ℕ → Stepped
+abbrev pub symbol_step : Begun → ℕ → ℕ → Result Begun Refusal
 symbol_step b kind at =
-    cond (ltb b.items (items_of_kind kind)) (Refused (WrongItems at))
-    (cond (leb symbol_limit b.symbols) (Refused (OverLimit at))
-    (cond (leaf_kind kind && leb leaf_limit b.leaves) (Refused (OverLimit at))
-    (On (record { items = b.items - items_of_kind kind + 1; symbols = b.symbols + 1; leaves = b.leaves + leaves_of_kind kind }))))
+    cond (ltb b.items (items_of_kind kind)) (Err (WrongItems at))
+    (cond (leb symbol_limit b.symbols) (Err (OverLimit at))
+    (cond (leaf_kind kind && leb leaf_limit b.leaves) (Err (OverLimit at))
+    (Ok (record { items = b.items - items_of_kind kind + 1; symbols = b.symbols + 1; leaves = b.leaves + leaves_of_kind kind }))))
 
 -- the end of a condition, past n conditions: refusals 5 and 6, or nothing is begun
-abbrev pub end_step : Begun → ℕ → ℕ → Stepped
+abbrev pub end_step : Begun → ℕ → ℕ → Result Begun Refusal
 end_step b n at =
-    cond (eqb b.items 1) (cond (leb condition_limit n) (Refused (OverLimit at)) (On nothing_begun)) (Refused (WrongItems at))
+    cond (eqb b.items 1) (cond (leb condition_limit n) (Err (OverLimit at)) (Ok nothing_begun)) (Err (WrongItems at))
 
 -- of the records of a condition its end counts
 abbrev pub ends_one : ℕ → Bool
 ends_one kind = counts_one (kind_of kind).role
 
 -- a record of a condition
-abbrev pub condition_step : Begun → ℕ → ℕ → ℕ → Stepped
+abbrev pub condition_step : Begun → ℕ → ℕ → ℕ → Result Begun Refusal
 condition_step b kind n at = cond (ends_one kind) (end_step b n at) (symbol_step b kind at)

@@ -1,11 +1,11 @@
 #![tactic(auto)]
 // What a record of a condition does to the condition that is open: it adds to it, ends it, or is refused.
-ghost use Rattle.std.specs.Prelude.{◌≡◌, ◌≤◌};
+ghost use Rattle.std.specs.Prelude.{◌≡◌};
+ghost use Rattle.kinds.specs.Numbers.{kind_number};
 ghost use Rattle.refusals.specs.Step.{nothing_begun, leaves_of_kind, Modest, symbol_step, end_step, condition_step};
 
-use bits::both;
 use format::Refusal;
-use kinds::{counts, is_leaf, items_taken};
+use kinds::Kind;
 
 pub mod editions; // editions.rt: the mark of the new edition, and stops
 
@@ -15,13 +15,6 @@ pub struct Begun {
     pub items: usize,
     pub symbols: usize,
     pub leaves: usize,
-}
-
-// What is begun past a record, or the record's refusal.
-#[derive(Clone, Copy)]
-pub enum Stepped {
-    On(Begun),
-    Refused(Refusal),
 }
 
 pub fn nothing_begun() -> Begun
@@ -34,28 +27,28 @@ pub fn nothing_begun() -> Begun
     }
 }
 
-fn leaves_in(kind: u8) -> usize
-    ensures { result ≡ leaves_of_kind kind }
+fn leaves_in(kind: Kind) -> usize
+    ensures { result ≡ leaves_of_kind (kind_number kind) }
 {
-    if is_leaf(kind) { 1 } else { 0 }
+    if kind.is_leaf() { 1 } else { 0 }
 }
 
-// A symbol.
-fn symbol_step(b: Begun, kind: u8, at: usize) -> Stepped
+// A symbol: what is begun past it, or its refusal.
+fn symbol_step(b: Begun, kind: Kind, at: usize) -> Result<Begun, Refusal>
     requires { Modest b }
-    ensures { result ≡ symbol_step b kind at }
+    ensures { result ≡ symbol_step b (kind_number kind) at }
 {
-    let taken = items_taken(kind);
+    let taken = kind.items_taken();
     if b.items < taken {
-        return Stepped::Refused(Refusal::WrongItems(at));
+        return Err(Refusal::WrongItems(at));
     }
     if 96 <= b.symbols {
-        return Stepped::Refused(Refusal::OverLimit(at));
+        return Err(Refusal::OverLimit(at));
     }
-    if both(is_leaf(kind), 31 <= b.leaves) {
-        return Stepped::Refused(Refusal::OverLimit(at));
+    if kind.is_leaf() && 31 <= b.leaves {
+        return Err(Refusal::OverLimit(at));
     }
-    Stepped::On(Begun {
+    Ok(Begun {
         items: b.items - taken + 1,
         symbols: b.symbols + 1,
         leaves: b.leaves + leaves_in(kind),
@@ -63,24 +56,24 @@ fn symbol_step(b: Begun, kind: u8, at: usize) -> Stepped
 }
 
 // The end of a condition, where n conditions have ended before.
-fn end_step(b: Begun, n: usize, at: usize) -> Stepped
+fn end_step(b: Begun, n: usize, at: usize) -> Result<Begun, Refusal>
     ensures { result ≡ end_step b n at }
 {
     if b.items == 1 {
         if 256 <= n {
-            return Stepped::Refused(Refusal::OverLimit(at));
+            return Err(Refusal::OverLimit(at));
         }
-        return Stepped::On(nothing_begun());
+        return Ok(nothing_begun());
     }
-    Stepped::Refused(Refusal::WrongItems(at))
+    Err(Refusal::WrongItems(at))
 }
 
 // A record of a condition: a symbol or its end.
-pub fn condition_step(b: Begun, kind: u8, n: usize, at: usize) -> Stepped
-    requires { Modest b × (1 ≤ kind) }
-    ensures { result ≡ condition_step b kind n at }
+pub fn condition_step(b: Begun, kind: Kind, n: usize, at: usize) -> Result<Begun, Refusal>
+    requires { Modest b }
+    ensures { result ≡ condition_step b (kind_number kind) n at }
 {
-    if counts(kind) {
+    if kind.counts() {
         return end_step(b, n, at);
     }
     symbol_step(b, kind, at)

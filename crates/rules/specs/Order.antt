@@ -4,7 +4,8 @@ use mathlib.Core.List.{List, [], ◌∷◌, ◌++◌, map}
 use Rattle.sheet.specs.Sheet.{Method, Step, Sheet}
 use Rattle.runs.specs.Rules.{Rule, first_rules, method_rules, step_rules}
 use Rattle.index.specs.Indexed.{Indexes}
-use Rattle.rules.specs.declared.order.Counts.{Counts}
+use Rattle.index.specs.declared.Counts.{Counts}
+use Rattle.index.specs.declared.Index.{Index}
 
 module _ (S : Sheet) where
   -- from the number k on
@@ -41,3 +42,7 @@ pub record SheetIn (S : Sheet) (s conditions points methods steps : List ℕ) (n
   pub indexes : Indexes S s conditions points methods steps
   pub methods_are : n.methods ≡ length S.methods
   pub steps_are : n.steps ≡ length S.steps
+
+-- the index of the code is one of the sheet S
+abbrev pub IndexOf : Sheet → Index → Type 0
+IndexOf S x = SheetIn S x.sheet.now x.offsets.now.conditions x.points.now x.offsets.now.methods x.offsets.now.steps x.counts

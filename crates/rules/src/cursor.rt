@@ -1,85 +1,57 @@
 // From one claim of a sheet to the next, in the order of testing.
-ghost use Rattle.std.specs.Prelude.{List};
+ghost use Rattle.std.specs.Prelude.{List, IsSome, ◌<◌};
 ghost use Rattle.sheet.specs.Sheet.{Sheet};
 ghost use Rattle.runs.specs.Rules as runs;
 ghost use Rattle.runs.specs.Rules.{rules};
-ghost use Rattle.rules.specs.Order.{SheetIn};
-ghost use Rattle.rules.specs.Cursor.{LeftAt, NextIs, Nearer};
+ghost use Rattle.rules.specs.Order.{IndexOf};
+ghost use Rattle.rules.specs.Cursor.{LeftAt, NextIs, weight};
 
-use crate::order::{Counts, subject_at};
+use crate::order::subject_at;
 use crate::subjects::{Subject, claim_of};
-use claims::{Asked, Claim};
+use claims::Claim;
+use index::Index;
 
-// A subject with its number, and the number of the next of its claims.
+// What a number is of, a subject or a primitive, and the number of the next of its claims.
 #[derive(Clone, Copy)]
 pub struct Cursor {
     pub number: usize,
-    pub subject: Subject,
+    pub subject: Option<Subject>,
     pub k: usize,
 }
 
-// The next claim, with the cursor behind it, or the end.
-#[derive(Clone, Copy)]
-pub enum Next {
-    Claim { claim: Claim, after: Cursor },
-    End,
-}
-
-// Before the first claim.
-pub fn start(
-    s: &[u8],
-    conditions: &[u32; 256],
-    points: &[u32],
-    methods: &[u32; 64],
-    steps: &[u32; 512],
-    counts: Counts,
-) -> Cursor
-    requires { (S : Sheet) × SheetIn S s.now conditions.now points.now methods.now steps.now counts }
-    ensures { (S : Sheet) → SheetIn S s.now conditions.now points.now methods.now steps.now counts → LeftAt s.now S result (rules S) }
-{
-    Cursor {
-        number: 0,
-        subject: subject_at(s, conditions, points, methods, steps, counts, 0),
-        k: 0,
+impl Cursor {
+    // Before the first claim.
+    pub fn start(x: Index) -> Cursor
+        requires { (S : Sheet) × IndexOf S x }
+        ensures { (S : Sheet) → IndexOf S x.entry → LeftAt x.entry.sheet.now S result (rules S) }
+    {
+        Cursor {
+            number: 0,
+            subject: subject_at(x, 0),
+            k: 0,
+        }
     }
-}
 
-pub fn next_claim(
-    s: &[u8],
-    conditions: &[u32; 256],
-    points: &[u32],
-    methods: &[u32; 64],
-    steps: &[u32; 512],
-    counts: Counts,
-    cursor: Cursor,
-) -> Next
-    requires { (S : Sheet) × SheetIn S s.now conditions.now points.now methods.now steps.now counts × ((xs : List runs.Rule) × LeftAt s.now S cursor xs) }
-    ensures next { (S : Sheet) (xs : List runs.Rule) →
-        SheetIn S s.now conditions.now points.now methods.now steps.now counts →
-        LeftAt s.now S cursor xs → NextIs s.now S xs result }
-    ensures nearer { Nearer counts cursor result }
-{
-    let last = counts.methods + counts.steps;
-    let mut number = cursor.number;
-    let mut subject = cursor.subject;
-    let mut k = cursor.k;
-    loop {
-        let asked = claim_of(subject, k);
-        if let Asked::Claim(claim) = asked {
-            return Next::Claim {
-                claim,
-                after: Cursor {
-                    number,
-                    subject,
-                    k: k + 1,
-                },
-            };
+    // The next claim, or none behind the last one.
+    pub fn next_claim(&mut self, x: Index) -> Option<Claim>
+        requires { (S : Sheet) × IndexOf S x × ((xs : List runs.Rule) × LeftAt x.sheet.now S self.old xs) }
+        ensures next { (S : Sheet) (xs : List runs.Rule) → IndexOf S x.entry → LeftAt x.entry.sheet.now S self.old xs →
+            NextIs x.entry.sheet.now S xs self.new result }
+        ensures nearer { IsSome result → weight x.entry.counts self.new < weight x.entry.counts self.old }
+    {
+        let last = x.counts.methods + x.counts.steps;
+        // no `for`: the number goes on only where a subject has no further claim, and the cursor is left there for the next call
+        loop {
+            if let Some(claim) = claim_of(self.subject, self.k) {
+                self.k += 1;
+                return Some(claim);
+            }
+            if last <= self.number {
+                return None;
+            }
+            self.number += 1;
+            self.subject = subject_at(x, self.number);
+            self.k = 0;
         }
-        if last <= number {
-            return Next::End;
-        }
-        number += 1;
-        subject = subject_at(s, conditions, points, methods, steps, counts, number);
-        k = 0;
     }
 }

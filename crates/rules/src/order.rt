@@ -2,218 +2,134 @@
 ghost use Rattle.std.specs.Prelude.{◌≡◌, List, ℕ, ◌+◌, ◌≤◌, ◌<◌, length, get_or};
 ghost use Rattle.std.proofs.Math.Option.{Option, some};
 ghost use Rattle.sheet_laws.specs.AtOffset.{step_at};
-ghost use Rattle.sheet.specs.Sheet.{Outcome, call_step, Sheet, body};
+ghost use Rattle.sheet.specs.Sheet.{Outcome, failed, call_step, Sheet, body};
 ghost use Rattle.runs.specs.Rules as runs;
 ghost use Rattle.runs.specs.Rules.{is_among, method_rules, entry_asked, step_rules};
 ghost use Rattle.values.specs.Values.{body_value, call_value};
-ghost use Rattle.index.specs.Indexed.{Indexes, PointIn, FailedIn, OutcomeIs};
+ghost use Rattle.index.specs.Indexed.{OutcomeIs, IndexesAll, HasPoint, HasFailed};
 ghost use Rattle.index.specs.Ways.{WayIs, FailingIs, EnteredIs};
 ghost use Rattle.claims.specs.Claims.{NthIs, ChannelIs};
-ghost use Rattle.rules.specs.Subjects.{SubjectIs};
-ghost use Rattle.rules.specs.Order.{SheetIn, groups};
+ghost use Rattle.rules.specs.Subjects.{SubjectIs, ListedIs};
+ghost use Rattle.rules.specs.Order.{IndexOf, groups};
 
 use crate::subjects::Subject;
-use index::ways::{Entered, Failing, Way};
-use index::{Entry, OutcomeConditions, entry_asked, failed_of, method_of, point_of};
+use index::ways::Way;
+use index::{Index, OutcomeConditions};
+use method_claims::MethodBody;
+use step_claims::Call;
 use values::{Body, CallStep, Method, Step, method_at, step_at};
 
-// How many methods and steps a sheet has.
-#[derive(Clone, Copy)]
-pub struct Counts {
-    pub methods: usize,
-    pub steps: usize,
-}
-
 // A way of returning, at or to the point p, by what the method declares of its outcome.
-fn way_of(
-    s: &[u8],
-    conditions: &[u32; 256],
-    points: &[u32],
-    p: usize,
-    declared: OutcomeConditions,
-) -> Way
-    requires { (S : Sheet) × PointIn S s.now conditions.now points.now p }
-    ensures { (S : Sheet) (m : ℕ) (o : Outcome) → PointIn S s.now conditions.now points.now p →
-        OutcomeIs s.now S m o declared → WayIs s.now S m o p result }
+fn way_of(x: Index, p: usize, declared: OutcomeConditions) -> Way
+    requires { (S : Sheet) × HasPoint S x p }
+    ensures { (S : Sheet) (m : ℕ) (o : Outcome) → HasPoint S x.entry p → OutcomeIs x.entry.sheet.now S m o declared →
+        WayIs x.entry.sheet.now S m o p result }
 {
-    let point = point_of(s, conditions, points, p);
+    let point = x.point(p);
     Way { point, declared }
 }
 
 // The failed way of the method m, which has two outcomes, at or to the point p.
-fn failed_way(
-    s: &[u8],
-    conditions: &[u32; 256],
-    points: &[u32],
-    methods: &[u32; 64],
-    m: usize,
-    p: usize,
-) -> Failing
-    requires { (S : Sheet) × PointIn S s.now conditions.now points.now p × FailedIn S s.now conditions.now methods.now m }
-    ensures { (S : Sheet) → PointIn S s.now conditions.now points.now p →
-        FailedIn S s.now conditions.now methods.now m → FailingIs s.now S m (some p) result }
+fn failed_way(x: Index, m: usize, p: usize) -> Way
+    requires { (S : Sheet) × HasPoint S x p × HasFailed S x m }
+    ensures { (S : Sheet) → HasPoint S x.entry p → HasFailed S x.entry m → WayIs x.entry.sheet.now S m failed p result }
 {
-    let declared = failed_of(s, conditions, methods, m);
-    Failing::By(way_of(s, conditions, points, p, declared))
+    way_of(x, p, x.failed(m))
 }
 
 // The method m with its body and its failed way; whether runs start at it.
-fn body_subject(
-    s: &[u8],
-    conditions: &[u32; 256],
-    points: &[u32],
-    methods: &[u32; 64],
-    m: usize,
-    inner: Body,
-    failed: Failing,
-    first: bool,
-) -> Subject
-    requires { (S : Sheet) × (steps : List ℕ) × Indexes S s.now conditions.now points.now methods.now steps × (m < length S.methods) ×
-        (inner.entry < length S.points) × (inner.exit < length S.points) }
-    ensures { (S : Sheet) (starts steps : List ℕ) (e : Option ℕ) → first ≡ is_among starts m →
-        Indexes S s.now conditions.now points.now methods.now steps → m < length S.methods →
-        inner.entry < length S.points → inner.exit < length S.points → FailingIs s.now S m e failed →
-        SubjectIs s.now S result (method_rules S starts m (some (body_value inner e))) }
+fn body_subject(x: Index, m: usize, inner: Body, failed: Option<Way>, first: bool) -> Subject
+    requires { (S : Sheet) × IndexesAll S x × (m < length S.methods) × (inner.entry < length S.points) × (inner.exit < length S.points) }
+    ensures { (S : Sheet) (starts : List ℕ) (e : Option ℕ) → first ≡ is_among starts m → IndexesAll S x.entry → m < length S.methods →
+        inner.entry < length S.points → inner.exit < length S.points → FailingIs x.entry.sheet.now S m e failed →
+        SubjectIs x.entry.sheet.now S result (method_rules S starts m (some (body_value inner e))) }
 {
-    let declared = method_of(s, conditions, methods, m);
-    let exit = way_of(s, conditions, points, inner.exit, declared.normal);
-    Subject::Body {
+    let declared = x.method(m);
+    let exit = way_of(x, inner.exit, declared.normal);
+    Subject::Body(MethodBody {
         method: m,
         pre: declared.pre,
-        entry: point_of(s, conditions, points, inner.entry),
+        entry: x.point(inner.entry),
         exit,
         failed,
         first,
-    }
+    })
 }
 
 // The method m, with its body if it has one; whether runs start at it.
-fn method_subject(
-    s: &[u8],
-    conditions: &[u32; 256],
-    points: &[u32],
-    methods: &[u32; 64],
-    m: usize,
-    first: bool,
-) -> Subject
-    requires { (S : Sheet) × (steps : List ℕ) × Indexes S s.now conditions.now points.now methods.now steps × (m < length S.methods) }
-    ensures { (S : Sheet) (starts steps : List ℕ) → first ≡ is_among starts m →
-        Indexes S s.now conditions.now points.now methods.now steps →
-        m < length S.methods → SubjectIs s.now S result (method_rules S starts m (body S m)) }
+fn method_subject(x: Index, m: usize, first: bool) -> Option<Subject>
+    requires { (S : Sheet) × IndexesAll S x × (m < length S.methods) }
+    ensures { (S : Sheet) (starts : List ℕ) → first ≡ is_among starts m → IndexesAll S x.entry → m < length S.methods →
+        ListedIs x.entry.sheet.now S result (method_rules S starts m (body S m)) }
 {
-    let method = method_at(s, methods[m] as usize);
-    match method {
-        Method::Primitive(_) => Subject::None,
-        Method::TwoOutcomePrimitive(_, _) => Subject::None,
-        Method::WithBody(_, inner) => body_subject(
-            s,
-            conditions,
-            points,
-            methods,
-            m,
-            inner,
-            Failing::Never,
-            first,
-        ),
+    match method_at(x.sheet, x.offsets.methods[m] as usize) {
+        Method::Primitive(_) | Method::TwoOutcomePrimitive(_, _) => None,
+        Method::WithBody(_, inner) => Some(body_subject(x, m, inner, None, first)),
         Method::TwoOutcomeBody(_, inner, failed) => {
-            let way = failed_way(s, conditions, points, methods, m, failed.exit);
-            body_subject(s, conditions, points, methods, m, inner, way, first)
+            let way = failed_way(x, m, failed.exit);
+            Some(body_subject(x, m, inner, Some(way), first))
         }
     }
 }
 
-// What a call of the method m enters, as far as rule 26 asks about it.
-fn entered_by(
-    s: &[u8],
-    conditions: &[u32; 256],
-    points: &[u32],
-    methods: &[u32; 64],
-    m: usize,
-) -> Entered
-    requires { (S : Sheet) × (steps : List ℕ) × Indexes S s.now conditions.now points.now methods.now steps × (m < length S.methods) }
-    ensures { (S : Sheet) (steps : List ℕ) → Indexes S s.now conditions.now points.now methods.now steps →
-        m < length S.methods → EnteredIs s.now S (entry_asked S m) result }
+// What a call of the method m enters, as far as rule 26 asks about it: the due of the entry.
+fn entered_by(x: Index, m: usize) -> Option<u32>
+    requires { (S : Sheet) × IndexesAll S x × (m < length S.methods) }
+    ensures { (S : Sheet) → IndexesAll S x.entry → m < length S.methods → EnteredIs x.entry.sheet.now S (entry_asked S m) result }
 {
-    match entry_asked(s, methods, m) {
-        Entry::Unasked => Entered::Unasked,
-        Entry::At(e) => {
-            let entry = point_of(s, conditions, points, e);
-            Entered::Due(entry.due)
-        }
-    }
+    let e = x.entry_asked(m)?;
+    let entry = x.point(e);
+    Some(entry.due)
 }
 
-// The call step i with its channel, 0 where it names none, and its failed way.
-fn call_subject(
-    s: &[u8],
-    conditions: &[u32; 256],
-    points: &[u32],
-    methods: &[u32; 64],
-    i: usize,
-    call: CallStep,
-    channel: u32,
-    failed: Failing,
-) -> Subject
-    requires { (S : Sheet) × (steps : List ℕ) × Indexes S s.now conditions.now points.now methods.now steps × (call.method < length S.methods) ×
-        (call.from < length S.points) × (call.to < length S.points) }
-    ensures { (S : Sheet) (steps : List ℕ) (f c : Option ℕ) → Indexes S s.now conditions.now points.now methods.now steps →
+// The call step i with its channel, 0 where it names none (`on_channel` says why 0 serves), and its failed way.
+fn call_subject(x: Index, i: usize, call: CallStep, channel: u32, failed: Option<Way>) -> Subject
+    requires { (S : Sheet) × IndexesAll S x × (call.method < length S.methods) × (call.from < length S.points) × (call.to < length S.points) }
+    ensures { (S : Sheet) (f c : Option ℕ) → IndexesAll S x.entry →
         call.method < length S.methods → call.from < length S.points → call.to < length S.points →
-        FailingIs s.now S call.method f failed → ChannelIs c channel →
-        SubjectIs s.now S result (step_rules S i (call_step (call_value call f c))) }
+        FailingIs x.entry.sheet.now S call.method f failed → ChannelIs c channel →
+        SubjectIs x.entry.sheet.now S result (step_rules S i (call_step (call_value call f c))) }
 {
-    let declared = method_of(s, conditions, methods, call.method);
-    let to = way_of(s, conditions, points, call.to, declared.normal);
-    let entered = entered_by(s, conditions, points, methods, call.method);
-    Subject::Call {
+    let declared = x.method(call.method);
+    let to = way_of(x, call.to, declared.normal);
+    let entered = entered_by(x, call.method);
+    Subject::Call(Call {
         step: i,
         pre: declared.pre,
         channel,
-        from: point_of(s, conditions, points, call.from),
+        from: x.point(call.from),
         to,
         failed,
         entered,
-    }
+    })
 }
 
 // The step i, by its kind. What a call asks and promises is what its method declares.
-fn step_subject(
-    s: &[u8],
-    conditions: &[u32; 256],
-    points: &[u32],
-    methods: &[u32; 64],
-    steps: &[u32; 512],
-    i: usize,
-) -> Subject
-    requires { (S : Sheet) × Indexes S s.now conditions.now points.now methods.now steps.now × (i < length S.steps) }
-    ensures { (S : Sheet) → Indexes S s.now conditions.now points.now methods.now steps.now →
-        i < length S.steps → SubjectIs s.now S result (step_rules S i (step_at s.now (get_or steps.now i 0))) }
+fn step_subject(x: Index, i: usize) -> Subject
+    requires { (S : Sheet) × IndexesAll S x × (i < length S.steps) }
+    ensures { (S : Sheet) → IndexesAll S x.entry → i < length S.steps →
+        SubjectIs x.entry.sheet.now S result (step_rules S i (step_at x.entry.sheet.now (get_or x.entry.offsets.now.steps i 0))) }
 {
-    let step = step_at(s, steps[i] as usize);
-    match step {
+    match step_at(x.sheet, x.offsets.steps[i] as usize) {
         Step::Event { from, to, event } => Subject::Event {
             step: i,
-            from: point_of(s, conditions, points, from),
-            to: point_of(s, conditions, points, to),
+            from: x.point(from),
+            to: x.point(to),
             event,
         },
-        Step::Call(call) => {
-            call_subject(s, conditions, points, methods, i, call, 0, Failing::Never)
-        }
+        Step::Call(call) => call_subject(x, i, call, 0, None),
         Step::TwoOutcomeCall(call, to) => {
-            let way = failed_way(s, conditions, points, methods, call.method, to);
-            call_subject(s, conditions, points, methods, i, call, 0, way)
+            let way = failed_way(x, call.method, to);
+            call_subject(x, i, call, 0, Some(way))
         }
-        Step::ChannelCall(call, channel) => {
-            let c = channel as u32;
-            call_subject(s, conditions, points, methods, i, call, c, Failing::Never)
-        }
+        Step::ChannelCall(call, channel) => call_subject(x, i, call, u32::from(channel), None),
         Step::Pass { from, to } => Subject::Pass {
             step: i,
-            from: point_of(s, conditions, points, from),
-            to: point_of(s, conditions, points, to),
+            from: x.point(from),
+            to: x.point(to),
         },
         Step::Stop(from) => {
-            let point = point_of(s, conditions, points, from);
+            let point = x.point(from);
             Subject::Stop {
                 step: i,
                 due: point.due,
@@ -222,31 +138,22 @@ fn step_subject(
     }
 }
 
-// The subject of a number: first the method that runs start at, then the methods, then the steps.
-pub fn subject_at(
-    s: &[u8],
-    conditions: &[u32; 256],
-    points: &[u32],
-    methods: &[u32; 64],
-    steps: &[u32; 512],
-    counts: Counts,
-    number: usize,
-) -> Subject
-    requires sheet_in { (S : Sheet) × SheetIn S s.now conditions.now points.now methods.now steps.now counts }
-    requires number_bound { number ≤ counts.methods + counts.steps }
-    ensures { (S : Sheet) (xs : List runs.Rule) → SheetIn S s.now conditions.now points.now methods.now steps.now counts →
-        NthIs (groups S) number xs → SubjectIs s.now S result xs }
+// The subject of a number: first the method that runs start at, then the methods, then the steps. A primitive is none.
+pub fn subject_at(x: Index, number: usize) -> Option<Subject>
+    requires sheet_in { (S : Sheet) × IndexOf S x }
+    requires number_bound { number ≤ x.counts.methods + x.counts.steps }
+    ensures { (S : Sheet) (xs : List runs.Rule) → IndexOf S x.entry → NthIs (groups S) number xs → ListedIs x.entry.sheet.now S result xs }
 {
     if number == 0 {
-        return Subject::First {
+        return Some(Subject::First {
             method: 0,
-            declared: method_of(s, conditions, methods, 0),
-        };
+            declared: x.method(0),
+        });
     }
     let k = number - 1;
-    let listed = counts.methods;
+    let listed = x.counts.methods;
     if k < listed {
-        return method_subject(s, conditions, points, methods, k, k == 0);
+        return method_subject(x, k, k == 0);
     }
-    step_subject(s, conditions, points, methods, steps, k - listed)
+    Some(step_subject(x, k - listed))
 }

@@ -23,15 +23,12 @@ use Rattle.tally.specs.declared.Tally.{Tally}
 use Rattle.tally.specs.Tally.{count_of, tally_after}
 use Rattle.refusals.specs.Editions.{stop_fits}
 use Rattle.owners.specs.Owners.{owners_fit}
-use Rattle.names.specs.declared.judge.Judged.{Judged}
-use Rattle.names.specs.declared.judge.Judged.TheVariants.{Fits}
-use Rattle.names.specs.declared.judge.Judged.TheVariants as judged
 use Rattle.names.specs.Outcomes.{wrong_outcomes_at}
 use Rattle.names.specs.Channels.{wrong_channel_at}
 use Rattle.names.specs.Judge.{judged_at}
-use Rattle.sections.specs.declared.Section.{Section}
-use Rattle.sections.specs.declared.Section.TheVariants.{Done, Refused}
-use Rattle.sections.specs.Sections.{Counts, Between, Told, overwritten_from, Extended, Listed, Filled, NamedListed, Alone}
+use Rattle.std.specs.Prelude.{Result, Ok, Err}
+use Rattle.sections.specs.declared.Reached.{Reached}
+use Rattle.sections.specs.Sections.{Counts, Between, Told, done, overwritten_from, Extended, Listed, Filled, NamedListed, Alone}
 use Rattle.sections.proofs.Comes.{refuses, taken-on}
 use Rattle.sections.proofs.Overwritten.{none_written}
 use Rattle.sections.proofs.Counted.{closed, counts-more, grown-more}
@@ -66,12 +63,12 @@ begin {k} {r} table e =
     }
 
 -- reading has ended before the section
-pub passes : {M : Model} {s : List ℕ} {o : ReadResult} {k next : ℕ} {a : Section} {x : Refusal} {r : Reading} {table : List ℕ} → a ≡ Refused x → Told M s o k a r → r.own k ≡ []
+pub passes : {M : Model} {s : List ℕ} {o : ReadResult} {k next : ℕ} {a : Result Reached Refusal} {x : Refusal} {r : Reading} {table : List ℕ} → a ≡ Err x → Told M s o k a r → r.own k ≡ []
     → Filled M s o next a k r table table
 passes {M} {s} {o} {k} {next} {r = r} {table} is told none =
     record {
       state = r;
-      told = subst (λ (a : Section). Told M s o next a r) (sym is) (subst (λ (a : Section). Told M s o k a r) is told);
+      told = subst (λ (a : Result Reached Refusal). Told M s o next a r) (sym is) (subst (λ (a : Result Reached Refusal). Told M s o k a r) is told);
       grown = begin table none;
       listed = λ low h. h;
     }
@@ -92,7 +89,7 @@ none_yet k r u t₀ t same none h₀ h = go (length (u.own k)) counted
     go (suc n) e = eqb-suc-zero n ∙ sym (ne_eqb (count_of t k) (count_of t₀ k) (λ (same : count_of t k ≡ count_of t₀ k). omega (arith, at_first)))
 
 module _ {l : Limits} {s : List ℕ} {o : ReadResult} {k at limit : ℕ} {t : Tally} {r : Reading} {table₀ table room : List ℕ} (a : Alone l k limit room)
-    (h : Filled (model_with l) s o k (Done at t) k r table₀ table) where
+    (h : Filled (model_with l) s o k (done at t) k r table₀ table) where
   abbrev M : Model
   M = model_with l
 
@@ -103,7 +100,7 @@ module _ {l : Limits} {s : List ℕ} {o : ReadResult} {k at limit : ℕ} {t : Ta
   b = h.told.0
 
   -- the end of the sheet ends the section
-  pub no_more : length s ≤ at → Filled M s o (suc k) (Done at t) k r table₀ table
+  pub no_more : length s ≤ at → Filled M s o (suc k) (done at t) k r table₀ table
   no_more over =
       record {
         state = u;
@@ -113,19 +110,19 @@ module _ {l : Limits} {s : List ℕ} {o : ReadResult} {k at limit : ℕ} {t : Ta
       }
 
   module _ (before : at < length s) where
-    ends : (x : Refusal) → Refuses M s at u x → Filled M s o (suc k) (Refused x) k r table₀ table
+    ends : (x : Refusal) → Refuses M s at u x → Filled M s o (suc k) (Err x) k r table₀ table
     ends x e = record { state = u; told = refuses b.comes before e; grown = h.grown; listed = h.listed }
 
     -- 2 and 3
-    pub no_record : (x : Refusal) → Refuses M s at u x → Filled M s o (suc k) (Refused x) k r table₀ table
+    pub no_record : (x : Refusal) → Refuses M s at u x → Filled M s o (suc k) (Err x) k r table₀ table
     no_record = ends
 
     module _ {kind q : ℕ} (w : Stood M s at kind q) where
       -- 4
-      pub too-early : section_of kind < k → Filled M s o (suc k) (Refused (WrongSection at)) k r table₀ table
+      pub too-early : section_of kind < k → Filled M s o (suc k) (Err (WrongSection at)) k r table₀ table
       too-early low = ends (WrongSection at) (early w u (b.begun before) low)
 
-      pub later-section : k < section_of kind → Filled M s o (suc k) (Done at t) k r table₀ table
+      pub later-section : k < section_of kind → Filled M s o (suc k) (done at t) k r table₀ table
       later-section g =
           record {
             state = u;
@@ -154,7 +151,7 @@ module _ {l : Limits} {s : List ℕ} {o : ReadResult} {k at limit : ℕ} {t : Ta
         not-19 = no-mark w u (λ e. omega (arith, ap section_of e, a.low))
 
         -- 20
-        pub old-stop : stop_fits s kind ≡ false → Filled M s o (suc k) (Refused (StopInOldSheet at)) k r table₀ table
+        pub old-stop : stop_fits s kind ≡ false → Filled M s o (suc k) (Err (StopInOldSheet at)) k r table₀ table
         old-stop e = ends (StopInOldSheet at) (twenty M s at u w.not_2 (not-3 w u) not-4 not-19 (stop_is w u ∙ ap not e), refl)
 
         not-5 : is_5 M s at u ≡ false
@@ -172,7 +169,7 @@ module _ {l : Limits} {s : List ℕ} {o : ReadResult} {k at limit : ℕ} {t : Ta
           not-20 = stop_is w u ∙ ap not fits
 
           -- 6
-          pub over-limit : leb limit (count_of t k) ≡ true → Filled M s o (suc k) (Refused (OverLimit at)) k r table₀ table
+          pub over-limit : leb limit (count_of t k) ≡ true → Filled M s o (suc k) (Err (OverLimit at)) k r table₀ table
           over-limit e = ends (OverLimit at) (six M s at u w.not_2 (not-3 w u) not-4 not-19 not-20 not-5 (limit_is ∙ e), refl)
 
           -- there is room; nothing of the section was counted in this sheet where it began, and what its records name is listed
@@ -211,9 +208,9 @@ module _ {l : Limits} {s : List ℕ} {o : ReadResult} {k at limit : ℕ} {t : Ta
                   above ne = by_contra 3 k (λ g. ne (omega (arith, a.low)))
 
             -- what the code's judgement says of the record
-            abbrev Judges : Judged → Type 0
-            Judges Fits = refusal_of M s at u ≡ 0
-            Judges (judged.Refused x) = Refuses M s at u x
+            abbrev Judges : Result (Unit {0}) Refusal → Type 0
+            Judges (Ok y) = refusal_of M s at u ≡ 0
+            Judges (Err x) = Refuses M s at u x
 
             -- 7, 9, 18, 24 and 26
             judges : Judges (judged_at l.events s at kind (eqb (count_of t k) (count_of t₀ k)) t ps ms)
@@ -241,16 +238,17 @@ module _ {l : Limits} {s : List ℕ} {o : ReadResult} {k at limit : ℕ} {t : Ta
                 (λ j. takes M s at u w.not_2 (not-3 w u) not-4 not-19 not-20 not-5 under names (first_is ∙ f) (outcomes-is names ∙ g)
                 (owners-is names ∙ i) (channels-is names ∙ j))))))
 
-            module _ {n n₀ : ℕ} {j : Judged} (n-is : n ≡ count_of t k) (n₀-is : n₀ ≡ count_of t₀ k)
+            module _ {n n₀ : ℕ} {j : Result (Unit {0}) Refusal} (n-is : n ≡ count_of t k) (n₀-is : n₀ ≡ count_of t₀ k)
                 (is : j ≡ judged_at l.events s at kind (eqb n n₀) t ps ms) where
               by_code : Judges j
               by_code = subst Judges (sym (is ∙ ap₂ (λ (n n₀ : ℕ). judged_at l.events s at kind (eqb n n₀) t ps ms) n-is n₀-is)) judges
 
-              pub misnamed : {x : Refusal} → j ≡ judged.Refused x → Filled M s o (suc k) (Refused x) k r table₀ table
-              misnamed {x} e = ends x (subst Judges e by_code)
+              pub misnamed : {a : Result Reached Refusal} {x : Refusal} → a ≡ Err x → j ≡ Err x → Filled M s o (suc k) a k r table₀ table
+              misnamed {x = x} told e =
+                  subst (λ (a : Result Reached Refusal). Filled M s o (suc k) a k r table₀ table) (sym told) (ends x (subst Judges e by_code))
 
               -- the record is taken
-              pub again : {t' : Tally} → j ≡ Fits → n < length table → t' ≡ tally_after t k → Filled M s o k (Done q t') k r table₀ (set table n at)
+              pub again : {t' : Tally} → j ≡ Ok tt → n < length table → t' ≡ tally_after t k → Filled M s o k (done q t') k r table₀ (set table n at)
               again {t'} e free after =
                   let t-is : Counts (past_at s at u) t' = subst (Counts (past_at s at u)) (sym after)
                   (counts-more s at u role k here (omega (arith, a.low)) (omega (arith, a.high)) h.told.1) in

@@ -23,10 +23,8 @@ use Rattle.tally.specs.declared.Tally.{Tally}
 use Rattle.tally.specs.Tally.{count_of, tally_after}
 use Rattle.owners.specs.Owners.{stray_in}
 use Rattle.sections.specs.declared.Contents.{Contents}
-use Rattle.sections.specs.declared.Section.TheVariants.{Done}
-use Rattle.sections.specs.declared.Read.{Read}
-use Rattle.sections.specs.declared.Read.TheVariants.{Refused}
-use Rattle.sections.specs.Sections.{Counts, Comes, Told, Answers, whole_unless, end_of, Concluded, FirstSheet}
+use Rattle.std.specs.Prelude.{Result, Err}
+use Rattle.sections.specs.Sections.{Counts, Comes, Told, done, Answers, whole_unless, end_of, Concluded, FirstSheet}
 use Rattle.sections.proofs.Comes.{ended, refuses, taken-on}
 use Rattle.sections.proofs.Counted.{at-is, own_same, counts_same, closed, others, starts, counts-more}
 use Rattle.sections.proofs.Tests.{and_left, section-is, not-3, early, in_order, no-mark, no_stop, no-method, no_call, no_join, no_channel}
@@ -46,7 +44,7 @@ pub record Ending (M : Model) (s : List ℕ) (o : ReadResult) (r : Reading) (fro
   pub is_inside : ltb 0 state.opened.section ≡ inside
   pub first : get_or (starts_of (state.own 5)) 0 (start_of state.opened at) ≡ from
 
-pub begin : {M : Model} {s : List ℕ} {o : ReadResult} {r : Reading} {from : ℕ} {t : Tally} → Told M s o 5 (Done from t) r → r.own 5 ≡ []
+pub begin : {M : Model} {s : List ℕ} {o : ReadResult} {r : Reading} {from : ℕ} {t : Tally} → Told M s o 5 (done from t) r → r.own 5 ≡ []
     → Ending M s o r from from t false
 begin {r = r} {from} (b, counted) none =
     record {
@@ -74,12 +72,12 @@ module _ {M : Model} {s : List ℕ} {o : ReadResult} {r : Reading} {from at : �
 
   module _ (before : at < length s) where
     -- a record that is refused
-    pub ends : (x : Refusal) → Refuses M s at u x → Concluded s o r (Refused x)
+    pub ends : (x : Refusal) → Refuses M s at u x → Concluded s o r (Err x)
     ends x e = record { state = u; answers = refuses h.comes before e; others = h.others }
 
     module _ {kind q : ℕ} (w : Stood M s at kind q) where
       -- 4
-      pub too-early : section_of kind < 5 → Concluded s o r (Refused (WrongSection at))
+      pub too-early : section_of kind < 5 → Concluded s o r (Err (WrongSection at))
       too-early low = ends (WrongSection at) (early w u (h.begun before) low)
 
       -- Past a record -----------------------------------------------------------------------------------------------
@@ -198,7 +196,7 @@ module _ {M : Model} {s : List ℕ} {o : ReadResult} {r : Reading} {from at : �
 
     -- 8, 9 and 25, or all is read
     answered : (b d : Bool) (stray : Option ℕ) → ltb 0 u.opened.section ≡ b → eqb (length (u.own 3)) 0 ≡ d → owners_from u (u.own 2) ≡ owners_told u stray
-        → Answers s o (cond b (Refused (Unfinished (length s))) (cond d (Refused (NoFirstBody (length s))) (whole_unless c stray))) u
+        → Answers s o (cond b (Err (Unfinished (length s))) (cond d (Err (NoFirstBody (length s))) (whole_unless c stray))) u
     answered b d stray e f g = go b d stray e (ended h.comes over ∙ at-end)
       where
         at-end : at_end s u ≡ cond b (refusal 8 (length s) u) (cond d (refusal 9 (length s) u) (owners_told u stray))
@@ -214,15 +212,15 @@ module _ {M : Model} {s : List ℕ} {o : ReadResult} {r : Reading} {from at : �
 
         go : (b d : Bool) (stray : Option ℕ) → ltb 0 u.opened.section ≡ b
             → o ≡ cond b (refusal 8 (length s) u) (cond d (refusal 9 (length s) u) (owners_told u stray))
-            → Answers s o (cond b (Refused (Unfinished (length s))) (cond d (Refused (NoFirstBody (length s))) (whole_unless c stray))) u
+            → Answers s o (cond b (Err (Unfinished (length s))) (cond d (Err (NoFirstBody (length s))) (whole_unless c stray))) u
         go true d stray out is = record { place = length s; placed = refl; result = is }
         go false true stray out is = record { place = length s; placed = refl; result = is }
         go false false (some p) out is = record { place = p; placed = refl; result = is }
         go false false option.none out is = (is, h.counts, sym h.first ∙ ap (get_or (starts_of (u.own 5)) 0) (start-here out ∙ at_length))
 
-    pub concluded : {a : Read} → a ≡ end_of s inside c table → Concluded s o r a
+    pub concluded : {a : Result Contents Refusal} → a ≡ end_of s inside c table → Concluded s o r a
     concluded {a} is =
-        record { state = u; answers = subst (λ (a : Read). Answers s o a u) (sym is) answers; others = h.others }
+        record { state = u; answers = subst (λ (a : Result Contents Refusal). Answers s o a u) (sym is) answers; others = h.others }
       where
         answers : Answers s o (end_of s inside c table) u
         answers =

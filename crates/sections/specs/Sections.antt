@@ -1,6 +1,6 @@
 -- What the section readers keep from record to record, and tell each other: reading has come to where the code stands, in a state that agrees
 -- with the code's values, or has ended. The result is o, whatever state reading started in.
-use Rattle.std.specs.Prelude.{ℕ, zero, suc, ◌+◌, ◌≤◌, ◌<◌, ◌≡◌, Bool, cond, List, [], ◌∷◌, length, get_or, take, eqb, leb}
+use Rattle.std.specs.Prelude.{Result, Ok, Err, ℕ, zero, suc, ◌+◌, ◌≤◌, ◌<◌, ◌≡◌, Bool, cond, List, [], ◌∷◌, length, get_or, take, eqb, leb}
 use Rattle.std.proofs.Math.Option.{Option, none, some}
 use Rattle.sheet.specs.Model.{Model}
 use Rattle.sheet.specs.Kind.{points, methods, steps, certificates, section_of}
@@ -16,11 +16,7 @@ use Rattle.tally.specs.declared.Tally.{Tally}
 use Rattle.tally.specs.Tally.{count_of}
 use Rattle.owners.specs.Owners.{stray_in}
 use Rattle.sections.specs.declared.Contents.{Contents}
-use Rattle.sections.specs.declared.Section.{Section}
-use Rattle.sections.specs.declared.Section.TheVariants.{Done, Refused}
-use Rattle.sections.specs.declared.Read.{Read}
-use Rattle.sections.specs.declared.Read.TheVariants.{Whole}
-use Rattle.sections.specs.declared.Read.TheVariants as read
+use Rattle.sections.specs.declared.Reached.{Reached}
 
 -- a sheet with at most so many bytes has offsets that fit the four bytes of a table's element
 abbrev pub addressable : ℕ
@@ -51,9 +47,13 @@ pub record Between (M : Model) (s : List ℕ) (o : ReadResult) (k at : ℕ) (r :
   pub begun : at < length s → r.section < k → k ≤ section_of (byte_at s at)
 
 -- section k comes next, in the state r, or reading has ended in it
-abbrev pub Told : Model → List ℕ → ReadResult → ℕ → Section → Reading → Type 0
-Told M s o k (Done at t) r = Between M s o k at r × Counts r t
-Told M s o k (Refused x) r = Ends o r x
+abbrev pub Told : Model → List ℕ → ReadResult → ℕ → Result Reached Refusal → Reading → Type 0
+Told M s o k (Ok p) r = Between M s o k p.at r × Counts r p.tally
+Told M s o k (Err x) r = Ends o r x
+
+-- .. at an offset, with a tally
+abbrev pub done : ℕ → Tally → Result Reached Refusal
+done at t = Ok (record { at = at; tally = t })
 
 -- a table with these offsets written over its front
 abbrev pub overwritten : List ℕ → List ℕ → List ℕ
@@ -79,30 +79,30 @@ Listed s table k r = (n : ℕ) → n < tally r k → (n < length table) × (reco
 
 -- what the reader of section k, which began in the state r, has told when section `next` comes next; where each record counts by itself, the table leads to
 -- those that it has counted, too
-pub record Filled (M : Model) (s : List ℕ) (o : ReadResult) (next : ℕ) (a : Section) (k : ℕ) (r : Reading) (before after : List ℕ) : Type 0 where
+pub record Filled (M : Model) (s : List ℕ) (o : ReadResult) (next : ℕ) (a : Result Reached Refusal) (k : ℕ) (r : Reading) (before after : List ℕ) : Type 0 where
   pub state : Reading
   pub told : Told M s o next a state
   pub grown : Extended k r state before after
   pub listed : points ≤ k → Listed s before k r → Listed s after k state
 
 -- the answer is the result of reading, which ends in the state u
-abbrev pub Answers : List ℕ → ReadResult → Read → Reading → Type 0
-Answers s o (Whole c) u = (o ≡ whole u) × Counts u c.tally × (c.certificates ≡ get_or (starts_of (u.own certificates)) 0 (length s))
-Answers s o (read.Refused x) u = Ends o u x
+abbrev pub Answers : List ℕ → ReadResult → Result Contents Refusal → Reading → Type 0
+Answers s o (Ok c) u = (o ≡ whole u) × Counts u c.tally × (c.certificates ≡ get_or (starts_of (u.own certificates)) 0 (length s))
+Answers s o (Err x) u = Ends o u x
 
 -- the end of the sheet, as the code tests it: 8, 9 and 25, where the points stand at the offsets of a table
-abbrev pub whole_unless : Contents → Option ℕ → Read
-whole_unless c none = Whole c
-whole_unless c (some at) = read.Refused (UnknownOwner at)
+abbrev pub whole_unless : Contents → Option ℕ → Result Contents Refusal
+whole_unless c none = Ok c
+whole_unless c (some at) = Err (UnknownOwner at)
 
-abbrev pub end_of : List ℕ → (inside : Bool) → Contents → (table : List ℕ) → Read
+abbrev pub end_of : List ℕ → (inside : Bool) → Contents → (table : List ℕ) → Result Contents Refusal
 end_of s inside c table =
-    cond inside (read.Refused (Unfinished (length s)))
-    (cond (eqb c.tally.methods 0) (read.Refused (NoFirstBody (length s)))
+    cond inside (Err (Unfinished (length s)))
+    (cond (eqb c.tally.methods 0) (Err (NoFirstBody (length s)))
     (whole_unless c (stray_in s c.tally.methods (take c.tally.points table))))
 
 -- what the reader of certificates, which began in the state r, tells: the result, and that only certificates were counted
-pub record Concluded (s : List ℕ) (o : ReadResult) (r : Reading) (a : Read) : Type 0 where
+pub record Concluded (s : List ℕ) (o : ReadResult) (r : Reading) (a : Result Contents Refusal) : Type 0 where
   pub state : Reading
   pub answers : Answers s o a state
   pub others : (j : ℕ) → (j ≡ certificates → ⊥) → state.own j ≡ r.own j

@@ -4,15 +4,15 @@ ghost use Rattle.std.specs.Prelude.{◌≡◌, [], suc, ◌≤◌, length};
 ghost use Rattle.sheet.specs.Kind.{certificates};
 ghost use Rattle.sheet.specs.Reading.{Reading, ReadResult};
 ghost use Rattle.kinds.specs.Kinds.{last_kind};
+ghost use Rattle.kinds.specs.Numbers.{section_number};
 ghost use Rattle.instrument.specs.Model.{model_with};
 ghost use Rattle.sections.specs.Sections.{addressable, Told, Filled, FirstSheet, NamedListed, Alone, end_of, Concluded};
 
-use format::{Found, Refusal, record_at, refusal_at};
+use format::{Record, Refusal, record_at, refusal_at};
 use instrument::Limits;
-use kinds::{CERTIFICATES, counts, section_of};
-use names::judge::{Judged, judge};
+use kinds::Section;
+use names::judge::judge;
 use owners::first_stray_owner;
-use refusal_rows::Place;
 use refusals::editions::stop_fits;
 use tally::{Tally, past};
 
@@ -23,90 +23,81 @@ pub struct Contents {
     pub certificates: usize,
 }
 
+// Where a section ends, with the tally there.
 #[derive(Clone, Copy)]
-pub enum Read {
-    Whole(Contents),
-    Refused(Refusal),
-}
-
-// Where a section ends, with the tally there, or the refusal that ends reading.
-#[derive(Clone, Copy)]
-pub enum Section {
-    Done { at: usize, tally: Tally },
-    Refused(Refusal),
+pub struct Reached {
+    pub at: usize,
+    pub tally: Tally,
 }
 
 // The section readers. Each starts where the section before ended, and tells where its own ends, or the refusal that ends reading (`Told`),
 // whatever was counted before the sheet. A table holds each offset in four bytes.
+
+// That the limits name no kind above the last is asked for, and no fact of their type: they are an instrument's, which knows of no table of kinds.
+
+// The loops step by records: a record tells where the next one starts, so there is no index for a `for` to count. The tables stand apart, since the one that
+// is filled is lent to be written, and those that the records name are not.
 
 // The points, the methods or the steps, at most `limit` of them. Each record counts by itself. Methods and steps name points, and steps name methods, whose
 // offsets are in `points` and `methods`.
 pub fn read_alone(
     s: &[u8],
     limits: Limits,
-    section: u8,
+    section: Section,
     limit: usize,
-    reached: Section,
+    reached: Result<Reached, Refusal>,
     points: &[u32],
     methods: &[u32],
     table: &mut [u32],
-) -> Section
-    requires { Alone limits section limit table.old × (length s.now ≤ addressable) }
-    ensures { (o : ReadResult) (u : Reading) → Told (model_with limits) s.now o section reached u → u.own section ≡ []
-        → NamedListed s.now points.now methods.now section u
-        → Filled (model_with limits) s.now o (suc section) result section u table.old table.new }
+) -> Result<Reached, Refusal>
+    requires { Alone limits (section_number section) limit table.old × (length s.now ≤ addressable) }
+    ensures { (o : ReadResult) (u : Reading) → Told (model_with limits) s.now o (section_number section) reached u → u.own (section_number section) ≡ []
+        → NamedListed s.now points.now methods.now (section_number section) u
+        → Filled (model_with limits) s.now o (suc (section_number section)) result (section_number section) u table.old table.new }
 {
-    let Section::Done { at, tally } = reached else {
-        return reached;
-    };
-    let first = Tally::count(tally, section);
-    let mut at = at;
-    let mut tally = tally;
+    let Reached { mut at, mut tally } = reached?;
+    let first = tally.count(section);
     while at < s.len() {
-        let got = record_at(s, limits.kinds, at);
-        let Found::Record { kind, next } = got else {
-            return Section::Refused(refusal_at(s, limits.kinds, at));
+        let Some(Record { kind, next }) = record_at(s, limits.kinds, at) else {
+            return Err(refusal_at(s, limits.kinds, at));
         };
-        let here = section_of(kind);
-        if here < section {
-            return Section::Refused(Refusal::WrongSection(at));
+        let here = kind.section();
+        if here.is_before(section) {
+            return Err(Refusal::WrongSection(at));
         }
-        if section < here {
-            return Section::Done { at, tally };
+        if section.is_before(here) {
+            return Ok(Reached { at, tally });
         }
         if !stop_fits(s, kind) {
-            return Section::Refused(Refusal::StopInOldSheet(at));
+            return Err(Refusal::StopInOldSheet(at));
         }
-        let n = Tally::count(tally, section);
+        let n = tally.count(section);
         if limit <= n {
-            return Section::Refused(Refusal::OverLimit(at));
+            return Err(Refusal::OverLimit(at));
         }
         let events = limits.events;
-        let judged = judge(s, at, kind, n == first, tally, events, points, methods);
-        if let Judged::Refused(x) = judged {
-            return Section::Refused(x);
-        }
+        judge(s, at, kind, n == first, tally, events, points, methods)?;
         table[n] = at as u32;
         tally = past(tally, section);
         at = next;
     }
-    Section::Done { at, tally }
+    Ok(Reached { at, tally })
 }
 
 // The end of the sheet: refusals 8, 9 and 25, or the sheet is read whole. The points stand at the offsets of a table.
-fn at_end(s: &[u8], inside: bool, contents: Contents, points: &[u32]) -> Read
+fn at_end(s: &[u8], inside: bool, contents: Contents, points: &[u32]) -> Result<Contents, Refusal>
     ensures { result ≡ end_of s.now inside contents points.now }
 {
     if inside {
-        return Read::Refused(Refusal::Unfinished(s.len()));
+        return Err(Refusal::Unfinished(s.len()));
     }
     if contents.tally.methods == 0 {
-        return Read::Refused(Refusal::NoFirstBody(s.len()));
+        return Err(Refusal::NoFirstBody(s.len()));
     }
     let stray = first_stray_owner(s, points, contents.tally.points, contents.tally.methods);
     match stray {
-        Place::At(at) => Read::Refused(Refusal::UnknownOwner(at)),
-        Place::Nowhere => Read::Whole(contents),
+        Some(at) => Err(Refusal::UnknownOwner(at)),
+        None => Ok(contents),
     }
 }
 
@@ -114,35 +105,32 @@ fn at_end(s: &[u8], inside: bool, contents: Contents, points: &[u32]) -> Read
 pub fn read_certificates(
     s: &[u8],
     limits: Limits,
-    from: usize,
-    given: Tally,
+    reached: Reached,
     points: &[u32],
-) -> Read
-    requires { (limits.kinds ≤ last_kind) × (given.certificates ≤ from) }
-    ensures { (o : ReadResult) (u : Reading) → Told (model_with limits) s.now o certificates (Section.Done from given) u → u.own certificates ≡ []
+) -> Result<Contents, Refusal>
+    requires { (limits.kinds ≤ last_kind) × (reached.tally.certificates ≤ reached.at) }
+    ensures { (o : ReadResult) (u : Reading) → Told (model_with limits) s.now o certificates (Ok reached) u → u.own certificates ≡ []
         → FirstSheet s.now points.now u → Concluded s.now o u result }
 {
-    let mut at = from;
-    let mut tally = given;
+    let Reached { mut at, mut tally } = reached;
     let mut inside = false;
     while at < s.len() {
-        let got = record_at(s, limits.kinds, at);
-        let Found::Record { kind, next } = got else {
-            return Read::Refused(refusal_at(s, limits.kinds, at));
+        let Some(Record { kind, next }) = record_at(s, limits.kinds, at) else {
+            return Err(refusal_at(s, limits.kinds, at));
         };
-        if section_of(kind) < CERTIFICATES {
-            return Read::Refused(Refusal::WrongSection(at));
+        if kind.section().is_before(Section::Certificates) {
+            return Err(Refusal::WrongSection(at));
         }
-        let ends = counts(kind);
+        let ends = kind.counts();
         inside = !ends;
         if ends {
-            tally = past(tally, CERTIFICATES);
+            tally = past(tally, Section::Certificates);
         }
         at = next;
     }
     let contents = Contents {
         tally,
-        certificates: from,
+        certificates: reached.at,
     };
     at_end(s, inside, contents, points)
 }

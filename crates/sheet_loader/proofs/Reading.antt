@@ -5,12 +5,13 @@ use Prim.Native.Nat.{ℕ}
 use Rattle.sheet.specs.Model.{Model}
 use Rattle.sheet.specs.Kind.{conditions, points, methods, steps, certificates}
 use Rattle.sheet.specs.Reading.{read_sheet}
-use Rattle.sections.specs.declared.Read.{Read}
-use Rattle.sections.specs.declared.Read.TheVariants.{Whole, Refused}
+use Rattle.std.specs.Prelude.{Result, Ok, Err}
+use Rattle.format.specs.declared.Refusal.{Refusal}
+use Rattle.sections.specs.declared.Contents.{Contents}
 use Rattle.reader.specs.Contract.{Answered}
 use Rattle.numbers.specs.Numbers.{read_numbers}
 use Rattle.sheet_loader.specs.Reading.{numbers_read}
 
-pub read-numbers : (M : Model) (s : List ℕ) (r : Read) → Answered M s r → numbers_read r ≡ read_numbers (read_sheet M s)
-read-numbers M s (Whole c) a = rw (a.result, a.tally conditions, a.tally points, a.tally methods, a.tally steps, a.tally certificates) refl
-read-numbers M s (Refused x) a = rw (a.placed, a.result)
+pub read-numbers : (M : Model) (s : List ℕ) (r : Result Contents Refusal) → Answered M s r → numbers_read r ≡ read_numbers (read_sheet M s)
+read-numbers M s (Ok c) a = rw (a.result, a.tally conditions, a.tally points, a.tally methods, a.tally steps, a.tally certificates) refl
+read-numbers M s (Err x) a = rw (a.placed, a.result)

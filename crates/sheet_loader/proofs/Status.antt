@@ -17,8 +17,7 @@ use Rattle.runs.specs.Runs.{Move, run, Safe}
 use Rattle.verdict.specs.Verdict.{Report, accepted, refused, unproved}
 use Rattle.verdict.specs.WordTest.{Answer, held, not_held, untested}
 use Rattle.instrument.specs.declared.Instrument.{Instrument}
-use Rattle.instrument.specs.declared.Named.{Named}
-use Rattle.instrument.specs.declared.Named.TheVariants.{Known, Unknown}
+use Rattle.std.specs.Prelude.{Option, Some, None}
 use Rattle.instrument.specs.Model.{model_of, instrument_of}
 use Rattle.numbers.specs.Numbers.{room, unwritten, report_status, answer_status, read_status, unknown_status, answer_numbers, stored, returned}
 use Rattle.sheet_loader.specs.Doors.{LoadsInto, TestsWordInto, UnknownInto, OnNamed, LoadsOn, TestsWordOn}
@@ -86,24 +85,24 @@ of-no-reading (refusal n at r) e = omega (arith, e)
 -- On the instrument of a number: an unknown one has the status of a slice without room or its own
 module _ (n : ℕ) (s before after : List ℕ) where
   on_one : (k : ℕ) → (unknown_status ≡ suc k → ⊥) → (P : Model → Type 0) → OnNamed (instrument_of n) P (UnknownInto before after (suc k))
-      → (i : Instrument) × (instrument_of n ≡ Known i) × P (model_of i)
+      → (i : Instrument) × (instrument_of n ≡ Some i) × P (model_of i)
   on_one k other P = go (instrument_of n) refl
     where
-      go : (x : Named) → instrument_of n ≡ x → OnNamed x P (UnknownInto before after (suc k)) → (i : Instrument) × (instrument_of n ≡ Known i) × P (model_of i)
-      go (Known i) e p = (i, e, p)
-      go Unknown e y = absurd (other (answered k unknown_status before y.status).0)
+      go : (x : Option Instrument) → instrument_of n ≡ x → OnNamed x P (UnknownInto before after (suc k)) → (i : Instrument) × (instrument_of n ≡ Some i) × P (model_of i)
+      go (Some i) e p = (i, e, p)
+      go None e y = absurd (other (answered k unknown_status before y.status).0)
 
   pub every-run-on-it-is-safe : LoadsOn n s before after 1
-      → (i : Instrument) × (instrument_of n ≡ Known i) × ((ms : List Move) → Safe (sheet_of (model_of i) s) (run (sheet_of (model_of i) s) 0 ms))
+      → (i : Instrument) × (instrument_of n ≡ Some i) × ((ms : List Move) → Safe (sheet_of (model_of i) s) (run (sheet_of (model_of i) s) 0 ms))
   every-run-on-it-is-safe x = let (i, e, p) = on_one 0 (λ h. omega (arith, h)) (λ M. LoadsInto M s before after 1) x in (i, e, every-run-is-safe p)
 
   module _ (c : ℕ) (w : List ℕ) where
-    pub the-word-is-held-on-it : TestsWordOn n s c w before after 1 → (i : Instrument) × (instrument_of n ≡ Known i) × Holds (condition (sheet_of (model_of i) s) c) w
+    pub the-word-is-held-on-it : TestsWordOn n s c w before after 1 → (i : Instrument) × (instrument_of n ≡ Some i) × Holds (condition (sheet_of (model_of i) s) c) w
     the-word-is-held-on-it x = let (i, e, p) = on_one 0 (λ h. omega (arith, h)) (λ M. TestsWordInto M s c w before after 1) x in (i, e, the-word-is-held p)
 
     pub the-word-is-not-held-on-it : TestsWordOn n s c w before after 3
         → (i : Instrument)
-        × (instrument_of n ≡ Known i)
+        × (instrument_of n ≡ Some i)
         × (Holds (condition (sheet_of (model_of i) s) c) w → ⊥)
         × Longest (condition (sheet_of (model_of i) s) c) w (get_or after 2 0)
     the-word-is-not-held-on-it x =

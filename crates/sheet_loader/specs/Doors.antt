@@ -1,12 +1,11 @@
 -- What the doors return, and what they write into a lent slice.
-use Rattle.std.specs.Prelude.{ℕ, ◌≡◌, List}
+use Rattle.std.specs.Prelude.{ℕ, ◌≡◌, List, Option, Some, None}
 use Rattle.sheet.specs.Model.{Model}
 use Rattle.sheet.specs.Reading.{read_sheet}
 use Rattle.verdict.specs.Verdict.{verdict_of}
 use Rattle.verdict.specs.WordTest.{word_test}
 use Rattle.verdict.specs.Promise.{Loads, TestsWord}
-use Rattle.instrument.specs.declared.Named.{Named}
-use Rattle.instrument.specs.declared.Named.TheVariants.{Known, Unknown}
+use Rattle.instrument.specs.declared.Instrument.{Instrument}
 use Rattle.instrument.specs.Model.{model_of, instrument_of}
 use Rattle.numbers.specs.Numbers.{report_status, answer_status, read_status, unknown_status, report_numbers, answer_numbers, read_numbers, unknown_numbers, stored, returned}
 
@@ -37,9 +36,9 @@ pub record UnknownInto (before after : List ℕ) (result : ℕ) : Type 0 where
   pub status : result ≡ returned unknown_status before
 
 -- P of the model of the instrument that is named, and else Q
-abbrev pub OnNamed : Named → (Model → Type 0) → Type 0 → Type 0
-OnNamed (Known i) P Q = P (model_of i)
-OnNamed Unknown P Q = Q
+abbrev pub OnNamed : Option Instrument → (Model → Type 0) → Type 0 → Type 0
+OnNamed (Some i) P Q = P (model_of i)
+OnNamed None P Q = Q
 
 -- the loader's door
 abbrev pub LoadsOn : ℕ → (s before after : List ℕ) → ℕ → Type 0

@@ -1,5 +1,6 @@
 #![tactic(auto)]
-// The doors of sheet_loader under their names in C. C passes a slice as a pointer and the number of its elements; usize is size_t.
+// The doors of sheet_loader under their names in C. C passes a slice as a pointer and the number of its elements; usize is size_t. The instrument is a number, since C
+// names no enum of Rattle's.
 ghost use Rattle.sheet.specs.Model.{entry};
 ghost use Rattle.sheet_loader.specs.Doors.{LoadsInto, LoadsOn, TestsWordOn, ReadsOn};
 

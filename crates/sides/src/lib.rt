@@ -2,16 +2,16 @@
 // The sides of a claim: the places of its conditions, in tables.
 ghost use Rattle.condition.specs.Condition.{Condition};
 ghost use Rattle.places.specs.Tables.{Tables};
-ghost use Rattle.items.specs.Stack.{Roomy, Rows};
 ghost use Rattle.runs.specs.Rules as runs;
 ghost use Rattle.claims.specs.Claims.{LeftIs, Says};
 ghost use Rattle.sides.specs.Questions.{QuestionIs};
 
 use answers::Rule;
 use claims::{Claim, Left};
+use items::{Places, Stack};
 use places::{Side, joined_side, side_of};
 
-// A claim whose sides are in the tables.
+// A claim whose sides are in the tables. No one generic enum with `Claim`: there the left is of another type than the right, and no function is of both.
 #[derive(Clone, Copy)]
 pub enum Question {
     Inclusion { rule: Rule, left: Side, right: Side },
@@ -19,25 +19,12 @@ pub enum Question {
 }
 
 // The side of a claim's left, found on a stack that is lent.
-fn left_side(
-    s: &[u8],
-    left: Left,
-    nulls: &mut [bool; 50],
-    firsts: &mut [u64; 50],
-    lasts: &mut [u64; 50],
-    follow: &mut [u64; 64],
-    sets: &mut [u64; 64],
-) -> Side
-    requires { Roomy nulls.old firsts.old lasts.old × Rows follow.old sets.old }
-    ensures room { Roomy nulls.new firsts.new lasts.new }
-    ensures rows { Rows follow.new sets.new }
-    ensures tables { (r : Condition) → LeftIs s.now left r → Tables r result follow.new sets.new }
+fn left_side(s: &[u8], left: Left, stack: &mut Stack, places: &mut Places) -> Side
+    ensures { (r : Condition) → LeftIs s.now left r → Tables r result places.new.follow places.new.sets }
 {
     match left {
-        Left::One(part) => side_of(s, part, nulls, firsts, lasts, follow, sets),
-        Left::Two(first, second) => {
-            joined_side(s, first, second, nulls, firsts, lasts, follow, sets)
-        }
+        Left::One(part) => side_of(s, part, stack, places),
+        Left::Two(first, second) => joined_side(s, first, second, stack, places),
     }
 }
 
@@ -45,29 +32,25 @@ fn left_side(
 pub fn sides_of(
     s: &[u8],
     claim: Claim,
-    nulls: &mut [bool; 50],
-    firsts: &mut [u64; 50],
-    lasts: &mut [u64; 50],
-    lfollow: &mut [u64; 64],
-    lsets: &mut [u64; 64],
-    rfollow: &mut [u64; 64],
-    rsets: &mut [u64; 64],
+    stack: &mut Stack,
+    left: &mut Places,
+    right: &mut Places,
 ) -> Question
-    requires { Roomy nulls.old firsts.old lasts.old × Rows lfollow.old lsets.old × Rows rfollow.old rsets.old }
-    ensures room { Roomy nulls.new firsts.new lasts.new }
-    ensures rows { Rows lfollow.new lsets.new × Rows rfollow.new rsets.new }
-    ensures asks { (x : runs.Rule) → Says s.now claim x →
-        QuestionIs lfollow.new lsets.new rfollow.new rsets.new result x }
+    ensures { (x : runs.Rule) → Says s.now claim x → QuestionIs left.new right.new result x }
 {
     match claim {
-        Claim::Inclusion { rule, left, right } => Question::Inclusion {
+        Claim::Inclusion {
             rule,
-            left: left_side(s, left, nulls, firsts, lasts, lfollow, lsets),
-            right: side_of(s, right, nulls, firsts, lasts, rfollow, rsets),
+            left: parts,
+            right: part,
+        } => Question::Inclusion {
+            rule,
+            left: left_side(s, parts, stack, left),
+            right: side_of(s, part, stack, right),
         },
         Claim::HoldsEmpty { rule, part } => Question::HoldsEmpty {
             rule,
-            side: side_of(s, part, nulls, firsts, lasts, lfollow, lsets),
+            side: side_of(s, part, stack, left),
         },
     }
 }

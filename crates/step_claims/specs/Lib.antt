@@ -1,1 +1,3 @@
+pub mod Calls
 pub mod Returns
+pub mod Direct

@@ -8,15 +8,6 @@ use borrow.Author.Tests.{ne_eqb}
 use Rattle.tally.specs.declared.Tally.{Tally}
 use Rattle.tally.specs.Tally.{count_of, plus_if, tally_after}
 
-pub none_of : (t : Tally) (k : ℕ) → (k ≡ 1 → ⊥) → (k ≡ 2 → ⊥) → (k ≡ 3 → ⊥) → (k ≡ 4 → ⊥) → (k ≡ 5 → ⊥) → 0 ≡ count_of t k
-none_of t zero a b c d e = refl
-none_of t (suc zero) a b c d e = absurd (a refl)
-none_of t (suc (suc zero)) a b c d e = absurd (b refl)
-none_of t (suc (suc (suc zero))) a b c d e = absurd (c refl)
-none_of t (suc (suc (suc (suc zero)))) a b c d e = absurd (d refl)
-none_of t (suc (suc (suc (suc (suc zero))))) a b c d e = absurd (e refl)
-none_of t (suc (suc (suc (suc (suc (suc k)))))) a b c d e = refl
-
 -- section k has one more, and each other section as many as before
 pub count_past : (t : Tally) (k : ℕ) → 1 ≤ k → k ≤ 5 → (j : ℕ) → count_of (tally_after t k) j ≡ plus_if (eqb k j) (count_of t j)
 count_past t k low high zero = simp (ne_eqb k 0 (λ e. omega arith))

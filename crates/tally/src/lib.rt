@@ -1,9 +1,10 @@
 #![tactic(auto)]
 // The tally of a sheet, which advances record by record.
 ghost use Rattle.std.specs.Prelude.{◌≡◌};
+ghost use Rattle.kinds.specs.Numbers.{section_number};
 ghost use Rattle.tally.specs.Tally.{count_of, Room, tally_after, nothing_counted};
 
-use kinds::{CERTIFICATES, CONDITIONS, METHODS, POINTS, STEPS};
+use kinds::Section;
 
 #[derive(Clone, Copy)]
 pub struct Tally {
@@ -28,49 +29,47 @@ pub fn nothing_counted() -> Tally
 
 impl Tally {
     // How many of a section are counted.
-    pub fn count(self, section: u8) -> usize
-        ensures { result ≡ count_of self section }
+    pub fn count(self, section: Section) -> usize
+        ensures { result ≡ count_of self (section_number section) }
     {
         match section {
-            CONDITIONS => self.conditions,
-            POINTS => self.points,
-            METHODS => self.methods,
-            STEPS => self.steps,
-            CERTIFICATES => self.certificates,
-            _ => 0,
+            Section::Conditions => self.conditions,
+            Section::Points => self.points,
+            Section::Methods => self.methods,
+            Section::Steps => self.steps,
+            Section::Certificates => self.certificates,
         }
     }
 
     // The tally with one more of a section.
-    pub fn counted(self, section: u8) -> Tally
-        requires { Room self section }
-        ensures { result ≡ tally_after self section }
+    pub fn counted(self, section: Section) -> Tally
+        requires { Room self (section_number section) }
+        ensures { result ≡ tally_after self (section_number section) }
     {
         let mut next = self;
         match section {
-            CONDITIONS => next.conditions = self.conditions + 1,
-            POINTS => next.points = self.points + 1,
-            METHODS => next.methods = self.methods + 1,
-            STEPS => next.steps = self.steps + 1,
-            CERTIFICATES => next.certificates = self.certificates + 1,
-            _ => {}
+            Section::Conditions => next.conditions += 1,
+            Section::Points => next.points += 1,
+            Section::Methods => next.methods += 1,
+            Section::Steps => next.steps += 1,
+            Section::Certificates => next.certificates += 1,
         }
         next
     }
 }
 
 // The same of a tally that is lent: document 01 asks for this form, one thin update of a struct behind `&mut`.
-pub fn advance(t: &mut Tally, section: u8)
-    requires { Room t.old section }
-    ensures { t.new ≡ tally_after t.old section }
+pub fn advance(t: &mut Tally, section: Section)
+    requires { Room t.old (section_number section) }
+    ensures { t.new ≡ tally_after t.old (section_number section) }
 {
-    *t = Tally::counted(*t, section);
+    *t = t.counted(section);
 }
 
 // By value over the lent update, for callers that hold a tally.
-pub fn past(t: Tally, section: u8) -> Tally
-    requires { Room t section }
-    ensures { result ≡ tally_after t section }
+pub fn past(t: Tally, section: Section) -> Tally
+    requires { Room t (section_number section) }
+    ensures { result ≡ tally_after t (section_number section) }
 {
     let mut next = t;
     advance(&mut next, section);

@@ -1,50 +1,49 @@
 #![tactic(auto)]
-// Text and numbers in decimal, put into a buffer. Each function that puts something returns the place behind it.
+// Text and numbers in decimal, put at the end of a line.
 ghost use Rattle.std.specs.Prelude.{◌≡◌, ◌++◌, ◌+◌, ◌≤◌, ◌<◌, length};
 ghost use Rattle.verdict.specs.Line.{decimal};
-ghost use Rattle.text.specs.Put.{Put};
+ghost use Rattle.arrayvec.specs.ArrayVec.{array_vec_len};
+
+use arrayvec::ArrayVec;
+
+// A line of text, as far as it is put.
+pub type Line = ArrayVec<u8, 160>;
 
 // A digit in ASCII.
 fn digit(n: usize) -> u8
     requires { n < 10 }
     ensures { result ≡ 48 + n }
 {
-    48 + (n as u8)
+    b'0' + n as u8
 }
 
-// A text at a place of the buffer.
-pub fn put_text(text: &[u8], out: &mut [u8; 160], at: usize) -> usize
-    requires { at + length text.now ≤ 160 }
-    ensures { Put out.old at text.now out.new result }
+// A text.
+pub fn put_text(text: &[u8], out: &mut Line)
+    requires { array_vec_len out.old + length text.now ≤ 160 }
+    ensures { out.new.items ≡ out.old.items ++ text.now }
 {
-    let mut i = 0;
-    while i < text.len() {
-        out[at + i] = text[i];
-        i += 1;
-    }
-    at + i
+    out.try_extend_from_slice(text).unwrap();
 }
 
-// A number in decimal: its last digit goes behind the digits of its tenth.
-pub fn put_number(n: usize, out: &mut [u8; 160], at: usize) -> usize
-    requires { at + length (decimal n) ≤ 160 }
-    ensures { Put out.old at (decimal n) out.new result }
+// A number in decimal: its last digit goes behind the digits of its tenth. No `write!`: std says nothing of the bytes that a number is written as.
+pub fn put_number(n: usize, out: &mut Line)
+    requires { array_vec_len out.old + length (decimal n) ≤ 160 }
+    ensures { out.new.items ≡ out.old.items ++ decimal n }
 {
     if n < 10 {
-        out[at] = digit(n);
-        return at + 1;
+        out.push(digit(n));
+    } else {
+        put_number(n / 10, out);
+        out.push(digit(n % 10));
     }
-    let last = put_number(n / 10, out, at);
-    out[last] = digit(n % 10);
-    last + 1
 }
 
 // A label and a number, which has at most 20 digits.
-pub fn put_value(label: &[u8], n: usize, out: &mut [u8; 160], at: usize) -> usize
-    requires { at + length label.now + 20 ≤ 160 }
-    ensures put { Put out.old at (label.now ++ decimal n) out.new result }
-    ensures upper_bound { result ≤ at + length label.now + 20 }
+pub fn put_value(label: &[u8], n: usize, out: &mut Line)
+    requires { array_vec_len out.old + length label.now + 20 ≤ 160 }
+    ensures put { out.new.items ≡ out.old.items ++ (label.now ++ decimal n) }
+    ensures upper_bound { array_vec_len out.new ≤ array_vec_len out.old + length label.now + 20 }
 {
-    let next = put_text(label, out, at);
-    put_number(n, out, next)
+    put_text(label, out);
+    put_number(n, out);
 }

@@ -3,6 +3,7 @@ use mathlib.Core.Path.{◌≡◌, sym, ap, ◌∙◌, subst}
 use mathlib.Core.Bool.{Bool}
 use mathlib.Core.List.{List, [], ◌∷◌}
 use Prim.Native.Nat.{ℕ}
+use Rattle.std.specs.Prelude.{Result}
 use Rattle.bits.specs.Bits.{has}
 use Rattle.condition.specs.Condition.{Condition}
 use Rattle.condition.specs.Places.{nullable, ends}
@@ -10,6 +11,7 @@ use Rattle.certificate.specs.Certificate.{Finding, fault, unless}
 use Rattle.sheet_laws.specs.AtOffset.{certificate_at}
 use Rattle.runs.specs.Rules as runs
 use Rattle.verdict.specs.Verdict.{test_of}
+use Rattle.items.specs.declared.Places.{Places}
 use Rattle.places.specs.declared.Side.{Side}
 use Rattle.places.specs.Tables.{Tables}
 use Rattle.answers.specs.declared.Rule.{Rule}
@@ -18,16 +20,16 @@ use Rattle.index.proofs.Trial.{trial-one}
 use Rattle.sides.specs.declared.Question.{Question}
 use Rattle.sides.specs.declared.Question.TheVariants.{Inclusion, HoldsEmpty}
 use Rattle.sides.specs.Questions.{AsksInclusion, AsksEmpty, QuestionIs}
-use Rattle.trial.specs.declared.Tested.{Tested}
+use Rattle.trial.specs.declared.Failure.{Failure}
 use Rattle.trial.specs.Tested.{Tries}
 
 -- a question by its variants
-module _ (F S F' S' : List ℕ) (x : runs.Rule) {q : Question} {r : Rule} where
-  pub asks-inclusion : {left right : Side} → q ≡ Inclusion r left right → QuestionIs F S F' S' q x → AsksInclusion F S F' S' r left right x
-  asks-inclusion e h = subst (λ (q : Question). QuestionIs F S F' S' q x) e h
+module _ (p p' : Places) (x : runs.Rule) {q : Question} {r : Rule} where
+  pub asks-inclusion : {left right : Side} → q ≡ Inclusion r left right → QuestionIs p p' q x → AsksInclusion p p' r left right x
+  asks-inclusion e h = subst (λ (q : Question). QuestionIs p p' q x) e h
 
-  pub asks-empty : {side : Side} → q ≡ HoldsEmpty r side → QuestionIs F S F' S' q x → AsksEmpty F S r side x
-  asks-empty e h = subst (λ (q : Question). QuestionIs F S F' S' q x) e h
+  pub asks-empty : {side : Side} → q ≡ HoldsEmpty r side → QuestionIs p p' q x → AsksEmpty p r side x
+  asks-empty e h = subst (λ (q : Question). QuestionIs p p' q x) e h
 
 -- the trial of one rule, by what its test finds
 pub trial-finds : (events : ℕ) (s : List ℕ) (x : runs.Rule) (from : ℕ) (f : Finding) → f ≡ test_of events x.claim (certificate_at s from)
@@ -41,5 +43,5 @@ unfolding ends
 ends-empty a side follow sets t b e = ap (λ (b : Bool). unless b (fault 5 0 0 0)) (sym e ∙ t.ends_is 0)
 
 -- the answer for a rule, by what the rule is
-pub tries-as : {events : ℕ} {s : List ℕ} {x y : runs.Rule} {from : ℕ} {answer : Tested} → x ≡ y → Tries events s (y ∷ []) from answer → Tries events s (x ∷ []) from answer
+pub tries-as : {events : ℕ} {s : List ℕ} {x y : runs.Rule} {from : ℕ} {answer : Result ℕ Failure} → x ≡ y → Tries events s (y ∷ []) from answer → Tries events s (x ∷ []) from answer
 tries-as {events} {s} {from = from} {answer} e h = subst (λ (r : runs.Rule). Tries events s (r ∷ []) from answer) (sym e) h

@@ -1,14 +1,13 @@
 #![tactic(auto)]
-// What stands at an offset, as a value: a point, a method, a step. The offset is that of a record of such a kind.
+// What stands at an offset, as a value: a point, a method, a step. The offset is that of a record of such a kind. That it lies in the sheet is a fact of
+// two parameters, so each function asks for it, and no type of one of them holds it.
 ghost use Rattle.std.specs.Prelude.{◌≡◌, ◌+◌, ◌≤◌, ◌<◌, length};
 ghost use Rattle.sheet_laws.specs.AtOffset.{short_at, declared_at, point_at, method_at, step_at};
 ghost use Rattle.values.specs.Values.{PointHas, declared_value, Declares, DeclaresFailed, method_value, step_value};
 
-use fields::{byte_at, index, short_at};
-use kinds::{
-    CALL, CHANNEL_CALL, EVENT, PRIMITIVE, STOP, TWO_OUTCOME_BODY, TWO_OUTCOME_CALL,
-    TWO_OUTCOME_PRIMITIVE,
-};
+use fields::{byte_at, short_at};
+use format::kind_at;
+use kinds::Kind;
 
 // A point's conditions, by their numbers.
 #[derive(Clone, Copy)]
@@ -119,7 +118,7 @@ pub fn failed_at(s: &[u8], at: usize) -> Declared
     requires { at < length s.now }
     ensures { DeclaresFailed result (method_at s.now at) }
 {
-    if byte_at(s, at) == TWO_OUTCOME_PRIMITIVE {
+    if byte_at(s, at) == Kind::TwoOutcomePrimitive as u8 {
         return declared_at(s, at, 7);
     }
     declared_at(s, at, 11)
@@ -140,49 +139,45 @@ pub fn method_at(s: &[u8], at: usize) -> Method
     ensures { method_value result ≡ method_at s.now at }
 {
     let declaration = declaration_at(s, at);
-    let kind = byte_at(s, at);
-    if kind == PRIMITIVE {
-        return Method::Primitive(declaration);
+    match kind_at(s, at).unwrap_or(Kind::WithBody) {
+        Kind::Primitive => Method::Primitive(declaration),
+        Kind::TwoOutcomePrimitive => Method::TwoOutcomePrimitive(declaration, failed_at(s, at)),
+        Kind::TwoOutcomeBody => {
+            let body = body_at(s, at);
+            let declared = failed_at(s, at);
+            let exit = short_at(s, at + 15);
+            Method::TwoOutcomeBody(declaration, body, FailedBody { declared, exit })
+        }
+        _ => Method::WithBody(declaration, body_at(s, at)),
     }
-    if kind == TWO_OUTCOME_PRIMITIVE {
-        return Method::TwoOutcomePrimitive(declaration, failed_at(s, at));
-    }
-    let body = body_at(s, at);
-    if kind == TWO_OUTCOME_BODY {
-        let declared = failed_at(s, at);
-        let exit = short_at(s, at + 15);
-        return Method::TwoOutcomeBody(declaration, body, FailedBody { declared, exit });
-    }
-    Method::WithBody(declaration, body)
 }
 
 pub fn step_at(s: &[u8], at: usize) -> Step
     requires { at < length s.now }
     ensures { step_value result ≡ step_at s.now at }
 {
-    let kind = byte_at(s, at);
     let from = short_at(s, at + 1);
     let to = short_at(s, at + 3);
-    if kind == EVENT {
-        let event = index(byte_at(s, at + 5));
-        return Step::Event { from, to, event };
+    match kind_at(s, at).unwrap_or(Kind::Pass) {
+        Kind::Event => {
+            let event = usize::from(byte_at(s, at + 5));
+            Step::Event { from, to, event }
+        }
+        Kind::Call => {
+            let method = short_at(s, at + 5);
+            Step::Call(CallStep { from, to, method })
+        }
+        Kind::TwoOutcomeCall => {
+            let failed = short_at(s, at + 5);
+            let method = short_at(s, at + 7);
+            Step::TwoOutcomeCall(CallStep { from, to, method }, failed)
+        }
+        Kind::ChannelCall => {
+            let method = short_at(s, at + 5);
+            let channel = byte_at(s, at + 7);
+            Step::ChannelCall(CallStep { from, to, method }, channel)
+        }
+        Kind::Stop => Step::Stop(from),
+        _ => Step::Pass { from, to },
     }
-    if kind == CALL {
-        let method = short_at(s, at + 5);
-        return Step::Call(CallStep { from, to, method });
-    }
-    if kind == TWO_OUTCOME_CALL {
-        let failed = short_at(s, at + 5);
-        let method = short_at(s, at + 7);
-        return Step::TwoOutcomeCall(CallStep { from, to, method }, failed);
-    }
-    if kind == CHANNEL_CALL {
-        let method = short_at(s, at + 5);
-        let channel = byte_at(s, at + 7);
-        return Step::ChannelCall(CallStep { from, to, method }, channel);
-    }
-    if kind == STOP {
-        return Step::Stop(from);
-    }
-    Step::Pass { from, to }
 }

@@ -4,10 +4,10 @@
 ghost use Rattle.std.specs.Prelude.{◌≤◌};
 
 use arguments::{cannot_write, chosen_instrument, is_argument, read_named, wrong_argument};
-use decimal::{Argument, Events, number_at, read_events};
-use input::{Input, first, has_argument};
-use instrument::{Instrument, Named};
-use printing::print_answer;
+use decimal::{number_at, read_events};
+use input::{first, has_argument};
+use instrument::Instrument;
+use printing::print;
 use std::env::Env;
 use std::io::Write;
 use std::rt::Files;
@@ -20,14 +20,15 @@ fn wrong<R: Env, E: Write>(rt: &R, errors: &mut E, i: usize, expected: &[u8]) {
 // That argument i is no event of the instrument.
 fn wrong_event<R: Env, E: Write>(rt: &R, errors: &mut E, instrument: Instrument, i: usize) {
     match instrument {
-        Instrument::Large => wrong(rt, errors, i, b"an event, a number from 0 to 31"),
-        Instrument::Entry => wrong(rt, errors, i, b"an event, a number from 0 to 31"),
+        Instrument::Large | Instrument::Entry => {
+            wrong(rt, errors, i, b"an event, a number from 0 to 31")
+        }
         Instrument::Four => wrong(rt, errors, i, b"an event, a number from 0 to 63"),
     }
 }
 
 // The answer on the word of the events from argument `from` on. There is room for one event more than a word may have; what follows it is not
-// read.
+// read. The runtime, standard output and standard error have types of their own, so no struct shortens the list.
 fn print_test<R: Env, O: Write, E: Write>(
     rt: &R,
     out: &mut O,
@@ -38,15 +39,14 @@ fn print_test<R: Env, O: Write, E: Write>(
     from: usize,
 ) {
     let mut word = [0u8; 4097];
-    let events = read_events(rt, from, &mut word);
-    match events {
-        Events::Count(n) => {
+    match read_events(rt, from, &mut word) {
+        Ok(n) => {
             let answer = word_test_on(instrument, sheet, condition, first(&word, n));
-            if let Err(e) = print_answer(out, answer) {
+            if let Err(e) = print(out, answer) {
                 cannot_write(errors, b"word_test", e);
             }
         }
-        Events::WrongAt(i) => wrong_event(rt, errors, instrument, i),
+        Err(i) => wrong_event(rt, errors, instrument, i),
     }
 }
 
@@ -61,14 +61,12 @@ fn print_line<R: Env + Files, O: Write, E: Write>(
     requires { i ≤ 3 }
 {
     let mut room = [0u8; 65537];
-    let sheet = read_named(rt, errors, b"word_test", i, &mut room);
-    let Input::Bytes(n) = sheet else {
+    let Ok(n) = read_named(rt, errors, b"word_test", i, &mut room) else {
         return;
     };
-    let condition = number_at(rt, i + 1);
-    match condition {
-        Argument::Number(k) => print_test(rt, out, errors, instrument, first(&room, n), k, i + 2),
-        Argument::Wrong => wrong(rt, errors, i + 1, b"the condition's number"),
+    match number_at(rt, i + 1) {
+        Some(k) => print_test(rt, out, errors, instrument, first(&room, n), k, i + 2),
+        None => wrong(rt, errors, i + 1, b"the condition's number"),
     }
 }
 
@@ -123,12 +121,12 @@ fn run<R: Env + Files, O: Write, E: Write>(
     }
 }
 
+// As in load: a `main` for both would take `run` and the program's name to save five lines.
 fn main(rt: HostRuntime) {
     let mut out = rt.stdout();
     let mut errors = rt.stderr();
     let choice = chosen_instrument(&rt, &mut errors, b"word_test");
-    let named = choice.named;
-    if let Named::Known(instrument) = named {
+    if let Some(instrument) = choice.instrument {
         run(&rt, &mut out, &mut errors, instrument, choice.next);
     }
 }

@@ -3,7 +3,7 @@ use mathlib.Core.Path.{◌≡◌, refl, sym, ap, ◌∙◌, subst}
 use mathlib.Core.Bool.{Bool, true, false, cond}
 use mathlib.Core.Option.{none, some}
 use mathlib.Core.List.{List}
-use Prim.Native.Nat.{ℕ, ◌≤◌, ◌<◌}
+use Prim.Native.Nat.{ℕ, suc, ◌≤◌, ◌<◌}
 use native.Mathlib.Omega.{arith}
 use lib.ListN.{length, get_or}
 use Rattle.condition.specs.Condition.{Condition, Word}
@@ -23,20 +23,35 @@ use Rattle.format.specs.Refusal.{number_of, place_of}
 use Rattle.sections.specs.declared.Contents.{Contents}
 use Rattle.reader.specs.Contract.{Refuses, ReadWhole}
 use Rattle.read_tables.proofs.Filled.{conditions-are}
-use Rattle.matching.specs.declared.Matched.{Matched}
-use Rattle.matching.specs.declared.Matched.TheVariants.{Yes, No}
 use Rattle.matching.specs.Matched.{matched}
-use Rattle.words.specs.Stray.{StrayOrEnd}
+use Rattle.words.specs.Stray.{stray_in}
+use Rattle.std.specs.Prelude as std
+use Rattle.std.specs.List.{position_or_len}
+use Rattle.std.proofs.lemmas.Bool.{leb-true, leb-false}
+use Rattle.std.proofs.lemmas.Option.{none-some}
+use Rattle.std.proofs.lemmas.List.Quantifiers.{position-Some}
+use Rattle.std.proofs.lemmas.List.Sums.{fails_before_first}
+
+none-chosen : {X : Type 0} (b : Bool) (x : X) → cond b (std.Some x) std.None ≡ std.None → b ≡ false
+none-chosen true x e = absurd (none-some x (sym e))
+none-chosen false x e = refl
+
+-- a word without such an event has only events below
+pub none-stray : (events : ℕ) (w : List ℕ) → stray_in events w ≡ std.None → (i : ℕ) → i < length w → get_or w i 0 < events
+none-stray events w e i l =
+    let p : ℕ → Bool = λ n. std.nat_le events n in
+    let beyond = leb-false (suc (position_or_len p w)) (length w) (none-chosen _ (position_or_len p w) e) in
+    leb-false events (get_or w i 0) (fails_before_first p w i 0 (omega arith))
 
 -- what matching tells, as an answer
-abbrev pub told : Matched → Answer
-told Yes = held
-told (No n) = not_held n
+abbrev pub told : std.Result Unit ℕ → Answer
+told (std.Ok _) = held
+told (std.Err n) = not_held n
 
 told_is : (r : Condition) (w : Word) → told (matched r w) ≡ tested r w
 told_is r w = go (accepts r w)
   where
-    go : (b : Bool) → told (cond b Yes (No (longest r w))) ≡ cond b held (not_held (longest r w))
+    go : (b : Bool) → told (cond b (std.Ok tt) (std.Err (longest r w))) ≡ cond b held (not_held (longest r w))
     go true = refl
     go false = refl
 
@@ -56,10 +71,13 @@ module _ {M : Model} {s : List ℕ} {c : Contents} (t : ReadWhole M s c) where
       too_long h = sym (refused-in M s k w (word_too_long finds h))
 
       module _ (short : length w ≤ 4096) where
-        pub stray-at : (r : ℕ) → StrayOrEnd M.events w r → r < length w → untested 13 (some r) ≡ word_test M s k w
-        stray-at r f l = sym (refused-in M s k w (stray_event finds short (record { inside = l; before = f.before; stray = f.stops l })))
+        pub stray-at : (r : ℕ) → stray_in M.events w ≡ std.Some r → untested 13 (some r) ≡ word_test M s k w
+        stray-at r e =
+            let p : ℕ → Bool = λ n. std.nat_le M.events n in
+            let at = position-Some p w r 0 e in
+            sym (refused-in M s k w (stray_event finds short (record { inside = at.0; before = λ i l. leb-false M.events (get_or w i 0) (at.2 i l); stray = leb-true M.events (get_or w r 0) at.1 })))
 
-        pub word-tested : ((i : ℕ) → i < length w → get_or w i 0 < M.events) → (m : Matched) → m ≡ matched (condition (sheet_of M s) k) w → told m ≡ word_test M s k w
+        pub word-tested : ((i : ℕ) → i < length w → get_or w i 0 < M.events) → (m : std.Result Unit ℕ) → m ≡ matched (condition (sheet_of M s) k) w → told m ≡ word_test M s k w
         word-tested below m e =
             ap told e
             ∙ told_is (condition (sheet_of M s) k) w
@@ -74,6 +92,6 @@ module _ (M : Model) (s : List ℕ) (k : ℕ) (w : List ℕ) where
   pub keeps : {r : Answer} → r ≡ word_test M s k w → TestsWord M s k w r
   keeps e = subst (TestsWord M s k w) (sym e) (tests-word M s k w)
 
--- events by an instrument's limits are those of its model
-pub stray-on : (i : Instrument) {l : Limits} → l ≡ limits_of i → {w : List ℕ} {r : ℕ} → StrayOrEnd l.events w r → StrayOrEnd (model_of i).events w r
-stray-on i is {w} {r} f = subst (λ (l : Limits). StrayOrEnd l.events w r) is f
+-- what an instrument's limits say of the word's events is said of those of its model
+pub stray-on : (i : Instrument) (w : List ℕ) {l : Limits} {r : std.Option ℕ} → l ≡ limits_of i → r ≡ stray_in l.events w → stray_in (model_of i).events w ≡ r
+stray-on i w {r = r} is e = subst (λ (l : Limits). stray_in l.events w ≡ r) is (sym e)

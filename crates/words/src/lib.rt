@@ -9,34 +9,27 @@ ghost use Rattle.instrument.specs.Model.{model_of};
 ghost use Rattle.reader.specs.Contract.{ReadWhole};
 ghost use Rattle.answers.specs.Answers.{answer_of};
 ghost use Rattle.index.specs.Indexed.{ConditionsIn};
-ghost use Rattle.words.specs.Stray.{StrayOrEnd};
+ghost use Rattle.words.specs.Stray.{stray_in};
 
 use answers::WordAnswer;
-use fields::index;
 use format::Refusal;
 use instrument::{Instrument, limits_of};
-use matching::{Matched, match_word};
+use matching::match_word;
+use offsets::Offsets;
 use reader::read_sheet;
-use sections::{Contents, Read};
+use sections::Contents;
 
 // How long a word may be.
 const LONGEST: usize = 4096;
 
-// The index of the first event that is not below `events`, or the word's length.
-fn first_stray(word: &[u8], events: usize) -> usize
-    ensures { StrayOrEnd events word.now result }
+// The index of the first event that is not below `events`, if there is one.
+fn first_stray(word: &[u8], events: usize) -> Option<usize>
+    ensures { result ≡ stray_in events word.now }
 {
-    let mut i: usize = 0;
-    while i < word.len() {
-        if events <= index(word[i]) {
-            return i;
-        }
-        i += 1;
-    }
-    i
+    word.iter().position(|&e| events <= usize::from(e))
 }
 
-// The word test on a sheet that is read whole: 14, 12, 13, or yes or no.
+// The word test on a sheet that is read whole: 14, 12, 13, or yes or no. No two of its parameters travel further together.
 fn answer(
     s: &[u8],
     conditions: &[u32; 256],
@@ -58,13 +51,12 @@ fn answer(
     }
     let limits = limits_of(instrument);
     let events = limits.events;
-    let stray = first_stray(word, events);
-    if stray < word.len() {
+    if let Some(stray) = first_stray(word, events) {
         return WordAnswer::Refused(Refusal::StrayEvent(stray));
     }
     match match_word(s, conditions[condition] as usize, events, word) {
-        Matched::Yes => WordAnswer::Yes,
-        Matched::No(n) => WordAnswer::No(n),
+        Ok(()) => WordAnswer::Yes,
+        Err(n) => WordAnswer::No(n),
     }
 }
 
@@ -79,54 +71,57 @@ fn test_with(
     requires { (model_of instrument).points ≤ length points.old }
     ensures { TestsWord (model_of instrument) s.now condition word.now (answer_of result) }
 {
-    let mut conditions: [u32; 256] = [0; 256];
-    let mut methods: [u32; 64] = [0; 64];
-    let mut steps: [u32; 512] = [0; 512];
-    let got = read_sheet(
-        instrument,
-        s,
-        &mut conditions,
-        points,
-        &mut methods,
-        &mut steps,
-    );
-    match got {
-        Read::Whole(contents) => answer(s, &conditions, instrument, contents, condition, word),
-        Read::Refused(x) => WordAnswer::Refused(x),
+    let mut offsets = Offsets::EMPTY;
+    match read_sheet(instrument, s, &mut offsets, points) {
+        Ok(contents) => answer(
+            s,
+            &offsets.conditions,
+            instrument,
+            contents,
+            condition,
+            word,
+        ),
+        Err(x) => WordAnswer::Refused(x),
     }
 }
 
-// The word test of an instrument, with a table for as many points as the largest ones take.
-fn test_wide(instrument: Instrument, s: &[u8], condition: usize, word: &[u8]) -> WordAnswer
+// The word test of an instrument, with a table for N points: as many as it takes, and no more than any takes.
+fn test_sized<const N: usize>(
+    instrument: Instrument,
+    s: &[u8],
+    condition: usize,
+    word: &[u8],
+) -> WordAnswer
+    requires room { (model_of instrument).points ≤ N }
+    requires bound { N ≤ 512 }
     ensures { TestsWord (model_of instrument) s.now condition word.now (answer_of result) }
 {
-    let mut points: [u32; 512] = [0; 512];
+    let mut points: [u32; N] = [0; N];
     test_with(instrument, s, &mut points, condition, word)
 }
 
-// The word test of the large instrument.
+// The word test of the large instrument. This and the two below are for callers that know their instrument: each promises what it does on that one.
 pub fn word_test(s: &[u8], condition: usize, word: &[u8]) -> WordAnswer
     ensures { TestsWord large s.now condition word.now (answer_of result) }
 {
-    test_wide(Instrument::Large, s, condition, word)
+    test_sized::<512>(Instrument::Large, s, condition, word)
 }
 
 // The word test of the four-channel instrument.
 pub fn word_test_four(s: &[u8], condition: usize, word: &[u8]) -> WordAnswer
     ensures { TestsWord four s.now condition word.now (answer_of result) }
 {
-    test_wide(Instrument::Four, s, condition, word)
+    test_sized::<512>(Instrument::Four, s, condition, word)
 }
 
 // The word test of the entry instrument.
 pub fn word_test_entry(s: &[u8], condition: usize, word: &[u8]) -> WordAnswer
     ensures { TestsWord entry s.now condition word.now (answer_of result) }
 {
-    let mut points: [u32; 64] = [0; 64];
-    test_with(Instrument::Entry, s, &mut points, condition, word)
+    test_sized::<64>(Instrument::Entry, s, condition, word)
 }
 
-// The word test of an instrument.
+// The word test of an instrument. A match, since the table of points has another size on the entry instrument, and each arm is a word test of its own.
 pub fn word_test_on(instrument: Instrument, s: &[u8], condition: usize, word: &[u8]) -> WordAnswer
     ensures { TestsWord (model_of instrument) s.now condition word.now (answer_of result) }
 {

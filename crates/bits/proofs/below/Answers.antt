@@ -3,13 +3,9 @@ use mathlib.Core.Path.{◌≡◌, ap, ◌∙◌}
 use Prim.Native.Nat.{ℕ}
 use native.Mathlib.Omega.{arith}
 use lib.Dec.{ltb}
-use lib.Pow.{pow_pos}
 use Rattle.bits.proofs.Bitwise.{has-below}
 use Rattle.bits.proofs.Filling.{one_shifted}
 use Rattle.bits.proofs.below.Goals as goal
-
-pub overflow_sub-result : goal.overflow_sub-result
-overflow_sub-result c = rw (one_shifted c.args.n c.if-n-lt64.true) (pow_pos c.args.n)
 
 pub returns-then-n-lt64 : goal.returns-then-n-lt64
 returns-then-n-lt64 c = λ k. simp (one_shifted _ c.if-n-lt64.true) (has-below _ k)

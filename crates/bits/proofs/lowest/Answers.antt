@@ -1,12 +1,7 @@
 -- `lowest` meets its contract: the machine counts the zeros below the lowest number (`Least`).
-use native.Mathlib.Omega.{arith}
-use lib.Count.{trailing_le}
 use Rattle.bits.proofs.Least.{lowest-bit, lowest-past}
 use borrow.Author.Rules.{rules}
 use Rattle.bits.proofs.lowest.Goals as goal
-
-pub overflow_cast-k : goal.overflow_cast-k
-overflow_cast-k c = let h = trailing_le 64 c.args.set in omega arith
 
 pub returns-then-k-n : goal.returns-then-k-n
 returns-then-k-n c = lowest-bit _ _ (search rules) c.requires c.if-k-n.true

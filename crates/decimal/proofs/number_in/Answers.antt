@@ -1,22 +1,17 @@
 use Rattle.std.proofs.Common.{arith, sym, ◌∙◌}
-use Rattle.decimal.proofs.Decimal.{no-digit-left, below-digits, above-digits, one-digit}
+use Rattle.decimal.proofs.Decimal.{no-digit-left, no-digit, one-digit}
 use Rattle.decimal.proofs.number_in.Goals as goal
 
-pub returns-then-b-lt48 : goal.returns-then-b-lt48
-returns-then-b-lt48 c = let here = c.loop-i in
-    sym (below-digits c.args.text.now here.i here.n (omega arith) (omega arith)) ∙ here.invariant.whole
+pub returns-then-not-is_ascii_digit : goal.returns-then-not-is_ascii_digit
+returns-then-not-is_ascii_digit c = let here = c.loop-b in
+    sym (no-digit c.args.text.now here.b-index here.n (omega arith) (sym c.if-not-is_ascii_digit.ensures.value)) ∙ here.invariant.whole
 
-pub returns-then-b-gt57 : goal.returns-then-b-gt57
-returns-then-b-gt57 c = let here = c.loop-i in
-    sym (above-digits c.args.text.now here.i here.n (omega arith) (omega arith) (omega arith)) ∙ here.invariant.whole
-
-pub loop-i-preserved : goal.loop-i-preserved
-loop-i-preserved c = let here = c.loop-i in record {
-  within = omega arith;
+pub loop-b-preserved : goal.loop-b-preserved
+loop-b-preserved c = let here = c.loop-b in record {
   limited = omega arith;
-  whole = rw (c.at_most-n.ensures.value, c.index-b.ensures)
-      (sym (one-digit c.args.text.now here.i here.n (omega arith) (omega arith) (omega arith)) ∙ here.invariant.whole);
+  whole = rw (c.min-n.ensures, c.from.ensures)
+      (sym (one-digit c.args.text.now here.b-index here.n (omega arith) (sym c.if-not-is_ascii_digit.ensures.value)) ∙ here.invariant.whole);
 }
 
 pub returns : goal.returns
-returns c = let here = c.loop-i in sym (no-digit-left c.args.text.now here.i here.n (omega arith)) ∙ here.invariant.whole
+returns c = let here = c.loop-b in sym (no-digit-left c.args.text.now here.b-index here.n (omega arith)) ∙ here.invariant.whole

@@ -2,25 +2,20 @@
 use mathlib.Core.Path.{sym}
 use Prim.Native.Nat.{◌+◌}
 use native.Mathlib.Omega.{arith}
-use Rattle.sheet.specs.Record.{Bytes}
+use borrow.Author.Rules.{rules}
 use Rattle.sheet_laws.proofs.Fields.{long-set-is, set-lt}
 use Rattle.fields.proofs.Laws.{long-set-past}
 use Rattle.fields.proofs.long_set_at.Goals as goal
-use Rattle.fields.proofs.long_set_at.Goals.{After-set_at-then-i-s}
-
--- the bytes of the sheet
-bytes : (c : After-set_at-then-i-s) → Bytes c.args.s.now
-bytes c i = (c.shared_slice_known-1.given i).fits
 
 pub overflow_mul-result : goal.overflow_mul-result
 overflow_mul-result c =
     let a = c.args in
-    omega (arith, c.set_at-then-i-s.ensures, set-lt a.s.now (bytes (goal.at.overflow_mul-result c).After-set_at-then-i-s) (a.i + 4))
+    omega (arith, c.set_at-then-i-s.ensures, set-lt a.s.now (search rules) (a.i + 4))
 
 pub overflow_add-result : goal.overflow_add-result
 overflow_add-result c =
     let a = c.args in
-    omega (arith, c.set_at.ensures, c.set_at-then-i-s.ensures, set-lt a.s.now (bytes (goal.at.overflow_add-result c).After-set_at-then-i-s) a.i, set-lt a.s.now (bytes (goal.at.overflow_add-result c).After-set_at-then-i-s) (a.i + 4))
+    omega (arith, c.set_at.ensures, c.set_at-then-i-s.ensures, set-lt a.s.now (search rules) a.i, set-lt a.s.now (search rules) (a.i + 4))
 
 pub returns-then-i-s : goal.returns-then-i-s
 returns-then-i-s c =

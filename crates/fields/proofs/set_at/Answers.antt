@@ -1,16 +1,22 @@
 -- `set_at` meets its contract: the four bytes are read at once where they are there, each by itself near the end.
-use mathlib.Core.Path.{sym}
+use mathlib.Core.Path.{sym, ◌∙◌}
+use native.Mathlib.Omega.{arith}
+use Rattle.std.proofs.lemmas.List.{get_or_past}
 use Rattle.sheet.specs.Record.{byte_at}
-use Rattle.fields.proofs.Laws.{set_past, set_is}
-use borrow.Author.Rules.{rules}
+use Rattle.fields.proofs.Laws.{set_past, set-of-rest}
 use Rattle.fields.proofs.set_at.Goals as goal
 
-pub returns-then-s-i-ge4 : goal.returns-then-s-i-ge4
-returns-then-s-i-ge4 c = c.set_inside.ensures
+pub returns-in_default : goal.returns-in_default
+returns-in_default c = sym (set_past c.args.s.now _ (omega (arith, c.in_default.ensures.lookup)))
 
-pub returns-else-s-i-ge4 : goal.returns-else-s-i-ge4
+pub returns-in_default-rest : goal.returns-in_default-rest
 unfolding byte_at
-returns-else-s-i-ge4 c = let a = c.args in search (rules, set_is a.s.now a.i)
+returns-in_default-rest c =
+    let a = c.args in
+    let r = c.in-Some.rest.now in
+    let h = get_or_past r 3 0 (omega (arith, c.in_default-rest.len_below)) in
+    let w = set-of-rest a.s.now r a.i c.in-Some.ensures.lookup.0.2 in
+    omega (arith, h, w, c.set_of.ensures, c.byte_at.ensures, c.byte_at-in_default-rest.ensures, c.byte_at-in_default-rest-2.ensures)
 
-pub returns-else-i-s : goal.returns-else-i-s
-returns-else-i-s c = sym (set_past c.args.s.now _ c.if-i-s.false)
+pub returns-in-len4-up : goal.returns-in-len4-up
+returns-in-len4-up c = c.set_of-in-len4-up.ensures ∙ set-of-rest _ _ _ c.in-Some.ensures.lookup.0.2

@@ -1,23 +1,21 @@
 -- `short_at` meets its contract: the second byte is 0 where the first is the last of the sheet.
-use mathlib.Core.Path.{sym}
-use Prim.Native.Nat.{◌+◌}
+use mathlib.Core.Path.{sym, ◌∙◌}
 use native.Mathlib.Omega.{arith}
+use Rattle.std.proofs.lemmas.List.{get_or_past}
 use Rattle.sheet.specs.Record.{byte_at}
-use Rattle.sheet_laws.specs.AtOffset.{short_at}
-use Rattle.fields.proofs.Laws.{byte_past, short-past}
-use borrow.Author.Rules.{rules}
+use Rattle.fields.proofs.Laws.{short-past, short-of-rest}
 use Rattle.fields.proofs.short_at.Goals as goal
 
-pub returns-then-s-i-ge2 : goal.returns-then-s-i-ge2
-unfolding short_at byte_at
-returns-then-s-i-ge2 c = c.short_of.ensures
+pub returns-in_default : goal.returns-in_default
+returns-in_default c = sym (short-past c.args.s.now _ (omega (arith, c.in_default.ensures.lookup)))
 
-pub returns-else-s-i-ge2 : goal.returns-else-s-i-ge2
-unfolding short_at byte_at
-returns-else-s-i-ge2 c =
+pub returns-in_default-rest : goal.returns-in_default-rest
+unfolding byte_at
+returns-in_default-rest c =
     let a = c.args in
-    let h = byte_past a.s.now (a.i + 1) (omega arith) in
-    search rules
+    let r = c.in-Some.rest.now in
+    let h = get_or_past r 1 0 (omega (arith, c.in_default-rest.len_below)) in
+    omega (arith, h, c.byte_at.ensures, short-of-rest a.s.now r a.i c.in-Some.ensures.lookup.0.2)
 
-pub returns-else-i-s : goal.returns-else-i-s
-returns-else-i-s c = sym (short-past c.args.s.now _ c.if-i-s.false)
+pub returns-in-len2-up : goal.returns-in-len2-up
+returns-in-len2-up c = c.short_of.ensures ∙ short-of-rest _ _ _ c.in-Some.ensures.lookup.0.2

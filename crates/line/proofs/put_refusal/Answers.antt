@@ -1,30 +1,11 @@
--- `line::put_refusal` meets its contract, with a place and without.
-use mathlib.Core.Path.{sym, ap, ◌∙◌}
-use borrow.Author.Rules.{rules}
 use Rattle.verdict.specs.Line.{ascii}
-use Rattle.refusal_rows.specs.Place.{place_in}
 use Rattle.line.proofs.Lines.{refused-somewhere, refused-nowhere}
 use Rattle.line.proofs.put_refusal.Goals as goal
 
-pub returns-in-At : goal.returns-in-At
+pub returns-in-Some-clause-put : goal.returns-in-Some-clause-put
 unfolding ascii
-returns-in-At c =
-    record {
-      put = refused-somewhere
-          c.refusal_number-number.ensures
-          c.put_value-next.ensures.put
-          (sym c.refusal_place-found.ensures ∙ ap place_in c.in-At.is)
-          c.put_value.ensures.put;
-      upper_bound = search rules;
-    }
+returns-in-Some-clause-put c = refused-somewhere _ c.refusal_number.ensures c.put_value.ensures.put c.in-Some.ensures c.put_value-in-Some.ensures.put
 
-pub returns-in-Nowhere : goal.returns-in-Nowhere
+pub returns-in_default-clause-put : goal.returns-in_default-clause-put
 unfolding ascii
-returns-in-Nowhere c =
-    record {
-      put = refused-nowhere
-          c.refusal_number-number.ensures
-          c.put_value-next.ensures.put
-          (sym c.refusal_place-found.ensures ∙ ap place_in c.in-Nowhere.is);
-      upper_bound = search rules;
-    }
+returns-in_default-clause-put c = refused-nowhere _ c.refusal_number.ensures c.put_value.ensures.put c.in_default.ensures

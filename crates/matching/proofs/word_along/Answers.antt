@@ -1,4 +1,3 @@
-use borrow.Author.Rules.{rules}
 use Rattle.bits.proofs.Filling.{unions-none}
 use Rattle.condition.proofs.Longest.{along-start}
 use Rattle.matching.proofs.Words.{stepped, matched-wrong, one_along, matched-unfinished, matched-whole}
@@ -7,41 +6,21 @@ use Rattle.matching.proofs.word_along.Goals as goal
 pub loop-i-init : goal.loop-i-init
 loop-i-init c = (λ r t. along-start r c.args.word.now, unions-none _ _)
 
-pub offset_bounds-holding-e : goal.offset_bounds-holding-e
-offset_bounds-holding-e c =
-    let (few, most, small) = c.requires in
-    let h = small c.loop-i.i c.loop-i-test.true in
-    let e = c.index-e.ensures in
-    search rules
-
-pub bounds-holding-e : goal.bounds-holding-e
-bounds-holding-e c =
-    let (few, most, small) = c.requires in
-    let h = small c.loop-i.i c.loop-i-test.true in
-    let e = c.index-e.ensures in
-    search rules
-
 pub returns-then-places-live-eq0 : goal.returns-then-places-live-eq0
 returns-then-places-live-eq0 c =
     let g = c.loop-i in
     λ r t.
     matched-wrong (g.invariant.0 r t) c.loop-i-test.true _ _
-    (stepped t c.fill_for.ensures g.places c.union_of-union.result g.i _ c.index-e.ensures c.loop-i-test.true c.union_of-union.ensures.union)
+    (stepped t c.fill_for.ensures g.places c.union_of-union.result g.i _ c.from.ensures c.loop-i-test.true c.union_of-union.ensures.union)
     (c.live_of-live.ensures r t)
     c.if-places-live-eq0.true
-
-pub overflow_add-i : goal.overflow_add-i
-overflow_add-i c =
-    let inside = c.loop-i-test.true in
-    let short = c.well_formed in
-    search rules
 
 pub loop-i-preserved : goal.loop-i-preserved
 loop-i-preserved c =
     let g = c.loop-i in (
       λ r t.
           one_along (g.invariant.0 r t) c.loop-i-test.true _ _
-          (stepped t c.fill_for.ensures g.places c.union_of-union.result g.i _ c.index-e.ensures c.loop-i-test.true c.union_of-union.ensures.union)
+          (stepped t c.fill_for.ensures g.places c.union_of-union.result g.i _ c.from.ensures c.loop-i-test.true c.union_of-union.ensures.union)
           (c.live_of-live.ensures r t)
           c.if-places-live-eq0.false,
       c.union_of-union.ensures.kept,

@@ -8,25 +8,16 @@ use Rattle.certificate.specs.Certificate.{pair_of}
 use Rattle.format.specs.Pairs.{pair_is}
 use Rattle.pairs.proofs.Laws.{pair_inside, found-pair, found-end}
 use Rattle.meets.specs.Meets.{PairRows}
-use Rattle.meets.proofs.Rows.{written_none, written-past, pair-more}
-use borrow.Author.Rules.{rules}
+use Rattle.meets.proofs.Rows.{written-past, pair-more}
 use Rattle.meets.proofs.fill_pairs.Goals as goal
 use Rattle.meets.proofs.fill_pairs.Goals.{Joined-count-lt-ROWS, then-count-lt-ROWS, else-count-lt-ROWS}
-
-pub loop-pair-init : goal.loop-pair-init
-loop-pair-init c = (search rules, written_none c.requires.1)
-
-pub returns-in_default : goal.returns-in_default
-returns-in_default c =
-    let w = c.loop-pair in
-    let e = found-end _ _ w.invariant.0 (sym c.pair_in-found.ensures ∙ c.in_default.is) in record { count = e; rows = w.invariant.1 }
 
 -- a pair stands there
 pair-is : (c : Joined-count-lt-ROWS)
     → let c' = certificate_at c.args.pairs.now 0 in
     let i = c.loop-pair.count in
-    (i < length c') × (pair_of c' i ≡ pair_is c.in-Pair.pair)
-pair-is c = found-pair _ _ (sym c.pair_in-found.ensures ∙ c.in-Pair.is)
+    (i < length c') × (pair_of c' i ≡ pair_is c.in-Some.pair)
+pair-is c = found-pair _ _ (sym c.pair_in.ensures ∙ c.in-Some.is)
 
 pub overflow_add-count : goal.overflow_add-count
 overflow_add-count c = omega (arith, pair_inside _ _ (pair-is c).0)
@@ -46,3 +37,6 @@ loop-pair-preserved c =
         | else-count-lt-ROWS u ↦ subst Rows-on (sym u.rows-is) (written-past w.invariant.1 (omega (arith, u.if-count-lt-ROWS.false)))
       ],
     )
+
+pub returns-clause-count : goal.returns-clause-count
+returns-clause-count c = found-end _ _ c.loop-pair.invariant.0 (sym c.pair_in.ensures ∙ c.in_default.is)

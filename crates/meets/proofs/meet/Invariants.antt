@@ -1,9 +1,6 @@
--- `meet` meets its contract. The loop's invariant: what the set holds are the events of `events` that the places of `rest` hold.
+-- `meet` meets its contract. The loop's invariant: what the set holds are the events of `events` that the places that are still to come hold.
 use Rattle.meets.proofs.Meeting.{Meeting}
 use Rattle.meets.proofs.meet.Given as goal
 
-abbrev pub invariant-loop-rest : goal.invariant-loop-rest
-invariant-loop-rest l = Meeting l.sets l.m l.set l.events l.rest
-
-abbrev pub decreases-loop-rest : goal.decreases-loop-rest
-decreases-loop-rest l = l.rest
+abbrev pub invariant-loop-k : goal.invariant-loop-k
+invariant-loop-k l = Meeting l.sets l.m l.set l.events l.k-iterator.rest

@@ -1,6 +1,5 @@
 use mathlib.Core.Path.{refl}
-use native.Mathlib.Omega.{arith}
-use Rattle.claims.proofs.Kth.{kth-named, kth-done}
+use Rattle.claims.proofs.Kth.{kth-named}
 use Rattle.method_claims.proofs.exit_claim.Goals as goal
 
 pub returns-in-0 : goal.returns-in-0
@@ -12,6 +11,3 @@ pub returns-in-1 : goal.returns-in-1
 returns-in-1 c =
     λ s S n m e o own due w.
     kth-named c.in-1.is refl due (c.inclusion-in-1.ensures s _ _ w.declared_is.future_stands w.point_is.due_stands)
-
-pub returns-in_default : goal.returns-in_default
-returns-in_default c = λ s S n m e o own due w. kth-done (omega (arith, c.in_default.in_default-own.rest.1, c.in_default.in_default-own.rest.0.1))

@@ -1,6 +1,5 @@
 use mathlib.Core.Path.{refl}
-use native.Mathlib.Omega.{arith}
-use Rattle.claims.proofs.Kth.{kth-says, kth-done}
+use Rattle.claims.proofs.Kth.{kth-says}
 use Rattle.method_claims.proofs.first_claim.Goals as goal
 
 pub returns-in-0 : goal.returns-in-0
@@ -8,6 +7,3 @@ returns-in-0 c = λ s S d. kth-says c.in-0.is refl (c.holds_empty.ensures s _ d.
 
 pub returns-in-1 : goal.returns-in-1
 returns-in-1 c = λ s S d. kth-says c.in-1.is refl (c.holds_empty-in-1.ensures s _ d.normal_is.future_stands)
-
-pub returns-in_default : goal.returns-in_default
-returns-in_default c = λ s S d. kth-done (omega (arith, c.in_default.in_default-own.rest.1, c.in_default.in_default-own.rest.0.1))

@@ -1,19 +1,18 @@
 -- By the section of the kind.
+use mathlib.Core.Path.{ap}
 use native.Mathlib.Omega.{arith}
-use Rattle.format.proofs.Named.{is-kind}
+use Rattle.kinds.specs.declared.Section.TheVariants.{Steps}
+use Rattle.kinds.specs.Numbers.{section_number}
+use Rattle.kinds.proofs.Numbers.{other-section}
 use Rattle.names.proofs.names_exist.Goals as goal
 
-pub section_of-requires : goal.section_of-requires
-section_of-requires c = is-kind c.requires
+pub step_names_exist-requires : goal.step_names_exist-requires
+step_names_exist-requires c = (c.requires, omega (arith, c.section.ensures, ap section_number c.in-Steps.is))
 
 pub declared_names_exist-requires : goal.declared_names_exist-requires
-declared_names_exist-requires c = (c.requires, omega (arith, c.section_of.ensures))
+declared_names_exist-requires c =
+    let other = other-section Steps c.in_default.not-Steps in
+    (c.requires, omega (arith, c.section.ensures, c.requires.high, other))
 
-pub returns-then-section_of-lt-STEPS : goal.returns-then-section_of-lt-STEPS
-returns-then-section_of-lt-STEPS c = c.declared_names_exist.ensures c.args.events
-
-pub step_names_exist-requires : goal.step_names_exist-requires
-step_names_exist-requires c = (c.requires, omega (arith, c.section_of.ensures))
-
-pub returns : goal.returns
-returns c = c.step_names_exist.ensures
+pub returns-in_default : goal.returns-in_default
+returns-in_default c = c.declared_names_exist.ensures c.args.events

@@ -1,25 +1,20 @@
 use mathlib.Core.Path.{refl, sym, ap, ◌∙◌}
 use mathlib.Core.Bool.{true, false}
+use mathlib.Core.Logic.{inl, inr}
 use Rattle.runs.specs.Rules.{method_rules, total}
 use Rattle.verdict.specs.Verdict.{certificates_needed}
 use Rattle.values.specs.declared.Method.{Method}
 use Rattle.values.specs.Values.{method_value}
-use Rattle.needs.proofs.Summed.{needed-as, two-outcomes}
+use Rattle.needs.proofs.Summed.{needed-as, no-body, two-outcomes}
 use Rattle.needs.proofs.method_needs.Goals as goal
 
 pub returns-in-Primitive : goal.returns-in-Primitive
-unfolding certificates_needed total
 returns-in-Primitive c =
     λ S starts m first.
-    needed-as (ap (λ (v : Method). method_rules S starts m (method_value v).body) c.in-Primitive.is)
-    (record { rules_are = refl; certificates_are = refl })
-
-pub returns-in-TwoOutcomePrimitive : goal.returns-in-TwoOutcomePrimitive
-unfolding certificates_needed total
-returns-in-TwoOutcomePrimitive c =
-    λ S starts m first.
-    needed-as (ap (λ (v : Method). method_rules S starts m (method_value v).body) c.in-TwoOutcomePrimitive.is)
-    (record { rules_are = refl; certificates_are = refl })
+    elim c.in-Primitive.is [
+      | inl (d, is) ↦ no-body S starts m is refl
+      | inr (d, f, is) ↦ no-body S starts m is refl
+    ]
 
 pub returns-in-WithBody : goal.returns-in-WithBody
 unfolding certificates_needed total

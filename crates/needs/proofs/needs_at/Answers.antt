@@ -5,7 +5,7 @@ use lib.ListN.{length}
 use native.Mathlib.Omega.{arith}
 use Rattle.runs.specs.Rules.{total}
 use Rattle.verdict.specs.Verdict.{certificates_needed}
-use Rattle.index.proofs.Indexed.{method-in, method-is, step-inside, step_is}
+use Rattle.index.proofs.Indexed.{method-is, step_is}
 use Rattle.rules.proofs.Decoded.{body-rules, step-rules}
 use Rattle.rules.proofs.Groups.{starts_first, first_group, method-group, step-group}
 use Rattle.needs.proofs.Summed.{needed-as}
@@ -14,59 +14,37 @@ use Rattle.needs.proofs.needs_at.Goals as goal
 
 pub returns-then-number-eq0 : goal.returns-then-number-eq0
 unfolding certificates_needed total
-returns-then-number-eq0 c = λ S cs ps xs x is. needed-as (first_group S _ is c.if-number-eq0.true) (record { rules_are = refl; certificates_are = refl })
-
-pub overflow_cast-methods : goal.overflow_cast-methods
-overflow_cast-methods c =
-    let (S, cs, ps, x) = c.requires.by_index in
-    omega (arith, (method-in x.indexes (c.args.number - 1) (omega (arith, x.methods_are, c.if-k-listed.true))).inside)
-
-pub method_at-requires : goal.method_at-requires
-method_at-requires c =
-    let (S, cs, ps, x) = c.requires.by_index in
-    (method-in x.indexes (c.args.number - 1) (omega (arith, x.methods_are, c.if-k-listed.true))).inside
+returns-then-number-eq0 c = λ S xs h is. needed-as (first_group S _ is c.if-number-eq0.true) (record { rules_are = refl; certificates_are = refl })
 
 pub returns-then-k-listed : goal.returns-then-k-listed
 returns-then-k-listed c =
-    λ S cs ps xs x is.
+    λ S xs h is.
+    let (cs, ps, x) = h in
     let a = c.args in
     let l : a.number - 1 < length S.methods = omega (arith, x.methods_are, c.if-k-listed.true) in
     needed-as
     (method-group S a.number is (a.number - 1) (omega (arith, c.if-number-eq0.false)) _ (method-is x.indexes _ l) l
-    ∙ body-rules x.indexes l {v = c.method_at.result} refl c.method_at.ensures (0 ∷ []))
+    ∙ body-rules x.indexes l {v = c.method_at-method.result} refl c.method_at-method.ensures (0 ∷ []))
     (c.method_needs.ensures S (0 ∷ []) (a.number - 1) (starts_first (a.number - 1)))
-
-pub overflow_cast-steps : goal.overflow_cast-steps
-overflow_cast-steps c =
-    let (S, cs, ps, x) = c.requires.by_index in
-    let a = c.args in
-    let l : a.number - 1 - a.counts.methods < length S.steps =
-    omega (arith, x.methods_are, x.steps_are, c.requires.number_bound, c.if-k-listed.false, c.if-number-eq0.false) in
-    omega (arith, step-inside x.indexes _ l)
-
-pub step_at-requires : goal.step_at-requires
-step_at-requires c =
-    let (S, cs, ps, x) = c.requires.by_index in
-    let a = c.args in
-    step-inside x.indexes (a.number - 1 - a.counts.methods)
-    (omega (arith, x.methods_are, x.steps_are, c.requires.number_bound, c.if-k-listed.false, c.if-number-eq0.false))
 
 pub step_needs-requires : goal.step_needs-requires
 step_needs-requires c =
-    let (S, cs, ps, x) = c.requires.by_index in
+    let (S, h) = c.requires.subjects in
+    let (cs, ps, x) = h in
     let a = c.args in
-    let l : a.number - 1 - a.counts.methods < length S.steps =
+    let l : a.number - 1 - a.x.counts.methods < length S.steps =
     omega (arith, x.methods_are, x.steps_are, c.requires.number_bound, c.if-k-listed.false, c.if-number-eq0.false) in
-    (S, step-called x l c.step_at.result c.step_at.ensures)
+    (S, step-called x l c.step_at-step.result c.step_at-step.ensures)
 
 pub returns : goal.returns
 returns c =
-    λ S cs ps xs x is.
+    λ S xs h is.
+    let (cs, ps, x) = h in
     let a = c.args in
-    let l : a.number - 1 - a.counts.methods < length S.steps =
+    let l : a.number - 1 - a.x.counts.methods < length S.steps =
     omega (arith, x.methods_are, x.steps_are, c.requires.number_bound, c.if-k-listed.false, c.if-number-eq0.false) in
     needed-as
-    (step-group S a.number is (a.number - 1 - a.counts.methods)
+    (step-group S a.number is (a.number - 1 - a.x.counts.methods)
     (omega (arith, x.methods_are, c.if-k-listed.false, c.if-number-eq0.false)) _ (step_is x.indexes _ l)
-    ∙ step-rules x.indexes l {v = c.step_at.result} refl c.step_at.ensures)
-    (c.step_needs.ensures S (a.number - 1 - a.counts.methods) (step-called x l c.step_at.result c.step_at.ensures))
+    ∙ step-rules x.indexes l {v = c.step_at-step.result} refl c.step_at-step.ensures)
+    (c.step_needs.ensures S (a.number - 1 - a.x.counts.methods) (step-called x l c.step_at-step.result c.step_at-step.ensures))

@@ -1,42 +1,34 @@
+use Prim.Native.Nat.{◌+◌, ◌≤◌}
 use native.Mathlib.Omega.{arith}
-use Rattle.rules.specs.Order.{groups}
 use Rattle.rules.proofs.Groups.{rules-together}
-use Rattle.needs.proofs.Summed.{none-summed, few-rules, few-certificates, all-summed, few-together, next-summed}
-use Rattle.rules.proofs.Walking.{few-subjects, subjects-many}
+use Rattle.needs.proofs.Summed.{few-rules, few-certificates, all-summed, few-together, next-summed}
+use Rattle.rules.proofs.Walking.{subjects-many}
 use Rattle.needs.proofs.sheet_needs.Goals as goal
 
-pub overflow_add-last : goal.overflow_add-last
-overflow_add-last c = let (S, cs, ps, x) = c.requires in omega (arith, few-subjects x)
+pub overflow_add-all : goal.overflow_add-all
+overflow_add-all c =
+    let (S, h) = c.requires in
+    let (cs, ps, x) = h in
+    let more = next-summed x (c.loop-number.invariant S h) c.loop-number-test.true (λ xs. c.needs_at-needs.ensures S xs h) in
+    omega (arith, few-rules more, few-together x)
 
-pub loop-number-init : goal.loop-number-init
-loop-number-init c = (omega arith, λ S cs ps x. none-summed (groups S))
-
-pub needs_at-needs-requires : goal.needs_at-needs-requires
-needs_at-needs-requires c = record { by_index = c.requires; number_bound = omega (arith, c.loop-number-test.true) }
-
-pub overflow_add-rules : goal.overflow_add-rules
-overflow_add-rules c =
-    let (S, cs, ps, x) = c.requires in
-    let h = next-summed x (c.loop-number.invariant.1 S cs ps x) (omega (arith, c.loop-number-test.true)) (λ xs. c.needs_at-needs.ensures S cs ps xs x) in
-    omega (arith, few-rules h, few-together x)
-
-pub overflow_add-certificates : goal.overflow_add-certificates
-overflow_add-certificates c =
-    let (S, cs, ps, x) = c.requires in
-    let h = next-summed x (c.loop-number.invariant.1 S cs ps x) (omega (arith, c.loop-number-test.true)) (λ xs. c.needs_at-needs.ensures S cs ps xs x) in
-    omega (arith, few-certificates h, few-together x)
-
-pub overflow_add-number : goal.overflow_add-number
-overflow_add-number c = let (S, cs, ps, x) = c.requires in omega (arith, few-subjects x, c.loop-number-test.true)
-
-pub loop-number-smaller : goal.loop-number-smaller
-loop-number-smaller c = omega (arith, c.loop-number-test.true)
+pub overflow_add-all-in-loop-number : goal.overflow_add-all-in-loop-number
+overflow_add-all-in-loop-number c =
+    let (S, h) = c.requires in
+    let (cs, ps, x) = h in
+    let more = next-summed x (c.loop-number.invariant S h) c.loop-number-test.true (λ xs. c.needs_at-needs.ensures S xs h) in
+    omega (arith, few-certificates more, few-together x)
 
 pub loop-number-preserved : goal.loop-number-preserved
-loop-number-preserved c = (
-  omega (arith, c.loop-number-test.true),
-  λ S cs ps x. next-summed x (c.loop-number.invariant.1 S cs ps x) (omega (arith, c.loop-number-test.true)) (λ xs. c.needs_at-needs.ensures S cs ps xs x),
-)
+loop-number-preserved c =
+    λ S h.
+    let (cs, ps, x) = h in
+    next-summed x (c.loop-number.invariant S h) c.loop-number-test.true (λ xs. c.needs_at-needs.ensures S xs h)
 
-pub returns : goal.returns
-returns c = λ S cs ps x. rw (rules-together S) at (all-summed (c.loop-number.invariant.1 S cs ps x) (omega (arith, subjects-many x, c.loop-number-test.false)))
+pub returns-2 : goal.returns-2
+returns-2 c =
+    λ S h.
+    let (cs, ps, x) = h in
+    let more = next-summed x (c.loop-number.invariant S h) c.loop-number-test.true (λ xs. c.needs_at-needs.ensures S xs h) in
+    let last : c.args.x.counts.methods + c.args.x.counts.steps ≤ c.loop-number.number = omega arith in
+    rw (rules-together S) at (all-summed more (omega (arith, subjects-many x, last)))

@@ -1,23 +1,20 @@
 use mathlib.Core.Path.{refl}
 use mathlib.Core.Option.{none, some}
+use mathlib.Core.Logic.{inl, inr}
 use Rattle.runs.specs.Rules.{total}
 use Rattle.verdict.specs.Verdict.{certificates_needed}
 use Rattle.values.specs.Values.{call_value}
 use Rattle.needs.proofs.Calls.{others, call-needed, step-needed, call-told}
 use Rattle.needs.proofs.step_needs.Goals as goal
 
-pub entry_asked-requires : goal.entry_asked-requires
-entry_asked-requires c = let (S, h) = c.requires in (S, call-told S _ _ c.in-Call.is h)
-
-pub entry_asked-requires-in-ChannelCall : goal.entry_asked-requires-in-ChannelCall
-entry_asked-requires-in-ChannelCall c = let (S, h) = c.requires in (S, call-told S _ _ c.in-ChannelCall.is h)
-
-pub entry_asked-requires-in-TwoOutcomeCall : goal.entry_asked-requires-in-TwoOutcomeCall
-entry_asked-requires-in-TwoOutcomeCall c = let (S, h) = c.requires in (S, call-told S _ _ c.in-TwoOutcomeCall.is h)
-
 pub returns-in-Event : goal.returns-in-Event
 unfolding certificates_needed total
-returns-in-Event c = λ S i h. step-needed S i c.in-Event.is (record { rules_are = refl; certificates_are = refl })
+returns-in-Event c =
+    λ S i h.
+    elim c.in-Event.is [
+      | inl (p, q, a, is) ↦ step-needed S i is (record { rules_are = refl; certificates_are = refl })
+      | inr (p, q, is) ↦ step-needed S i is (record { rules_are = refl; certificates_are = refl })
+    ]
 
 pub returns-in-Call : goal.returns-in-Call
 unfolding certificates_needed total
@@ -48,10 +45,6 @@ returns-in-TwoOutcomeCall c =
     step-needed S i is
     (call-needed S i t (c.entry_asked-in-TwoOutcomeCall.ensures S (call-told S _ _ is h))
     (c.call_needs-in-TwoOutcomeCall.ensures S i t (others S i t) (record { rules_are = refl; certificates_are = refl })))
-
-pub returns-in-Pass : goal.returns-in-Pass
-unfolding certificates_needed total
-returns-in-Pass c = λ S i h. step-needed S i c.in-Pass.is (record { rules_are = refl; certificates_are = refl })
 
 pub returns-in-Stop : goal.returns-in-Stop
 unfolding certificates_needed total

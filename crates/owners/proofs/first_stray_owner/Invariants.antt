@@ -1,11 +1,6 @@
--- Nothing is found among the points before i.
-use Prim.Native.Nat.{◌-◌}
-use lib.ListN.{length}
+-- Nothing is found among the points of the turns before.
 use Rattle.owners.proofs.Strays.{Onward}
 use Rattle.owners.proofs.first_stray_owner.Given as goal
 
-abbrev pub invariant-loop-at : goal.invariant-loop-at
-invariant-loop-at l = Onward l.s l.points l.count l.methods l.i
-
-abbrev pub decreases-loop-at : goal.decreases-loop-at
-decreases-loop-at l = length l.points - l.i
+abbrev pub invariant-loop-point : goal.invariant-loop-point
+invariant-loop-point l = Onward l.s l.methods l.point-items l.point-index

@@ -5,14 +5,14 @@ use Rattle.owners.proofs.owner_at.Goals as goal
 pub overflow_add-at : goal.overflow_add-at
 overflow_add-at c =
     let a = c.args in
-    omega (arith, owned_inside a.s.now a.at c.byte_at.ensures c.if-byte_at-eq-OWNED_POINT.true)
+    omega (arith, owned_inside a.s.now a.at c.byte_at.ensures c.if-byte_at.true)
 
-pub returns-then-byte_at-eq-OWNED_POINT : goal.returns-then-byte_at-eq-OWNED_POINT
-returns-then-byte_at-eq-OWNED_POINT c =
+pub returns-then-byte_at : goal.returns-then-byte_at
+returns-then-byte_at c =
     let a = c.args in
-    owned a.s.now a.at c.byte_at.ensures c.if-byte_at-eq-OWNED_POINT.true c.short_at.ensures
+    owned a.s.now a.at c.byte_at.ensures c.if-byte_at.true c.short_at.ensures
 
-pub returns : goal.returns
-returns c =
+pub returns-else-byte_at : goal.returns-else-byte_at
+returns-else-byte_at c =
     let a = c.args in
-    unowned a.s.now a.at c.byte_at.ensures c.if-byte_at-eq-OWNED_POINT.false
+    unowned a.s.now a.at c.byte_at.ensures c.if-byte_at.false

@@ -1,6 +1,8 @@
 -- Section after section: each hands on where reading stands, and what its table holds.
 use native.Mathlib.Omega.{arith}
 use borrow.Author.Rules.{rules}
+use Rattle.std.specs.Prelude.{Err}
+use mathlib.Core.Path.{◌≡◌}
 use Rattle.instrument.specs.Model.{model_with}
 use Rattle.reader.proofs.Whole.{refused-length, stops, certificates-le, concludes}
 use Rattle.reader.proofs.read_with.Goals as goal
@@ -14,22 +16,23 @@ read_alone-second-requires c = (search rules, omega (arith, c.if-limits-s.false,
 pub read_alone-third-requires : goal.read_alone-third-requires
 read_alone-third-requires c = (search rules, omega (arith, c.if-limits-s.false, c.requires.0))
 
-pub read_alone-fourth-requires : goal.read_alone-fourth-requires
-read_alone-fourth-requires c = (search rules, omega (arith, c.if-limits-s.false, c.requires.0))
+pub read_alone-requires : goal.read_alone-requires
+read_alone-requires c = (search rules, omega (arith, c.if-limits-s.false, c.requires.0))
 
 pub read_certificates-requires : goal.read_certificates-requires
 read_certificates-requires c = (
   c.requires.2,
   certificates-le c.if-limits-s.false c.nothing_counted.ensures c.read_conditions-first.ensures c.read_alone-second.ensures
-      c.read_alone-third.ensures c.read_alone-fourth.ensures c.in-Done.is,
+      c.read_alone-third.ensures c.read_alone.ensures c.in_ok-reached.was,
 )
 
-pub returns-in-Refused : goal.returns-in-Refused
-returns-in-Refused c =
+pub returns-in_err-reached : goal.returns-in_err-reached
+returns-in_err-reached c =
+    let e : c.from_residual.result ≡ Err c.in_err-reached.field-0.0 = search rules in
     stops c.if-limits-s.false c.nothing_counted.ensures c.read_conditions-first.ensures c.read_alone-second.ensures
-    c.read_alone-third.ensures c.read_alone-fourth.ensures c.in-Refused.is
+    c.read_alone-third.ensures c.read_alone.ensures e c.in_err-reached.was
 
-pub returns-in-Done : goal.returns-in-Done
-returns-in-Done c =
+pub returns : goal.returns
+returns c =
     concludes c.if-limits-s.false c.nothing_counted.ensures c.read_conditions-first.ensures c.read_alone-second.ensures
-    c.read_alone-third.ensures c.read_alone-fourth.ensures c.in-Done.is c.read_certificates.ensures
+    c.read_alone-third.ensures c.read_alone.ensures c.in_ok-reached.was c.read_certificates.ensures

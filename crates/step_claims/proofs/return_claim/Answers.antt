@@ -1,10 +1,9 @@
 use mathlib.Core.Path.{refl}
 use mathlib.Core.Option.{Option, some}
-use native.Mathlib.Omega.{arith}
 use Rattle.condition.specs.Condition.{Condition}
 use Rattle.sheet.specs.Sheet.{Outcome, CallStep, Sheet, trace, on_channel}
 use Rattle.claims.proofs.Says.{a_word}
-use Rattle.claims.proofs.Kth.{kth-named, kth-done}
+use Rattle.claims.proofs.Kth.{kth-named}
 use Rattle.step_claims.proofs.return_claim.Goals as goal
 
 -- what the call raises: a word of the trace, read on its channel
@@ -37,8 +36,3 @@ returns-in-3 c =
     let raised = a_word (c.on_channel.ensures s _ t.channel q.declared_is.trace_stands on) in
     kth-named c.in-3.is refl names.due_is
     (c.backward.ensures s _ _ (raised_by S t o) raised q.point_is.due_stands p.due_stands)
-
-pub returns-in_default : goal.returns-in_default
-returns-in_default c =
-    λ s S n i to t o names on p q.
-    kth-done (omega (arith, c.in_default.in_default-own.rest.1, c.in_default.in_default-own.rest.0.1, c.in_default.in_default-own.rest.0.0.1, c.in_default.in_default-own.rest.0.0.0.1))

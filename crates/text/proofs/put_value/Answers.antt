@@ -1,11 +1,15 @@
--- `text::put_value` meets its contract: the number goes behind the label, and has at most 20 digits.
-use native.Mathlib.Omega.{arith}
+use Rattle.std.proofs.Common.{ap, arith, length, length-append}
 use Rattle.text.proofs.Decimal.{twenty-digits}
-use Rattle.text.proofs.Put.{then}
 use Rattle.text.proofs.put_value.Goals as goal
 
 pub put_number-requires : goal.put_number-requires
-put_number-requires c = omega (arith, twenty-digits c.args.n c.ranges.n.fits)
+put_number-requires c = omega (arith, twenty-digits c.args.n c.ranges.n.fits, simp length-append at (ap length c.put_text.ensures))
 
-pub returns : goal.returns
-returns c = record { put = then c.put_text-next.ensures c.put_number.ensures; upper_bound = omega (arith, twenty-digits c.args.n c.ranges.n.fits) }
+pub returns-clause-upper_bound : goal.returns-clause-upper_bound
+returns-clause-upper_bound c =
+    omega (
+      arith,
+      twenty-digits c.args.n c.ranges.n.fits,
+      simp length-append at (ap length c.put_text.ensures),
+      simp length-append at (ap length c.put_number.ensures),
+    )

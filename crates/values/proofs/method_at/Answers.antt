@@ -1,34 +1,35 @@
-use mathlib.Core.Path.{sym, ◌∙◌}
+use mathlib.Core.Path.{refl}
+use Rattle.kinds.specs.declared.Kind.TheVariants.{WithBody, Primitive, TwoOutcomePrimitive, TwoOutcomeBody}
+use Rattle.format.proofs.Laws.{byte-of, not-kind}
 use Rattle.values.proofs.MethodKinds.{built, failing_is, failed-primitive, failed-body, not-failing-8, not-failing, no-body-8, no-body-15, body-16, body-other}
 use Rattle.values.proofs.method_at.Goals as goal
 
-pub returns-then-kind-eq-PRIMITIVE : goal.returns-then-kind-eq-PRIMITIVE
-returns-then-kind-eq-PRIMITIVE c =
+pub returns-in-Primitive : goal.returns-in-Primitive
+returns-in-Primitive c =
     let a = c.args in
-    let e = sym c.byte_at-kind.ensures ∙ c.if-kind-eq-PRIMITIVE.true in
+    let e = byte-of a.s.now a.at WithBody c.kind_at.result c.kind_at.ensures c.unwrap_or.ensures Primitive c.in-Primitive.is refl in
     built c.declaration_at-declaration.ensures (not-failing-8 a.s.now a.at e) (no-body-8 a.s.now a.at e)
 
-pub returns-then-kind-eq-TWO_OUTCOME_PRIMITIVE : goal.returns-then-kind-eq-TWO_OUTCOME_PRIMITIVE
-returns-then-kind-eq-TWO_OUTCOME_PRIMITIVE c =
+pub returns-in-TwoOutcomePrimitive : goal.returns-in-TwoOutcomePrimitive
+returns-in-TwoOutcomePrimitive c =
     let a = c.args in
-    let e = sym c.byte_at-kind.ensures ∙ c.if-kind-eq-TWO_OUTCOME_PRIMITIVE.true in
+    let e = byte-of a.s.now a.at WithBody c.kind_at.result c.kind_at.ensures c.unwrap_or.ensures TwoOutcomePrimitive c.in-TwoOutcomePrimitive.is refl in
     let failing = failing_is a.s.now a.at c.failed_at.ensures (failed-primitive a.s.now a.at e) in
     built c.declaration_at-declaration.ensures failing (no-body-15 a.s.now a.at e)
 
-pub returns-then-kind-eq-TWO_OUTCOME_BODY : goal.returns-then-kind-eq-TWO_OUTCOME_BODY
-returns-then-kind-eq-TWO_OUTCOME_BODY c =
+pub returns-in-TwoOutcomeBody : goal.returns-in-TwoOutcomeBody
+returns-in-TwoOutcomeBody c =
     let a = c.args in
-    let e = sym c.byte_at-kind.ensures ∙ c.if-kind-eq-TWO_OUTCOME_BODY.true in
+    let e = byte-of a.s.now a.at WithBody c.kind_at.result c.kind_at.ensures c.unwrap_or.ensures TwoOutcomeBody c.in-TwoOutcomeBody.is refl in
     let failing = failing_is a.s.now a.at c.failed_at-declared.ensures (failed-body a.s.now a.at e) in
     built c.declaration_at-declaration.ensures failing
     (body-16 a.s.now a.at c.body_at-body.ensures.0 c.body_at-body.ensures.1 e c.short_at-exit.ensures)
 
-pub returns : goal.returns
-returns c =
+pub returns-in_default : goal.returns-in_default
+returns-in_default c =
     let a = c.args in
-    let is = c.byte_at-kind.ensures in
-    let body = c.body_at-body.ensures in
+    let body = c.body_at.ensures in
+    let other = not-kind a.s.now a.at WithBody c.kind_at.result c.kind_at.ensures c.unwrap_or.ensures in
     built c.declaration_at-declaration.ensures
-    (not-failing a.s.now a.at (λ e. c.if-kind-eq-TWO_OUTCOME_PRIMITIVE.false (is ∙ e)) (λ e. c.if-kind-eq-TWO_OUTCOME_BODY.false (is ∙ e)))
-    (body-other a.s.now a.at body.0 body.1
-    (λ e. c.if-kind-eq-PRIMITIVE.false (is ∙ e)) (λ e. c.if-kind-eq-TWO_OUTCOME_PRIMITIVE.false (is ∙ e)) (λ e. c.if-kind-eq-TWO_OUTCOME_BODY.false (is ∙ e)))
+    (not-failing a.s.now a.at (other TwoOutcomePrimitive c.in_default.not-TwoOutcomePrimitive) (other TwoOutcomeBody c.in_default.not-TwoOutcomeBody))
+    (body-other a.s.now a.at body.0 body.1 (other Primitive c.in_default.not-Primitive) (other TwoOutcomePrimitive c.in_default.not-TwoOutcomePrimitive) (other TwoOutcomeBody c.in_default.not-TwoOutcomeBody))

@@ -10,8 +10,11 @@ loop-q-init c = holders-none c.args.rows.now c.args.n c.args.k
 
 pub loop-q-preserved : goal.loop-q-preserved
 loop-q-preserved c =
-    holders-more c.loop-q.invariant c.loop-q-test.true
+    holders-more c.loop-q.invariant (omega arith)
     (c.chosen-found.ensures ∙ ap₂ (λ (x : Bool) (y : ℕ). cond x y 0) c.member.ensures c.bit.ensures)
 
-pub returns : goal.returns
-returns c = λ q h l. c.loop-q.invariant.below q h (omega arith)
+pub returns-2 : goal.returns-2
+returns-2 c = λ q h l.
+    let more = holders-more c.loop-q.invariant (omega arith)
+    (c.chosen-found.ensures ∙ ap₂ (λ (x : Bool) (y : ℕ). cond x y 0) c.member.ensures c.bit.ensures) in
+    more.below q h (omega arith)

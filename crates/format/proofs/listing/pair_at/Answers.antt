@@ -5,4 +5,4 @@ use Rattle.format.proofs.listing.pair_at.Goals as goal
 
 pub returns : goal.returns
 unfolding byte_at
-returns c = fields-are _ _ c.index.ensures c.set_inside.ensures
+returns c = fields-are _ _ c.from.ensures c.set_inside.ensures

@@ -1,6 +1,7 @@
 -- `symbols::symbol_bytes` meets its contract: a leaf and a long leaf have a body, and the other symbols none.
 use mathlib.Core.Path.{refl}
 use native.Mathlib.Omega.{arith}
+use Rattle.std.proofs.Common.{rules}
 use Rattle.format.proofs.SymbolKinds.{behind-kind, behind-other}
 use Rattle.format.proofs.symbols.symbol_bytes.Goals as goal
 
@@ -11,4 +12,4 @@ pub returns-in-21 : goal.returns-in-21
 returns-in-21 c = behind-kind _ _ 21 c.in-21.is c.byte_at.ensures refl (omega arith)
 
 pub returns-in_default : goal.returns-in_default
-returns-in_default c = behind-other _ _ c.in_default.in_default-own.rest.0.1 c.in_default.in_default-own.rest.1 c.byte_at.ensures
+returns-in_default c = search (rules, behind-other)

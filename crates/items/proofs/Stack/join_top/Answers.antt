@@ -1,0 +1,12 @@
+-- `join_top` meets its contract.
+use Rattle.std.proofs.Common.{rules, ◌≡◌, ◌&&◌, ◌-◌, refl}
+use Rattle.items.specs.Stack.{item_at}
+use Rattle.items.proofs.Turns.{join-top}
+use Rattle.items.proofs.Stack.join_top.Goals as goal
+
+pub returns-clause-turned : goal.returns-clause-turned
+returns-clause-turned c =
+    let x = c.args.self.now in
+    let d = c.args.depth in
+    let e : c.if-a.a ≡ ((item_at x (d - 1 - 1)).nullable && (item_at x (d - 1)).nullable) = search rules in
+    λ m few. join-top (search rules) c.requires.1 c.link.ensures (rw (e, c.chosen.ensures, c.chosen-2.ensures) refl) few

@@ -1,0 +1,7 @@
+-- `push_empty` meets its contract.
+use Rattle.std.proofs.Common.{rules}
+use Rattle.items.proofs.Turns.{push-empty}
+use Rattle.items.proofs.Stack.push_empty.Goals as goal
+
+pub returns : goal.returns
+returns c = λ p m. push-empty (search rules) c.requires m

@@ -1,7 +1,0 @@
--- `line::answer_line` meets its contract.
-use mathlib.Core.Path.{refl}
-use Rattle.line.proofs.Whole.{reads}
-use Rattle.line.proofs.answer_line.Goals as goal
-
-pub returns : goal.returns
-returns c = reads refl c.put_answer-size.ensures
