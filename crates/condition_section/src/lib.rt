@@ -48,7 +48,7 @@ pub fn read_conditions(
         begun = condition_step(begun, kind, n, at)?;
         if kind.counts() {
             table[n] = start as u32;
-            tally = past(tally, Section::Conditions);
+            tally = past(tally, Section::Conditions as u8);
             start = next;
         }
         at = next;

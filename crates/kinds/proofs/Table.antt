@@ -9,7 +9,7 @@ use borrow.Author.Tests.{eqb-true, ne_eqb}
 use Rattle.sheet.specs.Kind.{conditions, points, methods, certificates, a-set, a-long-set, a-place, Role, symbol, a_pair, counts, edition, Kind, a_kind, kinds, kind_of, section_of, widths, body_length}
 use Rattle.sheet.specs.Reading.{in_condition, all_exist}
 use Rattle.sheet.proofs.Kind.{◌and◌, Numbered, numbered}
-use Rattle.kinds.specs.Kinds.{last_kind, primitive_kind, body_kind}
+use Rattle.kinds.specs.Kinds.{last_kind, takes_items, primitive_kind, body_kind}
 
 -- P k of the row of each kind k
 pub by_rows : (P : ℕ → Kind → Type 0) → Numbered P kinds (a_kind 0 counts []) → (k : ℕ) → P k (kind_of k)
@@ -49,6 +49,17 @@ past-conditions =
 
     later : {n : ℕ} {A B C D : Type 0} → A → B → C → D → 2 ≤ suc (suc n)
     later low high out ne = omega arith
+
+-- no kind but 3, 4 and 5 takes items
+pub none-taken : (k : ℕ) → (k ≡ 3 → ⊥) → (k ≡ 4 → ⊥) → (k ≡ 5 → ⊥) → takes_items (kind_of k).role ≡ 0
+none-taken =
+    by_rows (λ k x. (k ≡ 3 → ⊥) → (k ≡ 4 → ⊥) → (k ≡ 5 → ⊥) → takes_items x.role ≡ 0)
+    (same and same and same and (λ a b c. absurd (a refl)) and (λ a b c. absurd (b refl)) and (λ a b c. absurd (c refl))
+    and same and same and same and same and same and same and same and same and same and same and same and same and same and same and same
+    and same and same and (λ i. same))
+  where
+    same : {A B C : Type 0} → A → B → C → ◌≡◌ {A = ℕ} 0 0
+    same a b c = refl
 
 -- the symbols and the mark of the edition are of section 1, the pairs of section 5
 abbrev pub Suits : ℕ → Role → Type 0

@@ -1,6 +1,8 @@
-// Tests of a byte where a kind may stand, as that of a method in a table of offsets: of a byte that stands for no kind they are false.
+// What is asked of a byte where a kind may stand, as that of a method in a table of offsets: of a byte that stands for no kind the tests are false, and it
+// takes no items.
 ghost use Rattle.std.specs.Prelude.{◌≡◌};
-ghost use Rattle.kinds.specs.Kinds.{primitive_kind, two_outcome_kind};
+ghost use Rattle.sheet.specs.Kind.{kind_of};
+ghost use Rattle.kinds.specs.Kinds.{takes_items, primitive_kind, two_outcome_kind};
 
 use crate::Kind;
 
@@ -20,4 +22,13 @@ pub fn has_two_outcomes(byte: u8) -> bool
         return false;
     };
     kind.has_two_outcomes()
+}
+
+pub fn items_taken(byte: u8) -> usize
+    ensures { result ≡ takes_items (kind_of byte).role }
+{
+    let Ok(kind) = Kind::try_from(byte) else {
+        return 0;
+    };
+    kind.items_taken()
 }

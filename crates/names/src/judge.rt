@@ -33,13 +33,13 @@ pub fn judge(
     if first && kind.is_primitive() {
         return Err(Refusal::NoFirstBody(at));
     }
-    if !outcomes_fit(s, at, kind, methods) {
+    if !outcomes_fit(s, at, kind as u8, methods) {
         return Err(Refusal::WrongOutcomes(at));
     }
     if !owners_fit(s, at, kind, tally.methods, points) {
         return Err(Refusal::WrongOwner(at));
     }
-    if !channel_fits(s, at, kind, methods) {
+    if !channel_fits(s, at, kind as u8, methods) {
         return Err(Refusal::WrongChannel(at));
     }
     Ok(())

@@ -56,7 +56,8 @@ pub fn read_alone(
         → Filled (model_with limits) s.now o (suc (section_number section)) result (section_number section) u table.old table.new }
 {
     let Reached { mut at, mut tally } = reached?;
-    let first = tally.count(section);
+    let number = section.number();
+    let first = tally.count(number);
     while at < s.len() {
         let Some(Record { kind, next }) = record_at(s, limits.kinds, at) else {
             return Err(refusal_at(s, limits.kinds, at));
@@ -71,14 +72,14 @@ pub fn read_alone(
         if !stop_fits(s, kind) {
             return Err(Refusal::StopInOldSheet(at));
         }
-        let n = tally.count(section);
+        let n = tally.count(number);
         if limit <= n {
             return Err(Refusal::OverLimit(at));
         }
         let events = limits.events;
         judge(s, at, kind, n == first, tally, events, points, methods)?;
         table[n] = at as u32;
-        tally = past(tally, section);
+        tally = past(tally, number);
         at = next;
     }
     Ok(Reached { at, tally })
@@ -124,7 +125,7 @@ pub fn read_certificates(
         let ends = kind.counts();
         inside = !ends;
         if ends {
-            tally = past(tally, Section::Certificates);
+            tally = past(tally, Section::Certificates as u8);
         }
         at = next;
     }

@@ -16,7 +16,7 @@ use Rattle.format.specs.declared.Refusal.{Refusal}
 use Rattle.format.proofs.Laws.{Stood, stood, Refuses, refused}
 use Rattle.instrument.specs.Model.{model_with}
 use Rattle.refusals.specs.Editions.{stop_fits}
-use Rattle.tally.specs.Tally.{count_of}
+use Rattle.tally.specs.Tally.{count_of, tally_after}
 use Rattle.std.specs.Prelude.{Result, Err}
 use Rattle.sections.specs.declared.Reached.{Reached}
 use Rattle.sections.specs.Sections.{Told, done, Filled, NamedListed}
@@ -86,12 +86,16 @@ returns-then-not-stop_fits c =
 stops : (c : After-count-n) → stop_fits c.args.s.now (kind_number c.in-Some.field-0.kind) ≡ true
 stops c = sym c.stop_fits.ensures ∙ c.if-not-stop_fits.false
 
+-- how many of the section are counted
+counted : (c : After-count-n) → c.count-n.result ≡ count_of c.loop-at.tally (section_number c.args.section)
+counted c = c.count-n.ensures ∙ ap (count_of c.loop-at.tally) c.number-number.ensures
+
 pub returns-then-limit-n : goal.returns-then-limit-n
 returns-then-limit-n c =
     λ o u told none listed.
     let way = goal.at.returns-then-limit-n c in
     over-limit c.requires.0 (kept way.In-loop-at o u told none listed) c.loop-at-test.true (standing way.In-Some) (same way.After-stop_fits)
-    (stops way.After-count-n) (le-leb c.args.limit (count_of c.loop-at.tally (section_number c.args.section)) (omega (arith, c.if-limit-n.true, c.count-n.ensures)))
+    (stops way.After-count-n) (le-leb c.args.limit (count_of c.loop-at.tally (section_number c.args.section)) (omega (arith, c.if-limit-n.true, counted way.After-count-n)))
 
 pub judge-requires : goal.judge-requires
 judge-requires c =
@@ -102,7 +106,7 @@ judge-requires c =
 
 -- there is room for one more
 within : (c : Else-limit-n) → leb c.args.limit (count_of c.loop-at.tally (section_number c.args.section)) ≡ false
-within c = lt-leb c.args.limit (count_of c.loop-at.tally (section_number c.args.section)) (omega (arith, c.if-limit-n.false, c.count-n.ensures))
+within c = lt-leb c.args.limit (count_of c.loop-at.tally (section_number c.args.section)) (omega (arith, c.if-limit-n.false, c.count-n.ensures ∙ ap (count_of c.loop-at.tally) c.number-number.ensures))
 
 -- .. in the table, too
 free : (c : Else-limit-n) → c.count-n.result < length c.loop-at.table
@@ -115,7 +119,7 @@ returns-in_err-judge c =
     let way = goal.at.returns-in_err-judge c in
     misnamed c.requires.0 (kept way.In-loop-at o u told none listed) c.loop-at-test.true (standing way.In-Some) (same way.After-stop_fits) (stops way.After-count-n)
     (within way.Else-limit-n) (given way.After-count-first o u told).1 none c.args.points.now c.args.methods.now listed
-    c.count-n.ensures c.count-first.ensures c.judge.ensures e c.in_err-judge.was
+    (c.count-n.ensures ∙ ap (count_of c.loop-at.tally) c.number-number.ensures) (c.count-first.ensures ∙ ap (count_of c.in_ok-at.field-0.tally) c.number-number.ensures) c.judge.ensures e c.in_err-judge.was
 
 pub loop-at-smaller : goal.loop-at-smaller
 loop-at-smaller c =
@@ -129,8 +133,8 @@ loop-at-preserved c =
       λ o u told none listed.
           again c.requires.0 (c.loop-at.invariant.1 o u told none listed) c.loop-at-test.true (standing way.In-Some) (same way.After-stop_fits) (stops way.After-count-n)
           (within way.Else-limit-n) told.1 none c.args.points.now c.args.methods.now listed
-          c.count-n.ensures c.count-first.ensures c.judge.ensures c.in_ok-judge.was
-          (free way.Else-limit-n) c.past-tally.ensures,
+          (c.count-n.ensures ∙ ap (count_of c.loop-at.tally) c.number-number.ensures) (c.count-first.ensures ∙ ap (count_of c.in_ok-at.field-0.tally) c.number-number.ensures) c.judge.ensures c.in_ok-judge.was
+          (free way.Else-limit-n) (c.past-tally.ensures ∙ ap (tally_after c.loop-at.tally) c.number-number.ensures),
     )
 
 pub returns : goal.returns
