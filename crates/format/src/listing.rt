@@ -29,12 +29,17 @@ pub fn pair_at(s: &[u8], at: usize) -> Pair
     }
 }
 
-// The pair at an offset, if one stands there. One test serves for all six bytes.
-pub fn listed_at(s: &[u8], at: usize) -> Option<Pair>
+// The pair at an offset; where none stands, the fields that would be its own. One test serves for all six bytes.
+pub fn listed_at(s: &[u8], at: usize) -> Result<Pair, Pair>
     ensures { result ≡ listed_at s.now at }
 {
-    if at < s.len().saturating_sub(5) && s[at] == Kind::Pair as u8 {
-        return Some(pair_at(s, at));
+    if at < s.len().saturating_sub(5) {
+        let pair = pair_at(s, at);
+        return if s[at] == Kind::Pair as u8 {
+            Ok(pair)
+        } else {
+            Err(pair)
+        };
     }
-    None
+    Err(Pair { place: 0, set: 0 })
 }

@@ -8,7 +8,8 @@ use lib.Dec.{T, eqb, ltb}
 use lib.ListN.{length, drop, length-drop}
 use lib.Seq.{get_or-drop}
 use borrow.Author.Tests.{lt-ltb, le-ltb, ltb-true, ltb-false}
-use Rattle.std.specs.Prelude.{Option, None, Some}
+use Rattle.std.specs.Prelude.{None, Some, Result, Ok, Err}
+use Rattle.std.specs.Result.{result_ok}
 use Rattle.certificate.specs.Certificate.{Pair, Certificate, pair_of}
 use Rattle.sheet.specs.Record.{Bytes, byte_at, next_at}
 use Rattle.sheet_laws.specs.AtOffset.{set_at, pair_at, has_pair, pairs_on, certificate_at}
@@ -186,14 +187,14 @@ pub read_is : (s : List ℕ) (i : ℕ) {p : format.Pair} → pair_is p ≡ pair_
 read_is s i h l = pair_read s i l ∙ sym h
 
 module _ (s : List ℕ) (i : ℕ) (l : i ≤ length (certificate_at s 0)) where
-  a-pair-is : {p : format.Pair} → Some p ≡ listed_at s (6 * i) → Some p ≡ pair_found (certificate_at s 0) i
+  a-pair-is : {p : format.Pair} → Ok p ≡ listed_at s (6 * i) → Some p ≡ pair_found (certificate_at s 0) i
   unfolding pair_found
   a-pair-is {p} h =
       let there = listed-there s (6 * i) h in
       let k = pair-there s i l there.0 in
       rw (lt-ltb i (length (certificate_at s 0)) k) (ap (λ (p : Pair). Some (pair_value p)) (sym (read_is s i there.1 k)))
 
-  the-end-is : None ≡ listed_at s (6 * i) → None ≡ pair_found (certificate_at s 0) i
+  the-end-is : {p : format.Pair} → Err p ≡ listed_at s (6 * i) → None ≡ pair_found (certificate_at s 0) i
   unfolding pair_found
   the-end-is h = go (ltb i (length (certificate_at s 0))) refl
     where
@@ -204,9 +205,9 @@ module _ (s : List ℕ) (i : ℕ) (l : i ≤ length (certificate_at s 0)) where
           absurd (subst T (sym there ∙ listed-none s (6 * i) h) tt)
 
   -- up to the last pair one stands there, and then something else
-  pub found-is : {e : Option format.Pair} → e ≡ listed_at s (6 * i) → e ≡ pair_found (certificate_at s 0) i
-  found-is {e = Some p} h = a-pair-is h
-  found-is {e = None} h = the-end-is h
+  pub found-is : {e : Result format.Pair format.Pair} → e ≡ listed_at s (6 * i) → result_ok e ≡ pair_found (certificate_at s 0) i
+  found-is {e = Ok p} h = a-pair-is h
+  found-is {e = Err p} h = the-end-is h
 
 -- and what that says of the certificate
 module _ (c : Certificate) (i : ℕ) where

@@ -21,15 +21,15 @@ pub fn part_from<'a>(s: &'a [u8], from: usize) -> &'a [u8]
     &s[from.min(s.len())..]
 }
 
-// The pair at an offset of the certificate, if one stands there.
-pub fn listed_of<'a>(c: Certificate<'a>, at: usize) -> Option<Pair>
+// The pair at an offset of the certificate; where none stands, the fields that would be its own.
+pub fn listed_of<'a>(c: Certificate<'a>, at: usize) -> Result<Pair, Pair>
     ensures { result ≡ listed_at c.entry.pairs.now at }
 {
     listed_at(c.pairs, at)
 }
 
 // The same for callers that have the part and no struct.
-pub fn listed_in(pairs: &[u8], at: usize) -> Option<Pair>
+pub fn listed_in(pairs: &[u8], at: usize) -> Result<Pair, Pair>
     ensures { result ≡ listed_at pairs.now at }
 {
     listed_of(Certificate { pairs }, at)
@@ -40,7 +40,7 @@ pub fn pair_in(pairs: &[u8], i: usize) -> Option<Pair>
     requires { i ≤ length (certificate_at pairs.now 0) }
     ensures { result ≡ pair_found (certificate_at pairs.now 0) i }
 {
-    listed_in(pairs, PAIR_BYTES * i)
+    listed_in(pairs, PAIR_BYTES * i).ok()
 }
 
 // Pair number i, which the certificate has: neither its kind nor the end need be looked at.
