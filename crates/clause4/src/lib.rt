@@ -1,7 +1,7 @@
 #![tactic(auto)]
 // Clause 4 of a pair: the events that are missing at each follower of its place, until a pair of that follower serves them. The table `missing`
 // has a row for each place; only the rows of the places `missers` count.
-ghost use Rattle.std.specs.Prelude.{◌≡◌, cond, ◌≤◌, ◌<◌, ltb, IfOk};
+ghost use Rattle.std.specs.Prelude.{◌≡◌, cond, ◌≤◌, ◌<◌, ltb, length};
 ghost use Rattle.std.specs.Int.Bits.{bit_and};
 ghost use Rattle.bits.specs.Bits.{has};
 ghost use Rattle.certificate.specs.Certificate.{in_order};
@@ -20,6 +20,14 @@ pub struct Ask {
     pub pair: usize,
     pub followers: u64,
     pub onward: u64,
+    pub start: usize,
+}
+
+// What is found of a pair, and the number of the pair at which the search for the next one is to start, beside a fault too. The program chooses that
+// number: what is found is the same for each.
+#[derive(Clone, Copy)]
+pub struct Turned {
+    pub finding: Result<(), Fault>,
     pub start: usize,
 }
 
@@ -129,23 +137,20 @@ pub fn first_missing(scope: Scope, missers: u64, i: usize, missing: &[u64; 64]) 
     })
 }
 
-// Clause 4 of a pair: its fault, or the pair at which the search for the next one is to start. That is the lowest pair that served this one, or the
-// number of pairs where none did: what a pair needs often stands near what the pair before it needed. What is found is the same wherever a search
-// starts.
-pub fn clause4(
-    search: &Search,
-    ask: Ask,
-    lsets: &[u64; 64],
-    missing: &mut [u64; 64],
-) -> Result<usize, Fault>
+// Clause 4 of a pair. The search for the next one is to start at the lowest pair that served this one: what a pair needs often stands near what the
+// pair before it needed. What is found is the same wherever a search starts.
+pub fn clause4(search: &Search, ask: Ask, lsets: &[u64; 64], missing: &mut [u64; 64]) -> Turned
     requires { Scoped search.now lsets.now }
-    ensures finding { finding_of result ≡ in_order search.now.scope.events (clause4_by_tables (certificate_of search.now) search.now.scope.n
+    ensures finding { finding_of result.finding ≡ in_order search.now.scope.events (clause4_by_tables (certificate_of search.now) search.now.scope.n
         ask.pair ask.followers lsets.now search.now.scope.m ask.onward search.now.sets.now) }
-    ensures hint { IfOk result (Hint (certificate_of search.now) ask.onward (bit_and ask.followers search.now.scope.alive)) }
+    ensures rows { length missing.new ≡ 64 }
+    ensures hint { Hint (certificate_of search.now) ask.onward (bit_and ask.followers search.now.scope.alive) result.start }
 {
     let wanted = ask.followers & search.scope.alive;
     want(wanted, lsets, below(search.scope.events), missing);
     let rest = serve(search, ask, wanted, missing);
-    first_missing(search.scope, rest.missers, ask.pair, missing)?;
-    Ok(rest.lowest)
+    Turned {
+        finding: first_missing(search.scope, rest.missers, ask.pair, missing),
+        start: rest.lowest,
+    }
 }

@@ -1,6 +1,6 @@
 #![tactic(auto)]
 // Clause 4 of a pair, without a search where an earlier one says that it holds: many pairs of a certificate have the same followers.
-ghost use Rattle.std.specs.Prelude.{◌≡◌, ◌&&◌, ◌≤◌, eqb, IfOk};
+ghost use Rattle.std.specs.Prelude.{◌≡◌, ◌&&◌, ◌≤◌, eqb, length, IfOk};
 ghost use Rattle.std.specs.Int.Bits.{bit_and};
 ghost use Rattle.certificate.specs.Certificate.{in_order};
 ghost use Rattle.faults.specs.Fault.{finding_of};
@@ -45,6 +45,7 @@ pub fn clause4_once(
     requires start_le_count { (ask.start ≤ search.now.scope.count) × AllServed search.now lsets.now known.followers known.onward }
     ensures finding { finding_of result ≡ in_order search.now.scope.events (clause4_by_tables (certificate_of search.now) search.now.scope.n
         ask.pair ask.followers lsets.now search.now.scope.m ask.onward search.now.sets.now) }
+    ensures rows { length missing.new ≡ 64 }
     ensures next { IfOk result (Next search.now lsets.now) }
 {
     let start = ask.start;
@@ -53,9 +54,10 @@ pub fn clause4_once(
     if covers(known, followers, onward) {
         return Ok(Onward { start, known });
     }
-    let start = clause4(search, ask, lsets, missing)?;
+    let turned = clause4(search, ask, lsets, missing);
+    turned.finding?;
     Ok(Onward {
-        start,
+        start: turned.start,
         known: Known { followers, onward },
     })
 }

@@ -1,6 +1,7 @@
 -- `clause4_once` meets its contract: what is known to be served says that clause 4 holds (`Covered`), or the search finds what it finds.
-use mathlib.Core.Path.{sym, ◌∙◌}
+use mathlib.Core.Path.{sym, ap, ◌∙◌}
 use native.Mathlib.Omega.{arith}
+use Rattle.faults.specs.Fault.{finding_of}
 use Rattle.known.proofs.Covered.{served-of, of-served, served-less}
 use Rattle.known.proofs.clause4_once.Goals as goal
 
@@ -14,7 +15,7 @@ returns-then-covers-clause-finding c =
 pub returns-clause-next : goal.returns-clause-next
 returns-clause-next c =
     let a = c.args in
-    let found = c.in_ok-start.ensures in record {
-      bound = omega (arith, found.hint.bound, c.requires.scoped.searched.count_is);
-      served = served-of a.search.now a.lsets.now a.ask.followers a.ask.onward a.ask.pair (sym found.finding);
+    let turned = c.clause4-turned.ensures in record {
+      bound = omega (arith, turned.hint.bound, c.requires.scoped.searched.count_is);
+      served = served-of a.search.now a.lsets.now a.ask.followers a.ask.onward a.ask.pair (sym turned.finding ∙ ap finding_of (c.in_ok-turned.was));
     }
