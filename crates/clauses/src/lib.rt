@@ -9,6 +9,7 @@ ghost use Rattle.sheet_laws.specs.AtOffset.{certificate_at};
 ghost use Rattle.faults.specs.Fault.{finding_of};
 ghost use Rattle.format.specs.Pairs.{pair_is};
 ghost use Rattle.places.specs.Tables.{Tables};
+ghost use Rattle.meets.specs.Meets.{table_rows};
 ghost use Rattle.looks.specs.Looks.{certificate_of};
 ghost use Rattle.known.specs.Known.{Next};
 ghost use Rattle.clauses.specs.Clauses.{Spans, each_pair, PlacesOf, SidesAre, Ready};
@@ -99,6 +100,7 @@ pub fn pair_fault(task: &Task, turn: Turn, missing: &mut [u64; 64]) -> Result<On
     requires next_2 { Next task.now.search task.now.left.now.sets turn.begin }
     ensures finding { (l g : Condition) → SidesAre task.now l g → finding_of result ≡ pair_finding task.now.search.scope.events l g (certificate_of task.now.search) turn.number (pair_is turn.pair) }
     ensures next { IfOk result (Next task.now.search task.now.left.now.sets) }
+    ensures rows { length missing.new ≡ 64 }
 {
     let number = turn.number;
     let pair = turn.pair;
@@ -129,6 +131,7 @@ pub fn in_turn(task: &Task, missing: &mut [u64; 64]) -> Result<usize, Fault>
     requires { Ready task.now }
     ensures finding { (l g : Condition) → SidesAre task.now l g → finding_of result ≡ in_order (length (certificate_of task.now.search)) (each_pair task.now.search.scope.events l g (certificate_of task.now.search)) }
     ensures bytes { IfOk result (λ n. n ≡ 6 * length (certificate_of task.now.search) + 1) }
+    ensures rows { length missing.new ≡ 64 }
 {
     let count = task.search.scope.count;
     let mut begin = Onward {
@@ -161,6 +164,7 @@ pub fn first_fault<'a>(
     requires { t.events ≤ 64 }
     ensures finding { (l g : Condition) → Tables l t.left_side left.now.follow left.now.sets → Tables g t.right_side right.now.follow right.now.sets → finding_of result ≡ check t.events l g (certificate_at pairs.now 0) }
     ensures bytes { IfOk result (Spans pairs.now) }
+    ensures room { (length room.new.missing ≡ 64) × (length room.new.rows ≡ table_rows) }
 {
     if !clause1(pairs) {
         return Err(fault_of(1, 0));

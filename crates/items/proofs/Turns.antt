@@ -14,7 +14,7 @@ use Rattle.format.specs.declared.symbols.Symbol.TheVariants.{Leaf, Empty, Join, 
 use Rattle.items.specs.declared.Item.{Item}
 use Rattle.items.specs.declared.Stack.{Stack}
 use Rattle.items.specs.declared.Places.{Places}
-use Rattle.items.specs.Stack.{ItemIs, RowsAre, item_at, Stacked, bottom, above, Makes, a_leaf, an_empty, a_join, an_either, a_star, Turned}
+use Rattle.items.specs.Stack.{ItemIs, RowsAre, item_at, Stacked, bottom, above, Roomy, Makes, a_leaf, an_empty, a_join, an_either, a_star, Turned}
 use Rattle.items.proofs.Behind.{behind-low}
 use Rattle.items.proofs.Items.{item-same, rows_same, item-leaf, rows-leaf, item-empty, rows_empty, item-join, rows_join, item-either, rows-either, item-star, rows-star}
 
@@ -43,9 +43,36 @@ module _ {x x' : Stack} {p p' : Places} where
 kept : {X : Type 0} (l : List X) (i k : ℕ) (a d : X) → k < i → get_or (set l i a) k d ≡ get_or l k d
 kept l i k a d h = get_or-set_other l i k a d (λ (e : k ≡ i). omega arith)
 
--- the stack with an item at a place
+-- the stack with an item at a place, and with the item there made nullable
 abbrev pub with_item : Stack → ℕ → Item → Stack
-with_item x i a = record { items = set x.items i a }
+with_item x i a = record { nullable = set x.nullable i a.nullable; first = set x.first i a.first; last = set x.last i a.last }
+
+abbrev pub with_null : Stack → ℕ → Stack
+with_null x i = record x { nullable = set x.nullable i true }
+
+-- an item from its fields
+abbrev item_of : Bool → ℕ → ℕ → Item
+item_of n f l = record { nullable = n; first = f; last = l }
+
+item-equal : {n n' : Bool} {f f' l l' : ℕ} → n ≡ n' → f ≡ f' → l ≡ l' → item_of n f l ≡ item_of n' f' l'
+item-equal e f l = rw (e, f, l) refl
+
+-- what is written stands there, and the items below it stay
+module _ (x : Stack) (i : ℕ) where
+  module _ (a : Item) where
+    item-with : Roomy x → i < 50 → item_at (with_item x i a) i ≡ a
+    item-with room h =
+        item-equal (get_or-set_same x.nullable i _ _ (omega (arith, room.0))) (get_or-set_same x.first i _ _ (omega (arith, room.1)))
+        (get_or-set_same x.last i _ _ (omega (arith, room.2)))
+
+    item-kept : (k : ℕ) → k < i → item_at (with_item x i a) k ≡ item_at x k
+    item-kept k h = item-equal (kept x.nullable i k _ _ h) (kept x.first i k _ _ h) (kept x.last i k _ _ h)
+
+  null-with : Roomy x → i < 50 → item_at (with_null x i) i ≡ record (item_at x i) { nullable = true }
+  null-with room h = item-equal (get_or-set_same x.nullable i _ _ (omega (arith, room.0))) refl refl
+
+  null-kept : (k : ℕ) → k < i → item_at (with_null x i) k ≡ item_at x k
+  null-kept k h = item-equal (kept x.nullable i k _ _ h) refl refl
 
 -- The topmost item ------------------------------------------------------------------------------------------------------
 
@@ -80,7 +107,7 @@ unfolding leaves
 empty-leaves = refl
 
 -- a stack and places, with as many items and rows as they have in the code
-module _ {x : Stack} {p : Places} (room : length x.items ≡ 50) where
+module _ {x : Stack} {p : Places} (room : Roomy x) where
   module _ {d : ℕ} (h : d < 50) where
     pub push-leaf : (t m : ℕ) {f : ℕ} → length p.follow ≡ 64 → length p.sets ≡ 64 → m < 62 → f ≡ 2 ^ (m + 1)
         → Turned (Leaf t) x p (with_item x d (record { nullable = false; first = f; last = f }))
@@ -98,7 +125,7 @@ module _ {x : Stack} {p : Places} (room : length x.items ≡ 50) where
             above {d' = d + 1 - 0} {m' = m + 1} {r = leaf t}
             (agree
             (record {
-              items = λ k y. kept x.items d k _ _ y;
+              items = λ k y. item-kept x d _ k y;
               rows = λ q y. kept p.follow (m + 1) q 0 0 (omega arith);
               sets = λ q y. kept p.sets (m + 1) q t 0 (omega arith);
             })
@@ -106,7 +133,7 @@ module _ {x : Stack} {p : Places} (room : length x.items ≡ 50) where
             (omega arith)
             (omega arith)
             (item-same
-            (get_or-set_same x.items d _ _ (omega (arith, room))
+            (item-with x d _ room h
             ∙ ap (λ (f : ℕ). record { nullable = false; first = f; last = f }) (e ∙ ap (λ (k : ℕ). 2 ^ k) s))
             (item-leaf t m))
             (rows-leaf t m (set p.follow (m + 1) 0) (set p.sets (m + 1) t)
@@ -121,10 +148,10 @@ module _ {x : Stack} {p : Places} (room : length x.items ≡ 50) where
         go an_empty on =
             let n = empty-leaves in
             above {d' = d + 1 - 0} {m' = m + 0} {r = empty}
-            (agree (record { items = λ k y. kept x.items d k _ _ y; rows = λ q y. refl; sets = λ q y. refl }) on)
+            (agree (record { items = λ k y. item-kept x d _ k y; rows = λ q y. refl; sets = λ q y. refl }) on)
             (omega arith)
             (omega arith)
-            (item-same (get_or-set_same x.items d _ _ (omega (arith, room))) (item-empty m))
+            (item-same (item-with x d _ room h) (item-empty m))
             (rows_empty m p.follow p.sets)
 
 -- Star, join and either -------------------------------------------------------------------------------------------------
@@ -149,13 +176,13 @@ linked-kept {a} {b} {i} {f} {F} {F'} k is q h few =
     ∙ ap (λ (y : Bool). bit_or (get_or F q 0) (cond y f 0)) (is.last_is q ∙ behind-low b (λ i. last a i) q h)
     ∙ or_zero_r (get_or F q 0)
 
-module _ {x : Stack} {p : Places} {F' : List ℕ} {d m : ℕ} (room : length x.items ≡ 50) (h : d ≤ 50) where
+module _ {x : Stack} {p : Places} {F' : List ℕ} {d m : ℕ} (room : Roomy x) (h : d ≤ 50) where
   pub star-top : Linked (item_at x (d - 1)).last (item_at x (d - 1)).first p.follow F' → m < 64
-      → Turned Star x p (with_item x (d - 1) (record (item_at x (d - 1)) { nullable = true })) (record p { follow = F' }) d m
+      → Turned Star x p (with_null x (d - 1)) (record p { follow = F' }) d m
   star-top k few = record { turned = λ rs rs' h t. go h t }
     where
       go : {rs rs' : List Condition} → Makes Star rs rs' → Stacked x p d m rs
-          → Stacked (with_item x (d - 1) (record (item_at x (d - 1)) { nullable = true })) (record p { follow = F' }) (d + 1 - 1) (m + 0) rs'
+          → Stacked (with_null x (d - 1)) (record p { follow = F' }) (d + 1 - 1) (m + 0) rs'
       go (a_star {a = a}) t =
           let o = top t in
           let n = star-leaves a in
@@ -164,14 +191,14 @@ module _ {x : Stack} {p : Places} {F' : List ℕ} {d m : ℕ} (room : length x.i
           above {d' = d + 1 - 1} {m' = m + 0} {r = star a}
           (agree
           (record {
-            items = λ i z. kept x.items (d - 1) i _ _ z;
+            items = λ i z. null-kept x (d - 1) i z;
             rows = λ i z. linked-kept k o.item i z (omega arith);
             sets = λ i z. refl;
           })
           o.rest)
           (omega arith)
           (omega arith)
-          (item-same (get_or-set_same x.items (d - 1) _ _ (omega arith)) (item-star a o.below o.item))
+          (item-same (null-with x (d - 1) room (omega arith)) (item-star a o.below o.item))
           (rows-star a o.below o.item o.rows k (omega arith))
 
   -- the two topmost items, that of c on that of a, and the item that is written where a's stood
@@ -184,10 +211,10 @@ module _ {x : Stack} {p : Places} {F' : List ℕ} {d m : ℕ} (room : length x.i
       let y = o.count in
       let z = q.count in
       above {d' = d + 1 - 2} {m' = m + 0} {r = r}
-      (agree (record { items = λ k l. kept x.items (d - 1 - 1) k _ _ l; rows = same; sets = λ k l. refl }) q.rest)
+      (agree (record { items = λ k l. item-kept x (d - 1 - 1) i k l; rows = same; sets = λ k l. refl }) q.rest)
       (omega arith)
       (omega arith)
-      (item-same (get_or-set_same x.items (d - 1 - 1) _ _ (omega arith)) is)
+      (item-same (item-with x (d - 1 - 1) i room (omega arith)) is)
       w
 
 -- the second of two items, behind the leaves of the first
@@ -209,13 +236,13 @@ joined a c = record {
 abbrev pub united : Item → Item → Item
 united a c = record { nullable = a.nullable || c.nullable; first = bit_or a.first c.first; last = bit_or a.last c.last }
 
-module _ {x : Stack} {p : Places} {d m : ℕ} {i : Item} (room : length x.items ≡ 50) (h : d ≤ 50) where
+module _ {x : Stack} {p : Places} {d m : ℕ} {n : Bool} {f l : ℕ} (room : Roomy x) (h : d ≤ 50) where
   pub join-top : {F' : List ℕ} → Linked (item_at x (d - 1 - 1)).last (item_at x (d - 1)).first p.follow F'
-      → i ≡ joined (item_at x (d - 1 - 1)) (item_at x (d - 1)) → m < 64 → Turned Join x p (with_item x (d - 1 - 1) i) (record p { follow = F' }) d m
+      → item_of n f l ≡ joined (item_at x (d - 1 - 1)) (item_at x (d - 1)) → m < 64 → Turned Join x p (with_item x (d - 1 - 1) (item_of n f l)) (record p { follow = F' }) d m
   join-top {F'} k e few = record { turned = λ rs rs' h t. go h t }
     where
       go : {rs rs' : List Condition} → Makes Join rs rs' → Stacked x p d m rs
-          → Stacked (with_item x (d - 1 - 1) i) (record p { follow = F' }) (d + 1 - 2) (m + 0) rs'
+          → Stacked (with_item x (d - 1 - 1) (item_of n f l)) (record p { follow = F' }) (d + 1 - 2) (m + 0) rs'
       go (a_join {a = a} {b = c}) t =
           let o = top t in
           let q = top o.rest in
@@ -225,10 +252,10 @@ module _ {x : Stack} {p : Places} {d m : ℕ} {i : Item} (room : length x.items 
           (rows_join a c q.below q.rows (second-rows o q) q.item (second-item o q) k (omega arith))
           (λ i l. linked-kept k q.item i l (omega arith))
 
-  pub either-top : i ≡ united (item_at x (d - 1 - 1)) (item_at x (d - 1)) → Turned Either x p (with_item x (d - 1 - 1) i) p d m
+  pub either-top : item_of n f l ≡ united (item_at x (d - 1 - 1)) (item_at x (d - 1)) → Turned Either x p (with_item x (d - 1 - 1) (item_of n f l)) p d m
   either-top e = record { turned = λ rs rs' h t. go h t }
     where
-      go : {rs rs' : List Condition} → Makes Either rs rs' → Stacked x p d m rs → Stacked (with_item x (d - 1 - 1) i) p (d + 1 - 2) (m + 0) rs'
+      go : {rs rs' : List Condition} → Makes Either rs rs' → Stacked x p d m rs → Stacked (with_item x (d - 1 - 1) (item_of n f l)) p (d + 1 - 2) (m + 0) rs'
       go (an_either {a = a} {b = c}) t =
           let o = top t in
           let q = top o.rest in

@@ -1,6 +1,6 @@
 -- The stack on which the places of a condition are found from its postfix form. It has an item for each condition that is not yet part of a
 -- larger one; the leaves of an item stand behind those of the items below it.
-use Rattle.std.specs.Prelude.{◌≡◌, Bool, false, List, [], ◌∷◌, ℕ, suc, ◌+◌, ◌-◌, ◌≤◌, get_or}
+use Rattle.std.specs.Prelude.{◌≡◌, Bool, false, List, [], ◌∷◌, ℕ, suc, ◌+◌, ◌-◌, ◌≤◌, length, get_or}
 use Rattle.bits.specs.Bits.{has}
 use Rattle.condition.specs.Condition.{Condition, leaf, empty, join, either, star}
 use Rattle.condition.specs.Places.{leaves, beside, leaf_set, nullable, first, last, follow}
@@ -28,13 +28,21 @@ pub record RowsAre (r : Condition) (b : ℕ) (F S : List ℕ) : Type 0 where
 
 -- the item of the stack at a place
 abbrev pub item_at : Stack → ℕ → Item
-item_at x i = get_or x.items i (record { nullable = false; first = 0; last = 0 })
+item_at x i = record { nullable = get_or x.nullable i false; first = get_or x.first i 0; last = get_or x.last i 0 }
 
 -- the stack has the items of the conditions rs, the topmost first: d items with m leaves, whose rows are in p
 pub data Stacked (x : Stack) (p : Places) : ℕ → ℕ → List Condition → Type 0 where
   bottom : {d m : ℕ} → d ≡ 0 → m ≡ 0 → Stacked x p d m []
   above : {d m d' m' : ℕ} {r : Condition} {rs : List Condition} → Stacked x p d m rs → d' ≡ suc d → m' ≡ m + leaves r
       → ItemIs r m (item_at x d) → RowsAre r m p.follow p.sets → Stacked x p d' m' (r ∷ rs)
+
+-- A stack has room for 50 items, and places have 64 rows in each table. The types say so of a value at hand, and these of what a call leaves behind a
+-- loan.
+abbrev pub Roomy : Stack → Type 0
+Roomy x = (length x.nullable ≡ 50) × (length x.first ≡ 50) × (length x.last ≡ 50)
+
+abbrev pub Rows : Places → Type 0
+Rows p = (length p.follow ≡ 64) × (length p.sets ≡ 64)
 
 -- what a symbol makes of the items before it, the topmost first
 pub data Makes : Symbol → List Condition → List Condition → Type 0 where

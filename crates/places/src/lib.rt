@@ -2,6 +2,7 @@
 // The places of a condition, or of two joined, as tables: from the postfix records in the sheet's bytes.
 ghost use Rattle.std.specs.Prelude.{◌≤◌};
 ghost use Rattle.condition.specs.Condition.{Condition, join};
+ghost use Rattle.items.specs.Stack.{Roomy, Rows};
 ghost use Rattle.postfix.specs.Parts.{PartIs};
 ghost use Rattle.places.specs.Tables.{Tables, Settled};
 
@@ -17,7 +18,8 @@ pub struct Side {
 
 // Place 0 is folded in: its followers are the first leaves, and it ends a word where the side is nullable.
 fn settle(leaves: usize, item: Item, places: &mut Places) -> Side
-    ensures { Settled leaves item result places.old places.new }
+    ensures settled { Settled leaves item result places.old places.new }
+    ensures rows { Rows places.new }
 {
     places.follow[0] = item.first;
     Side {
@@ -31,9 +33,11 @@ pub fn side_of(s: &[u8], part: Part, stack: &mut Stack, places: &mut Places) -> 
     ensures few { result.leaves ≤ 62 }
     ensures tables { (r : Condition) → PartIs s.now part r →
         Tables r result places.new.follow places.new.sets }
+    ensures room { Roomy stack.new }
+    ensures rows { Rows places.new }
 {
     let leaves = push_part(s, part, 0, 0, stack, places);
-    settle(leaves, stack.items[0], places)
+    settle(leaves, stack.item(0), places)
 }
 
 // The side of two parts, one after the other, found on a stack that is lent.
@@ -41,9 +45,11 @@ pub fn joined_side(s: &[u8], a: Part, b: Part, stack: &mut Stack, places: &mut P
     ensures few { result.leaves ≤ 62 }
     ensures tables { (r t : Condition) → PartIs s.now a r → PartIs s.now b t →
         Tables (join r t) result places.new.follow places.new.sets }
+    ensures room { Roomy stack.new }
+    ensures rows { Rows places.new }
 {
     let m = push_part(s, a, 0, 0, stack, places);
     let n = push_part(s, b, 1, m, stack, places);
     stack.join_top(2, places);
-    settle(n, stack.items[0], places)
+    settle(n, stack.item(0), places)
 }

@@ -1,8 +1,9 @@
 #![tactic(auto)]
 // The places of a condition from its symbols in postfix order, pushed on a stack of items one after the other.
-ghost use Rattle.std.specs.Prelude.{◌≡◌, ◌↔◌, IsTrue, ◌+◌, ◌-◌, ◌<◌, ◌≤◌};
+ghost use Rattle.std.specs.Prelude.{◌≡◌, ◌↔◌, IsTrue, ◌+◌, ◌-◌, ◌<◌, ◌≤◌, None, IfSome};
+ghost use Rattle.std.specs.Option.{ForSome};
 ghost use Rattle.format.specs.Symbols.{items_taken, leaves_in};
-ghost use Rattle.items.specs.Stack.{Turned};
+ghost use Rattle.items.specs.Stack.{Roomy, Rows, Turned};
 ghost use Rattle.postfix.specs.Parts.{StandsAt, PartIs, Pushed};
 
 use bits::bit;
@@ -29,13 +30,27 @@ pub struct Height {
 // A condition has at most so many symbols.
 const SYMBOL_LIMIT: usize = 96;
 
-// A symbol, on a stack of a height. It returns the height then.
-pub fn push_symbol(symbol: Symbol, top: Height, stack: &mut Stack, places: &mut Places) -> Height
-    requires { (items_taken symbol ≤ top.depth) × (top.depth < 50) × (top.leaves + leaves_in symbol ≤ 62) }
-    ensures depth { result.depth ≡ top.depth + 1 - items_taken symbol }
-    ensures leaves { result.leaves ≡ top.leaves + leaves_in symbol }
-    ensures turned { Turned symbol stack.old places.old stack.new places.new top.depth top.leaves }
+// A symbol, on a stack of a height, or none, by which all stays. It returns the height then.
+pub fn push_symbol(
+    symbol: Option<Symbol>,
+    top: Height,
+    stack: &mut Stack,
+    places: &mut Places,
+) -> Height
+    requires { ForSome symbol (λ y. (items_taken y ≤ top.depth) × (top.depth < 50) × (top.leaves + leaves_in y ≤ 62)) }
+    ensures depth { IfSome symbol (λ y. result.depth ≡ top.depth + 1 - items_taken y) }
+    ensures leaves { IfSome symbol (λ y. result.leaves ≡ top.leaves + leaves_in y) }
+    ensures turned { IfSome symbol (λ y. Turned y stack.old places.old stack.new places.new top.depth top.leaves) }
+    ensures none { symbol ≡ None → (result ≡ top) × (stack.new ≡ stack.old) × (places.new ≡ places.old) }
+    ensures room { Roomy stack.new }
+    ensures rows { Rows places.new }
 {
+    // borrows, which cost nothing, tell the proof how many items and rows there are
+    let _item = &stack.nullable[0];
+    let _row = &places.follow[0];
+    let Some(symbol) = symbol else {
+        return top;
+    };
     let depth = top.depth;
     let leaves = top.leaves;
     match symbol {
@@ -102,8 +117,13 @@ pub fn push_condition(
     places: &mut Places,
 ) -> usize
     requires { (floor ≤ 1) × (base ≤ 31) }
-    ensures { Pushed (StandsAt s.now from) stack.old places.old stack.new places.new floor base result }
+    ensures pushed { Pushed (StandsAt s.now from) stack.old places.old stack.new places.new floor base result }
+    ensures room { Roomy stack.new }
+    ensures rows { Rows places.new }
 {
+    // borrows, which cost nothing, tell the proof how many items and rows there are
+    let _item = &stack.nullable[0];
+    let _row = &places.follow[0];
     let mut at = from;
     let mut top = Height {
         depth: floor,
@@ -118,7 +138,7 @@ pub fn push_condition(
             return top.leaves;
         }
         at += symbol_bytes(s, at);
-        top = push_symbol(symbol, top, stack, places);
+        top = push_symbol(Some(symbol), top, stack, places);
     }
     top.leaves
 }
@@ -133,8 +153,13 @@ pub fn push_part(
     places: &mut Places,
 ) -> usize
     requires { (depth ≤ 1) × (leaves ≤ 31) }
-    ensures { Pushed (PartIs s.now part) stack.old places.old stack.new places.new depth leaves result }
+    ensures pushed { Pushed (PartIs s.now part) stack.old places.old stack.new places.new depth leaves result }
+    ensures room { Roomy stack.new }
+    ensures rows { Rows places.new }
 {
+    // borrows, which cost nothing, tell the proof how many items and rows there are
+    let _item = &stack.nullable[0];
+    let _row = &places.follow[0];
     match part {
         Part::Condition(at) => push_condition(s, at, depth, leaves, stack, places),
         Part::Event(e) => {

@@ -1,6 +1,7 @@
 #![tactic(auto)]
 // The sides of a claim: the places of its conditions, in tables.
 ghost use Rattle.condition.specs.Condition.{Condition};
+ghost use Rattle.items.specs.Stack.{Roomy, Rows};
 ghost use Rattle.places.specs.Tables.{Tables};
 ghost use Rattle.runs.specs.Rules as runs;
 ghost use Rattle.claims.specs.Claims.{LeftIs, Says};
@@ -20,7 +21,9 @@ pub enum Question {
 
 // The side of a claim's left, found on a stack that is lent.
 fn left_side(s: &[u8], left: Left, stack: &mut Stack, places: &mut Places) -> Side
-    ensures { (r : Condition) → LeftIs s.now left r → Tables r result places.new.follow places.new.sets }
+    ensures tables { (r : Condition) → LeftIs s.now left r → Tables r result places.new.follow places.new.sets }
+    ensures room { Roomy stack.new }
+    ensures rows { Rows places.new }
 {
     match left {
         Left::One(part) => side_of(s, part, stack, places),
@@ -36,8 +39,12 @@ pub fn sides_of(
     left: &mut Places,
     right: &mut Places,
 ) -> Question
-    ensures { (x : runs.Rule) → Says s.now claim x → QuestionIs left.new right.new result x }
+    ensures asks { (x : runs.Rule) → Says s.now claim x → QuestionIs left.new right.new result x }
+    ensures room { Roomy stack.new }
+    ensures rows { Rows left.new × Rows right.new }
 {
+    // a borrow, which costs nothing, tells the proof how many rows there are
+    let _row = &right.follow[0];
     match claim {
         Claim::Inclusion {
             rule,

@@ -1,7 +1,8 @@
 #![tactic(auto)]
 // A question about a rule, put to its certificate.
-ghost use Rattle.std.specs.Prelude.{List, [], ◌∷◌, ℕ, ◌≤◌};
+ghost use Rattle.std.specs.Prelude.{◌≡◌, List, [], ◌∷◌, ℕ, ◌≤◌, length};
 ghost use Rattle.condition.specs.Condition.{Condition};
+ghost use Rattle.meets.specs.Meets.{table_rows};
 ghost use Rattle.places.specs.Tables.{Tables};
 ghost use Rattle.runs.specs.Rules as runs;
 ghost use Rattle.runs.specs.Rules.{holds_empty};
@@ -58,9 +59,12 @@ pub fn test(
     room: &mut Room,
 ) -> Result<usize, Failure>
     requires { trial.events ≤ 64 }
-    ensures { (x : runs.Rule) → QuestionIs left.now right.now trial.question x →
+    ensures tried { (x : runs.Rule) → QuestionIs left.now right.now trial.question x →
         Tries trial.events s.now (x ∷ []) trial.at result }
+    ensures room { (length room.new.missing ≡ 64) × (length room.new.rows ≡ table_rows) }
 {
+    // a borrow, which costs nothing, tells the proof how much room there is
+    let _row = &room.rows[0];
     let at = trial.at;
     let events = trial.events;
     match trial.question {

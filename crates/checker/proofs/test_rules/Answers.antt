@@ -22,14 +22,14 @@ returns-in_err-at c =
     let h = c.loop-claim.invariant S x in
     let g = next-claim _ S _ _ c.in-Some.is (c.next_claim.ensures.next S h.left x h.left_at) in
     subst (Tries c.args.events c.args.x.sheet.now (rules_of S) c.args.from) (c.in_err-at.was ∙ sym e)
-    (walk-stops h g (λ y says. c.test.ensures y (c.sides_of-question.ensures y says)) c.in_err-at.was)
+    (walk-stops h g (λ y says. c.test.ensures.tried y (c.sides_of-question.ensures.asks y says)) c.in_err-at.was)
 
 pub loop-claim-preserved : goal.loop-claim-preserved
 loop-claim-preserved c =
     λ S x.
     let h = c.loop-claim.invariant S x in
     let g = next-claim _ S _ _ c.in-Some.is (c.next_claim.ensures.next S h.left x h.left_at) in
-    walk-on h g (λ y says. c.test.ensures y (c.sides_of-question.ensures y says)) c.in_ok-at.was
+    walk-on h g (λ y says. c.test.ensures.tried y (c.sides_of-question.ensures.asks y says)) c.in_ok-at.was
 
 pub returns : goal.returns
 returns c =

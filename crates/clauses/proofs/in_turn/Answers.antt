@@ -18,7 +18,7 @@ pub loop-i-init : goal.loop-i-init
 unfolding in_order
 loop-i-init c =
     let a = c.args in
-    (λ l g sides. refl, record { bound = omega arith; served = none-served a.task.now.search a.task.now.left.now.sets 0 })
+    (λ l g sides. refl, record { bound = omega arith; served = none-served a.task.now.search a.task.now.left.now.sets 0 }, omega arith)
 
 -- what is found of pair i
 found_here : (c : After-pair_fault)
@@ -45,6 +45,7 @@ loop-i-preserved c =
           fine_more w.i (each_pair x.search.scope.events l g (certificate_of x.search)) (w.invariant.0 l g sides)
           (sym (found_here (goal.at.loop-i-preserved c).After-pair_fault l g sides) ∙ ap finding_of c.in_ok-begin.was),
       c.in_ok-begin.ensures.next,
+      c.pair_fault.ensures.rows,
     )
 
 pub bytes_of-requires : goal.bytes_of-requires

@@ -7,9 +7,9 @@ use Rattle.places.proofs.joined_side.Goals as goal
 
 pub returns-clause-tables : goal.returns-clause-tables
 returns-clause-tables c =
-    let p = c.push_part-m.ensures in
-    let q = c.push_part-n.ensures in
+    let p = c.push_part-m.ensures.pushed in
+    let q = c.push_part-n.ensures.pushed in
     let few : c.push_part-n.result < 64 = search rules in
     λ r t h k.
-    tables c.settle.ensures (search rules)
+    tables (rw c.item.ensures at c.settle.ensures.settled) (search rules)
     (joined ((c.join_top.ensures.turned _ few).turned (t ∷ r ∷ []) (join r t ∷ []) a_join (q.pushed t k (r ∷ []) (p.pushed r h [] (bottom refl refl)))))

@@ -6,5 +6,5 @@ use Rattle.places.proofs.side_of.Goals as goal
 
 pub returns-clause-tables : goal.returns-clause-tables
 returns-clause-tables c =
-    let p = c.push_part-leaves.ensures in
-    λ r h. tables c.settle.ensures (search rules) (p.pushed r h [] (bottom refl refl))
+    let p = c.push_part-leaves.ensures.pushed in
+    λ r h. tables (rw c.item.ensures at c.settle.ensures.settled) (search rules) (p.pushed r h [] (bottom refl refl))

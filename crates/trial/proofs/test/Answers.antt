@@ -15,34 +15,34 @@ use Rattle.trial.proofs.test.Goals.{After-first_fault}
 part_is : (c : After-first_fault) → certificate_at c.part_from.result.now 0 ≡ certificate_at c.args.s.now c.args.trial.at
 part_is c = let a = c.args in ap (λ (x : List ℕ). certificate_at x 0) c.part_from.ensures ∙ certificate-part a.s.now a.trial.at
 
-pub returns-in-Ok : goal.returns-in-Ok
-returns-in-Ok c =
+pub returns-in-Ok-clause-tried : goal.returns-in-Ok-clause-tried
+returns-in-Ok-clause-tried c =
     λ x q.
     let a = c.args in
     let h = asks-inclusion _ _ x c.in-Inclusion.is q in
     let next : a.trial.at + c.in-Ok.bytes ≡ suc (a.trial.at + 6 * length (certificate_at a.s.now a.trial.at)) =
-    omega (arith, c.in-Ok.ensures.bytes.bytes_are, ap length (part_is (goal.at.returns-in-Ok c).After-first_fault)) in
+    omega (arith, c.in-Ok.ensures.bytes.bytes_are, ap length (part_is (goal.at.returns-in-Ok-clause-tried c).After-first_fault)) in
     tries-as h.rule_is
     (record {
       comes_to =
           ap passed next
           ∙ trial-finds _ _ _ _ fine
-          (c.in-Ok.ensures.finding _ _ h.left_is h.right_is ∙ ap (check _ _ _) (part_is (goal.at.returns-in-Ok c).After-first_fault));
+          (c.in-Ok.ensures.finding _ _ h.left_is h.right_is ∙ ap (check _ _ _) (part_is (goal.at.returns-in-Ok-clause-tried c).After-first_fault));
     })
 
-pub returns-in-Err : goal.returns-in-Err
-returns-in-Err c =
+pub returns-in-Err-clause-tried : goal.returns-in-Err-clause-tried
+returns-in-Err-clause-tried c =
     λ x q.
     let h = asks-inclusion _ _ x c.in-Inclusion.is q in
     tries-as h.rule_is
     (record {
       comes_to =
           trial-finds _ _ _ _ _
-          (c.in-Err.ensures.finding _ _ h.left_is h.right_is ∙ ap (check _ _ _) (part_is (goal.at.returns-in-Err c).After-first_fault));
+          (c.in-Err.ensures.finding _ _ h.left_is h.right_is ∙ ap (check _ _ _) (part_is (goal.at.returns-in-Err-clause-tried c).After-first_fault));
     })
 
-pub returns-in-HoldsEmpty : goal.returns-in-HoldsEmpty
-returns-in-HoldsEmpty c =
+pub returns-in-HoldsEmpty-clause-tried : goal.returns-in-HoldsEmpty-clause-tried
+returns-in-HoldsEmpty-clause-tried c =
     λ x q.
     let h = asks-empty _ _ x c.in-HoldsEmpty.is q in
     tries-as h.rule_is (c.empty_word.ensures _ _ _ _ _ h.part_is)

@@ -8,5 +8,5 @@ pub returns-clause-turned : goal.returns-clause-turned
 returns-clause-turned c =
     let x = c.args.self.now in
     let d = c.args.depth in
-    let e : c.if-a.a ≡ ((item_at x (d - 1 - 1)).nullable && (item_at x (d - 1)).nullable) = search rules in
+    let e : c.if-a.self ≡ ((item_at x (d - 1 - 1)).nullable && (item_at x (d - 1)).nullable) = search rules in
     λ m few. join-top (search rules) c.requires.1 c.link.ensures (rw (e, c.chosen.ensures, c.chosen-2.ensures) refl) few

@@ -3,5 +3,5 @@ use Rattle.std.proofs.Common.{rules}
 use Rattle.items.proofs.Turns.{push-empty}
 use Rattle.items.proofs.Stack.push_empty.Goals as goal
 
-pub returns : goal.returns
-returns c = λ p m. push-empty (search rules) c.requires m
+pub returns-clause-turned : goal.returns-clause-turned
+returns-clause-turned c = λ p m. push-empty (search rules) c.requires m
