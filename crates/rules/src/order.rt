@@ -82,7 +82,9 @@ fn entered_by(x: Index, m: usize) -> Option<u32>
     Some(entry.due)
 }
 
-// The call step i with its channel, 0 where it names none (`on_channel` says why 0 serves), and its failed way.
+// The call step i with its channel, 0 where it names none (`on_channel` says why 0 serves), and its failed way. Inlined, since a call of its own would take
+// 300 bytes of stack more at the depth where a load takes most.
+#[inline(always)]
 fn call_subject(x: Index, i: usize, call: CallStep, channel: u32, failed: Option<Way>) -> Subject
     requires { (S : Sheet) × IndexesAll S x × (call.method < length S.methods) × (call.from < length S.points) × (call.to < length S.points) }
     ensures { (S : Sheet) (f c : Option ℕ) → IndexesAll S x.entry →
@@ -104,36 +106,39 @@ fn call_subject(x: Index, i: usize, call: CallStep, channel: u32, failed: Option
     })
 }
 
-// The step i, by its kind. What a call asks and promises is what its method declares.
-fn step_subject(x: Index, i: usize) -> Subject
+// The step i, by its kind. What a call asks and promises is what its method declares. A step has a subject always; an option is what the caller answers, and
+// is made in place.
+fn step_subject(x: Index, i: usize) -> Option<Subject>
     requires { (S : Sheet) × IndexesAll S x × (i < length S.steps) }
     ensures { (S : Sheet) → IndexesAll S x.entry → i < length S.steps →
-        SubjectIs x.entry.sheet.now S result (step_rules S i (step_at x.entry.sheet.now (get_or x.entry.offsets.now.steps i 0))) }
+        ListedIs x.entry.sheet.now S result (step_rules S i (step_at x.entry.sheet.now (get_or x.entry.offsets.now.steps i 0))) }
 {
     match step_at(x.sheet, x.offsets.steps[i] as usize) {
-        Step::Event { from, to, event } => Subject::Event {
+        Step::Event { from, to, event } => Some(Subject::Event {
             step: i,
             from: x.point(from),
             to: x.point(to),
             event,
-        },
-        Step::Call(call) => call_subject(x, i, call, 0, None),
+        }),
+        Step::Call(call) => Some(call_subject(x, i, call, 0, None)),
         Step::TwoOutcomeCall(call, to) => {
             let way = failed_way(x, call.method, to);
-            call_subject(x, i, call, 0, Some(way))
+            Some(call_subject(x, i, call, 0, Some(way)))
         }
-        Step::ChannelCall(call, channel) => call_subject(x, i, call, u32::from(channel), None),
-        Step::Pass { from, to } => Subject::Pass {
+        Step::ChannelCall(call, channel) => {
+            Some(call_subject(x, i, call, u32::from(channel), None))
+        }
+        Step::Pass { from, to } => Some(Subject::Pass {
             step: i,
             from: x.point(from),
             to: x.point(to),
-        },
+        }),
         Step::Stop(from) => {
             let point = x.point(from);
-            Subject::Stop {
+            Some(Subject::Stop {
                 step: i,
                 due: point.due,
-            }
+            })
         }
     }
 }
@@ -155,5 +160,5 @@ pub fn subject_at(x: Index, number: usize) -> Option<Subject>
     if k < listed {
         return method_subject(x, k, k == 0);
     }
-    Some(step_subject(x, k - listed))
+    step_subject(x, k - listed)
 }

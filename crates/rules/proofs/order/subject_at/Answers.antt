@@ -4,7 +4,7 @@ use lib.ListN.{length}
 use native.Mathlib.Omega.{arith}
 use Rattle.index.proofs.Indexed.{method-in, method-is, step_is}
 use Rattle.rules.proofs.Groups.{starts_first, first_group, method-group, step-group}
-use Rattle.rules.proofs.Told.{told-rules, listed-rules}
+use Rattle.rules.proofs.Told.{listed-rules}
 use Rattle.rules.proofs.order.subject_at.Goals as goal
 
 pub method-requires : goal.method-requires
@@ -40,6 +40,6 @@ returns c =
     λ S xs x is.
     let a = c.args in
     let l : a.number - 1 - a.x.counts.methods < length S.steps = omega (arith, x.methods_are, x.steps_are, c.requires.number_bound) in
-    told-rules a.x.sheet.now S c.step_subject.result
+    listed-rules a.x.sheet.now S c.step_subject.result
     (step-group S a.number is (a.number - 1 - a.x.counts.methods) (omega (arith, x.methods_are)) _ (step_is x.indexes _ l))
     (c.step_subject.ensures S x.indexes l)
