@@ -14,12 +14,13 @@ use std::{fs, io};
 use tally::Tally;
 use words::word_test_on;
 
+// Piece by piece: where one cannot be written, the next is tried.
 fn print_tally<W: Write>(out: &mut W, t: Tally) {
-    let _ = writeln!(
-        out,
-        "read {} {} {} {} {}",
-        t.conditions, t.points, t.methods, t.steps, t.certificates
-    );
+    let _ = out.write_all(b"read");
+    for n in [t.conditions, t.points, t.methods, t.steps, t.certificates] {
+        let _ = write!(out, " {n}");
+    }
+    let _ = out.write_all(b"\n");
 }
 
 // The refusal, or the five counts of a sheet that is read whole.
