@@ -29,7 +29,9 @@ fn way_of(x: Index, p: usize, declared: OutcomeConditions) -> Way
     Way { point, declared }
 }
 
-// The failed way of the method m, which has two outcomes, at or to the point p.
+// The failed way of the method m, which has two outcomes, at or to the point p. Inlined, as the subjects of a body and of a call are below: each call would put
+// a copy of the index on the stack at the depth where a load takes most.
+#[inline(always)]
 fn failed_way(x: Index, m: usize, p: usize) -> Way
     requires { (S : Sheet) × HasPoint S x p × HasFailed S x m }
     ensures { (S : Sheet) → HasPoint S x.entry p → HasFailed S x.entry m → WayIs x.entry.sheet.now S m failed p result }
@@ -38,6 +40,7 @@ fn failed_way(x: Index, m: usize, p: usize) -> Way
 }
 
 // The method m with its body and its failed way; whether runs start at it.
+#[inline(always)]
 fn body_subject(x: Index, m: usize, inner: Body, failed: Option<Way>, first: bool) -> Subject
     requires { (S : Sheet) × IndexesAll S x × (m < length S.methods) × (inner.entry < length S.points) × (inner.exit < length S.points) }
     ensures { (S : Sheet) (starts : List ℕ) (e : Option ℕ) → first ≡ is_among starts m → IndexesAll S x.entry → m < length S.methods →
@@ -83,7 +86,7 @@ fn entered_by(x: Index, m: usize) -> Option<u32>
 }
 
 // The call step i with its channel, 0 where it names none (`on_channel` says why 0 serves), and its failed way. Inlined, since a call of its own would take
-// 300 bytes of stack more at the depth where a load takes most.
+// 350 bytes of stack more at the depth where a load takes most.
 #[inline(always)]
 fn call_subject(x: Index, i: usize, call: CallStep, channel: u32, failed: Option<Way>) -> Subject
     requires { (S : Sheet) × IndexesAll S x × (call.method < length S.methods) × (call.from < length S.points) × (call.to < length S.points) }
