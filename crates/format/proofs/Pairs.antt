@@ -6,7 +6,8 @@ use Prim.Native.Nat.{ℕ, ◌+◌, ◌≤◌, ◌<◌}
 use lib.Dec.{eqb, ltb}
 use lib.ListN.{length}
 use borrow.Author.Tests.{lt-ltb, le-ltb, eq-eqb, ne_eqb}
-use Rattle.std.specs.Prelude.{Result, Ok, Err}
+use Rattle.std.specs.Prelude.{Option, None, Result, Ok, Err}
+use Rattle.std.specs.Result.{result_ok}
 use Rattle.certificate.specs.Certificate as certificate
 use Rattle.certificate.specs.Certificate.{pair}
 use Rattle.sheet.specs.Record.{byte_at}
@@ -30,9 +31,9 @@ module _ (s : List ℕ) (at : ℕ) where
       ap (λ (q : Pair). Ok q) (fields-of e)
       ∙ sym (simp (lt-ltb (at + 5) (length s) h, eq-eqb (byte_at s at) 13 k))
 
-  pub listed-other : {p : Pair} → at + 5 < length s → (byte_at s at ≡ 13 → ⊥) → pair_is p ≡ pair_at s at → Err p ≡ listed_at s at
+  pub listed-fields : {p : Pair} → at + 5 < length s → (byte_at s at ≡ 13 → ⊥) → pair_is p ≡ pair_at s at → Err p ≡ listed_at s at
   unfolding listed_at
-  listed-other {p} h k e =
+  listed-fields {p} h k e =
       ap (λ (q : Pair). Err q) (fields-of e)
       ∙ sym (simp (lt-ltb (at + 5) (length s) h, ne_eqb (byte_at s at) 13 k))
 
@@ -40,6 +41,16 @@ module _ (s : List ℕ) (at : ℕ) where
   pub listed-past : length s ≤ at + 5 → Err (record { place = 0; set = 0 }) ≡ listed_at s at
   unfolding listed_at
   listed-past h = sym (simp (le-ltb (at + 5) (length s) h))
+
+  -- where the first byte is no pair's none stands, whether six bytes are there or fewer
+  pub listed-other : (byte_at s at ≡ 13 → ⊥) → None ≡ result_ok (listed_at s at)
+  unfolding listed_at
+  listed-other k = go (ltb (at + 5) (length s))
+    where
+      go : (b : Bool) → ◌≡◌ {A = Option Pair} None
+          (result_ok (cond b (cond (eqb (byte_at s at) 13) (Ok (fields_at s at)) (Err (fields_at s at))) (Err (record { place = 0; set = 0 }))))
+      go true = simp (ne_eqb (byte_at s at) 13 k)
+      go false = refl
 
   -- what is found is a pair where one stands, and then it is that one
   pub listed-there : {p : Pair} → Ok p ≡ listed_at s at → (has_pair s at ≡ true) × (pair_is p ≡ pair_at s at)
